@@ -1,0 +1,70 @@
+-- What can be told, and looking through the numbers below n, from the last down: one that has what is sought, and the largest value.
+use Prim.Native.Nat.{ℕ, zero, suc, _≤_, _<_, max}
+use native.Mathlib.Omega.{arith}
+use native.Mathlib.Decide.{ℕ-discrete, decLe}
+use mathlib.Core.Path.{_≡_, ap, subst}
+use mathlib.Core.Bool.{Bool, true, Bool-discrete}
+use mathlib.Core.Logic.{_⊎_, inl, inr, ⊎-elim}
+
+-- Both can be told where each can.
+pub both? : {A B : Type 0} → Dec A → Dec B → Dec (A × B)
+both? (yes a) (yes b) = yes (a, b)
+both? (yes a) (no not-b) = no (λ h. not-b (h .1))
+both? (no not-a) b = no (λ h. not-a (h .0))
+
+-- Whether one of them holds can be told where each can.
+pub either? : {A B : Type 0} → Dec A → Dec B → Dec (A ⊎ B)
+either? (yes a) b = yes (inl a)
+either? (no not-a) (yes b) = yes (inr b)
+either? (no not-a) (no not-b) = no (⊎-elim not-a not-b)
+
+-- That it does not hold can be told where it can.
+pub not? : {A : Type 0} → Dec A → Dec (A → ⊥)
+not? (yes a) = no (λ not-a. not-a a)
+not? (no not-a) = yes not-a
+
+-- Whether some number below n has what can be told of each number.
+pub some-below? : (P : ℕ → Type 0) → ((v : ℕ) → Dec (P v)) → (n : ℕ) → Dec ((v : ℕ) × (v < n) × P v)
+some-below? P tell zero = no (λ found. absurd (omega (arith, found .1)))
+some-below? P tell (suc n) = here (tell n) (some-below? P tell n)
+  where
+    here : Dec (P n) → Dec ((v : ℕ) × (v < n) × P v) → Dec ((v : ℕ) × (v < suc n) × P v)
+    here (yes h) lower = yes (n, omega arith, h)
+    here (no not-here) (yes (v, below, h)) = yes (v, omega arith, h)
+    here (no not-here) (no none) = no (λ found. other found (ℕ-discrete (found .0) n))
+      where
+        other : (found : (v : ℕ) × (v < suc n) × P v) → Dec (found .0 ≡ n) → ⊥
+        other found (yes e) = not-here (subst P e (found .2))
+        other found (no e) = none (found .0, omega (arith, found .1), found .2)
+
+-- Whether some number below n passes the test.
+pub passes-below? : (f : ℕ → Bool) (n : ℕ) → Dec ((v : ℕ) × (v < n) × (f v ≡ true))
+passes-below? f n = some-below? (λ v. f v ≡ true) (λ v. Bool-discrete (f v) true) n
+
+-- The largest value below n, and 0 where there is none.
+unfoldable pub largest : (ℕ → ℕ) → ℕ → ℕ
+largest f zero = 0
+largest f (suc n) = max (largest f n) (f n)
+
+-- No value below n is larger.
+pub largest-over : (f : ℕ → ℕ) (n v : ℕ) → v < n → f v ≤ largest f n
+unfolding largest
+largest-over f zero v below = absurd (omega arith)
+largest-over f (suc n) v below = place (ℕ-discrete v n) (largest-over f n v)
+  where
+    place : Dec (v ≡ n) → (v < n → f v ≤ largest f n) → f v ≤ max (largest f n) (f n)
+    place (yes e) before = omega (arith, ap f e)
+    place (no other) before = omega (arith, before (omega arith))
+
+-- Some value below n reaches it, where there is one.
+pub largest-reached : (f : ℕ → ℕ) (n : ℕ) → 1 ≤ n → (v : ℕ) × (v < n) × (f v ≡ largest f n)
+unfolding largest
+largest-reached f zero some = absurd (omega arith)
+largest-reached f (suc zero) some = (0, omega arith, omega arith)
+largest-reached f (suc (suc n)) some = which (largest-reached f (suc n) (omega arith)) (decLe (largest f (suc n)) (f (suc n)))
+  where
+    which :
+        (v : ℕ) × (v < suc n) × (f v ≡ largest f (suc n)) → Dec (largest f (suc n) ≤ f (suc n)) →
+        (v : ℕ) × (v < suc (suc n)) × (f v ≡ max (largest f (suc n)) (f (suc n)))
+    which (v, below, e) (yes last) = (suc n, omega arith, omega arith)
+    which (v, below, e) (no last) = (v, omega arith, omega arith)

@@ -1,0 +1,224 @@
+-- Any two outcomes that a promise allows on the same input are equal, the choice among several rings excepted.
+use Prim.Native.Nat.{ℕ, _≤_, _<_}
+use native.Mathlib.Omega.{arith}
+use native.Mathlib.Decide.{ℕ-discrete}
+use mathlib.Core.Path.{_≡_, refl, sym, _∙_, ap, subst}
+use mathlib.Core.List.{List}
+use mathlib.Core.Logic.{_⊎_, inl, inr}
+use lib.ListN.{length}
+use Rattle.meaning.specs.Bounds.{DONE, CONFLICT, STEPS}
+use Rattle.meaning.specs.Rules.{Rule, Always, Never}
+use Rattle.meaning.specs.Tables.{Tables, rule-at, at, opened, with-rule, without-mark, with-days}
+use Rattle.meaning.specs.Promise.{Given, bare, Meaning, Obeys, Past, Filled, Planned, moved}
+use Rattle.meaning.specs.Calls.{WithList, WithLists, rules-of, held-in, Opened, Watched, Added, AddConflict, Marked, WentBack, Tried, TrialConflict, Split, RingChecked, open-meaning, watch-meaning, add-meaning, mark-meaning, back-meaning, trial-meaning, consequences-meaning, ring-check-meaning}
+use Rattle.meaning.proofs.Theory.{earliest-unique}
+use Rattle.meaning.proofs.Needs.{first-same}
+use Rattle.meaning.proofs.Lists.{past-same, filled-same, exactly-same}
+
+-- Two outcomes of a call are the same.
+pub record Same {S : Type 0} (g h : Given) (a b : S) : Type 0 where
+  pub answers : g ≡ h
+  pub left : a ≡ b
+
+-- What a call leaves when it is carried out is fixed.
+abbrev pub Fixed : {S : Type 0} → Meaning S → Type 0
+Fixed {S} m = (a b c d : ℕ) (after other : S) → m .done a b after → m .done c d other → (a ≡ c) × (b ≡ d) × (after ≡ other)
+
+-- Number and values make what is given.
+pub given-eq : (g h : Given) → g .number ≡ h .number → g .one ≡ h .one → g .two ≡ h .two → g ≡ h
+given-eq g h p q r i = record { number = p i; one = q i; two = r i }
+
+module _ {S : Type 0} (m : Meaning S) (before : S) (g h : Given) (after other : S) (x : Obeys m before g after) (y : Obeys m before h other) where
+  -- The numbers are equal.
+  pub numbers-same : g .number ≡ h .number
+  numbers-same = first-same (m .asks) (g .number) (h .number) (x .first-unmet) (y .first-unmet)
+
+  -- Except on conflict all is equal.
+  pub same-unless-conflict : Fixed m → (g .number ≡ CONFLICT → ⊥) → Same g h after other
+  same-unless-conflict fixed nc = tell (ℕ-discrete (g .number) DONE)
+    where
+      tell : Dec (g .number ≡ DONE) → Same g h after other
+      tell (yes e) = record { answers = given-eq g h numbers-same (both .0) (both .1); left = both .2 }
+        where
+          both : (g .one ≡ h .one) × (g .two ≡ h .two) × (after ≡ other)
+          both = fixed (g .one) (g .two) (h .one) (h .two) after other (x .when-done e) (y .when-done (sym numbers-same ∙ e))
+      tell (no e) = record { answers = rx .0 ∙ ap bare numbers-same ∙ sym (ry .0); left = rx .1 ∙ sym (ry .1) }
+        where
+          rx : (g ≡ bare (g .number)) × (after ≡ before)
+          rx = x .when-refused e nc
+
+          ry : (h ≡ bare (h .number)) × (other ≡ before)
+          ry = y .when-refused (λ z. e (numbers-same ∙ z)) (λ z. nc (numbers-same ∙ z))
+
+  -- A call that knows no conflict is determined whole.
+  pub determined : Fixed m → ((a : ℕ) (s : S) → m .conflict a s → ⊥) → Same g h after other
+  determined fixed none = same-unless-conflict fixed (λ e. none (g .one) after (x .on-conflict e .0))
+
+-- ---- each call
+
+open-fixed : (n : ℕ) (t : Tables) → Fixed (open-meaning n t)
+open-fixed n t a b c d u w x y = (
+  x .no-values .0 ∙ sym (y .no-values .0),
+  x .no-values .1 ∙ sym (y .no-values .1),
+  x .emptied ∙ ap (λ l. with-days l (opened n t)) days ∙ sym (y .emptied),
+)
+  where
+    days : u .days ≡ w .days
+    days = past-same n (t .days) (u .days) (w .days) (x .past) (y .past) (λ v h. x .day-0 v h ∙ sym (y .day-0 v h))
+
+watch-fixed : (r : Rule) (t : Tables) → Fixed (watch-meaning r t)
+watch-fixed r t a b c d u w x y = (x .no-values .0 ∙ sym (y .no-values .0), x .no-values .1 ∙ sym (y .no-values .1), x .watched ∙ sym (y .watched))
+
+-- Two lists that hold the earliest plan in their first n places, written from the same list, are equal.
+planned-same : {n : ℕ} {R : ℕ → Rule} {H : ℕ → Type 0} {before a b : List ℕ} → Planned n R H before a → Planned n R H before b → a ≡ b
+planned-same {n} {R} {H} {before} {a} {b} x y = past-same n before a b (x .past) (y .past) (earliest-unique (x .earliest) (y .earliest))
+
+add-fixed : (r : Rule) (s : WithList) → Fixed (add-meaning r s)
+add-fixed r s a b c d u w x y = (
+  x .count-moved ∙ ap (moved (s .tables .counts .steps) (s .tables .days)) days ∙ sym (y .count-moved),
+  x .no-second ∙ sym (y .no-second),
+  λ i. record { tables = tables i; list = (x .list-stays ∙ sym (y .list-stays)) i },
+)
+  where
+    days : u .tables .days ≡ w .tables .days
+    days = planned-same (x .planned) (y .planned)
+
+    tables : u .tables ≡ w .tables
+    tables = x .rule-held ∙ ap (λ l. with-days l (with-rule r (s .tables))) days ∙ sym (y .rule-held)
+
+mark-fixed : (t : Tables) → Fixed (mark-meaning t)
+mark-fixed t a b c d u w x y = (x .no-values .0 ∙ sym (y .no-values .0), x .no-values .1 ∙ sym (y .no-values .1), x .marked ∙ sym (y .marked))
+
+back-fixed : (t : Tables) → Fixed (back-meaning t)
+back-fixed t a b c d u w x y = (
+  x .no-values .0 ∙ sym (y .no-values .0),
+  x .no-values .1 ∙ sym (y .no-values .1),
+  x .dropped ∙ ap (λ l. with-days l (without-mark t)) (planned-same (x .planned) (y .planned)) ∙ sym (y .dropped),
+)
+
+trial-fixed : (r : Rule) (s : WithLists) → Fixed (trial-meaning r s)
+trial-fixed r s a b c d u w x y = (
+  x .count-moved ∙ ap (moved (s .tables .counts .steps) (s .tables .days)) days ∙ sym (y .count-moved),
+  x .no-second ∙ sym (y .no-second),
+  λ i. record { tables = (x .tables-stay ∙ sym (y .tables-stay)) i; one = days i; two = (x .two-stays ∙ sym (y .two-stays)) i },
+)
+  where
+    days : u .one ≡ w .one
+    days = planned-same (x .planned) (y .planned)
+
+consequences-fixed : (s : WithLists) → Fixed (consequences-meaning s)
+consequences-fixed s a b c d u w x y =
+    (all .0, none .0, λ i. record { tables = (x .tables-stay ∙ sym (y .tables-stay)) i; one = all .1 i; two = none .1 i })
+  where
+    t : Tables
+    t = s .tables
+
+    all : (a ≡ c) × (u .one ≡ w .one)
+    all = filled-same (exactly-same (λ j. Always (rules-of t) (held-in t) (rule-at (t .watched) j)) (t .counts .watched)) a c (s .one) (u .one) (w .one) (x .in-all) (y .in-all)
+
+    none : (b ≡ d) × (u .two ≡ w .two)
+    none = filled-same (exactly-same (λ j. Never (rules-of t) (held-in t) (rule-at (t .watched) j)) (t .counts .watched)) b d (s .two) (u .two) (w .two) (x .in-none) (y .in-none)
+
+ring-check-fixed : (r : Rule) (s : WithList) → Fixed (ring-check-meaning r s)
+ring-check-fixed r s a b c d u w x y = (go (x .verdict) (y .verdict), x .no-second ∙ sym (y .no-second), x .all-stays ∙ sym (y .all-stays))
+  where
+    go : {P : Type 0} → ((a ≡ 1) × P) ⊎ ((a ≡ 0) × (P → ⊥)) → ((c ≡ 1) × P) ⊎ ((c ≡ 0) × (P → ⊥)) → a ≡ c
+    go (inl p) (inl q) = p .0 ∙ sym (q .0)
+    go (inl p) (inr q) = absurd (q .1 (p .1))
+    go (inr p) (inl q) = absurd (p .1 (q .1))
+    go (inr p) (inr q) = p .0 ∙ sym (q .0)
+
+-- The six calls that know no conflict.
+pub open-determined : (n : ℕ) (t : Tables) (g h : Given) (u w : Tables) → Obeys (open-meaning n t) t g u → Obeys (open-meaning n t) t h w → Same g h u w
+open-determined n t g h u w x y = determined (open-meaning n t) t g h u w x y (open-fixed n t) (λ a s z. z)
+
+pub watch-determined : (r : Rule) (t : Tables) (g h : Given) (u w : Tables) → Obeys (watch-meaning r t) t g u → Obeys (watch-meaning r t) t h w → Same g h u w
+watch-determined r t g h u w x y = determined (watch-meaning r t) t g h u w x y (watch-fixed r t) (λ a s z. z)
+
+pub mark-determined : (t : Tables) (g h : Given) (u w : Tables) → Obeys (mark-meaning t) t g u → Obeys (mark-meaning t) t h w → Same g h u w
+mark-determined t g h u w x y = determined (mark-meaning t) t g h u w x y (mark-fixed t) (λ a s z. z)
+
+pub back-determined : (t : Tables) (g h : Given) (u w : Tables) → Obeys (back-meaning t) t g u → Obeys (back-meaning t) t h w → Same g h u w
+back-determined t g h u w x y = determined (back-meaning t) t g h u w x y (back-fixed t) (λ a s z. z)
+
+pub consequences-determined : (s : WithLists) (g h : Given) (u w : WithLists) → Obeys (consequences-meaning s) s g u → Obeys (consequences-meaning s) s h w → Same g h u w
+consequences-determined s g h u w x y = determined (consequences-meaning s) s g h u w x y (consequences-fixed s) (λ a v z. z)
+
+pub ring-check-determined : (r : Rule) (s : WithList) (g h : Given) (u w : WithList) → Obeys (ring-check-meaning r s) s g u → Obeys (ring-check-meaning r s) s h w → Same g h u w
+ring-check-determined r s g h u w x y = determined (ring-check-meaning r s) s g h u w x y (ring-check-fixed r s) (λ a v z. z)
+
+-- ---- the calls that know a conflict: all is equal but the choice of the ring
+
+-- Two lists with a ring each, written from the same list: equally long, and past both rings the same.
+pub record SamePastRings (k j : ℕ) (a b : List ℕ) : Type 0 where
+  pub same-length : length a ≡ length b
+  pub past-both : (i : ℕ) → k ≤ i → j ≤ i → at a i ≡ at b i
+
+rings-past : {P : List ℕ → Type 0} (k j : ℕ) (before a b : List ℕ) → Filled k P before a → Filled j P before b → SamePastRings k j a b
+rings-past k j before a b x y =
+    record {
+      same-length = x .past .same-length ∙ sym (y .past .same-length);
+      past-both = λ i hk hj. x .past .kept i hk ∙ sym (y .past .kept i hj);
+    }
+
+-- Add: the same number; the same all through unless it is CONFLICT; and on CONFLICT the same but for the ring and its length.
+pub record AddSame (g h : Given) (a b : WithList) : Type 0 where
+  pub same-number : g .number ≡ h .number
+  pub unless-conflict : (g .number ≡ CONFLICT → ⊥) → Same g h a b
+  pub tables-same : a .tables ≡ b .tables
+  pub second-same : g .two ≡ h .two
+  pub but-for-the-ring : g .number ≡ CONFLICT → SamePastRings (g .one) (h .one) (a .list) (b .list)
+
+pub add-determined : (r : Rule) (s : WithList) (g h : Given) (u w : WithList) → Obeys (add-meaning r s) s g u → Obeys (add-meaning r s) s h w → AddSame g h u w
+add-determined r s g h u w x y =
+    record {
+      same-number = same;
+      unless-conflict = other;
+      tables-same = tell (ℕ-discrete (g .number) CONFLICT) .0;
+      second-same = tell (ℕ-discrete (g .number) CONFLICT) .1;
+      but-for-the-ring = λ e. rings-past (g .one) (h .one) (s .list) (u .list) (w .list) (x .on-conflict e .0 .ring-given) (y .on-conflict (sym same ∙ e) .0 .ring-given);
+    }
+  where
+    same : g .number ≡ h .number
+    same = numbers-same (add-meaning r s) s g h u w x y
+
+    other : (g .number ≡ CONFLICT → ⊥) → Same g h u w
+    other = same-unless-conflict (add-meaning r s) s g h u w x y (add-fixed r s)
+
+    tell : Dec (g .number ≡ CONFLICT) → (u .tables ≡ w .tables) × (g .two ≡ h .two)
+    tell (no e) = (ap (λ a. a .tables) (other e .left), ap (λ a. a .two) (other e .answers))
+    tell (yes e) = (x .on-conflict e .0 .tables-stay ∙ sym (y .on-conflict (sym same ∙ e) .0 .tables-stay), x .on-conflict e .1 ∙ sym (y .on-conflict (sym same ∙ e) .1))
+
+-- Trial likewise; the list of days is the same too.
+pub record TrialSame (g h : Given) (a b : WithLists) : Type 0 where
+  pub same-number : g .number ≡ h .number
+  pub unless-conflict : (g .number ≡ CONFLICT → ⊥) → Same g h a b
+  pub tables-same : a .tables ≡ b .tables
+  pub days-same : a .one ≡ b .one
+  pub second-same : g .two ≡ h .two
+  pub but-for-the-ring : g .number ≡ CONFLICT → SamePastRings (g .one) (h .one) (a .two) (b .two)
+
+pub trial-determined : (r : Rule) (s : WithLists) (g h : Given) (u w : WithLists) → Obeys (trial-meaning r s) s g u → Obeys (trial-meaning r s) s h w → TrialSame g h u w
+trial-determined r s g h u w x y =
+    record {
+      same-number = same;
+      unless-conflict = other;
+      tables-same = tell (ℕ-discrete (g .number) CONFLICT) .0;
+      days-same = tell (ℕ-discrete (g .number) CONFLICT) .1;
+      second-same = tell (ℕ-discrete (g .number) CONFLICT) .2;
+      but-for-the-ring = λ e. rings-past (g .one) (h .one) (s .two) (u .two) (w .two) (x .on-conflict e .0 .ring-given) (y .on-conflict (sym same ∙ e) .0 .ring-given);
+    }
+  where
+    same : g .number ≡ h .number
+    same = numbers-same (trial-meaning r s) s g h u w x y
+
+    other : (g .number ≡ CONFLICT → ⊥) → Same g h u w
+    other = same-unless-conflict (trial-meaning r s) s g h u w x y (trial-fixed r s)
+
+    tell : Dec (g .number ≡ CONFLICT) → (u .tables ≡ w .tables) × (u .one ≡ w .one) × (g .two ≡ h .two)
+    tell (no e) = (ap (λ a. a .tables) (other e .left), ap (λ a. a .one) (other e .left), ap (λ a. a .two) (other e .answers))
+    tell (yes e) = (
+      x .on-conflict e .0 .tables-stay ∙ sym (y .on-conflict (sym same ∙ e) .0 .tables-stay),
+      x .on-conflict e .0 .one-stays ∙ sym (y .on-conflict (sym same ∙ e) .0 .one-stays),
+      x .on-conflict e .1 ∙ sym (y .on-conflict (sym same ∙ e) .1),
+    )

@@ -1,0 +1,21 @@
+-- What follows from the meaning alone.
+pub mod Whole
+pub mod Below
+pub mod More
+pub mod Counting
+pub mod Theory
+pub mod Shift
+pub mod Circle
+pub mod Lowering
+pub mod DayBound
+pub mod Needs
+pub mod Lists
+pub mod Determined
+pub mod Put
+pub mod Sequences
+pub mod Tests
+pub mod Rings
+pub mod Possible
+pub mod AsAdd
+pub mod Starred
+pub mod ShutOut

@@ -1,0 +1,55 @@
+-- Adding one whole number to all days keeps every rule, which speaks of differences only; so an arrangement, raised by its lowest day
+-- where that is below 0, is a plan.
+use Prim.Native.Nat.{ℕ, _+_, _-_, _<_}
+use native.Mathlib.Omega.{arith}
+use mathlib.Core.Path.{_≡_}
+use mathlib.Core.Logic.{_↔_}
+use lib.IntN.{ℤ, pos, _+ℤ_}
+use Rattle.meaning.specs.Rules.{Rule, Keeps, InSteps, Arrangement, Plan}
+use Rattle.meaning.proofs.Whole.{up, dn, →eq, add-is, keeps→, →keeps, →plan}
+use Rattle.meaning.proofs.Below.{largest, largest-over}
+
+-- Days that keep a rule keep it with one whole number added to all of them.
+pub keeps-shift : (d : ℕ → ℤ) (r : Rule) → Keeps d r → (k : ℤ) → Keeps (λ v. d v +ℤ k) r
+keeps-shift d r kept k =
+    →keeps (λ v. d v +ℤ k) r (omega (arith, keeps→ d r kept, add-is (d (r .first)) k, add-is (d (r .second)) k))
+
+-- One whole number added to all days keeps an arrangement.
+pub arrangement-shift : (R : ℕ → Rule) (H : ℕ → Type 0) (d : ℕ → ℤ) → Arrangement R H d → (k : ℤ) → Arrangement R H (λ v. d v +ℤ k)
+arrangement-shift R H d kept k i held = keeps-shift d (R i) (kept i held) k
+
+-- A plan that is the arrangement d, shifted, on the steps below n.
+pub record Shifted (n : ℕ) (R : ℕ → Rule) (H : ℕ → Type 0) (d : ℕ → ℤ) : Type 0 where
+  pub days : ℕ → ℕ
+  pub plan : Plan R H days
+  pub by : ℤ
+  pub moved-by : (v : ℕ) → v < n → pos (days v) ≡ d v +ℤ by
+
+-- How far the lowest day below n lies below 0.
+depth : (ℕ → ℤ) → ℕ → ℕ
+depth d n = largest (λ v. dn (d v)) n
+
+-- The day of v, raised by so much.
+raised : (ℕ → ℤ) → ℕ → ℕ → ℕ
+raised d n v = up (d v) + depth d n - dn (d v)
+
+-- The raised day, with no subtraction.
+raised-is : (d : ℕ → ℤ) (n v : ℕ) → v < n → raised d n v + dn (d v) ≡ up (d v) + depth d n
+unfolding raised depth
+raised-is d n v below = omega (arith, largest-over (λ w. dn (d w)) n v below)
+
+-- An arrangement of rules over n steps, shifted, is a plan.
+pub shifted : (n : ℕ) (R : ℕ → Rule) (H : ℕ → Type 0) → ((i : ℕ) → H i → InSteps n (R i)) → (d : ℕ → ℤ) → Arrangement R H d → Shifted n R H d
+shifted n R H steps d kept = record {
+  days = raised d n;
+  plan = λ i held. →plan (raised d n) (R i)
+      (omega (arith, keeps→ d (R i) (kept i held), raised-is d n (R i .first) (steps i held .first-in), raised-is d n (R i .second) (steps i held .second-in)));
+  by = pos (depth d n);
+  moved-by = λ v below. →eq (pos (raised d n v)) (d v +ℤ pos (depth d n)) (omega (arith, raised-is d n v below, add-is (d v) (pos (depth d n))));
+}
+
+-- Rules over n steps have an arrangement exactly when they have a plan.
+pub arrangement-iff-plan :
+    (n : ℕ) (R : ℕ → Rule) (H : ℕ → Type 0) → ((i : ℕ) → H i → InSteps n (R i)) → ((d : ℕ → ℤ) × Arrangement R H d) ↔ ((p : ℕ → ℕ) × Plan R H p)
+arrangement-iff-plan n R H steps =
+    (λ (d, kept). (shifted n R H steps d kept .days, shifted n R H steps d kept .plan), λ (p, kept). ((λ v. pos (p v)), kept))

@@ -1,0 +1,70 @@
+-- The bounds and the numbers given back. Each is named here and nowhere else; a later bound is a change of one line.
+use Prim.Native.Nat.{ℕ}
+
+-- Steps are numbered from 0, and there are 1 to STEPS of them. A list lent for days or for a ring has at least STEPS places.
+abbrev pub STEPS : ℕ
+STEPS = 256
+
+-- At most so many rules are held.
+abbrev pub RULES : ℕ
+RULES = 4096
+
+-- The largest amount; the smallest is -LARGEST.
+abbrev pub LARGEST : ℕ
+LARGEST = 1000000
+
+-- At most so many marks are open.
+abbrev pub MARKS : ℕ
+MARKS = 64
+
+-- At most so many rules are watched.
+abbrev pub WATCHED : ℕ
+WATCHED = 1024
+
+-- The call was carried out.
+abbrev pub DONE : ℕ
+DONE = 0
+
+-- A lent table or list has too few places.
+abbrev pub SHORT : ℕ
+SHORT = 1
+
+-- The tables are not sound.
+abbrev pub DAMAGED : ℕ
+DAMAGED = 2
+
+-- Open with a count outside 1 to STEPS; a step number not below the count.
+abbrev pub STEP : ℕ
+STEP = 3
+
+-- An amount outside its bound.
+abbrev pub AMOUNT : ℕ
+AMOUNT = 4
+
+-- No place for one more rule, mark, watched rule or declared name.
+abbrev pub FULL : ℕ
+FULL = 5
+
+-- With the new rule no arrangement exists.
+abbrev pub CONFLICT : ℕ
+CONFLICT = 6
+
+-- Back with no mark open.
+abbrev pub NOMARK : ℕ
+NOMARK = 7
+
+-- Script text outside its form.
+abbrev pub SYNTAX : ℕ
+SYNTAX = 8
+
+-- A command at a place where it may not stand.
+abbrev pub MODE : ℕ
+MODE = 9
+
+-- A name unknown, or declared while it stands.
+abbrev pub NAME : ℕ
+NAME = 10
+
+-- A script, a name, a term's depth or a list of names over its size.
+abbrev pub SIZE : ℕ
+SIZE = 11

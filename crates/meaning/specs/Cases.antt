@@ -1,0 +1,142 @@
+-- The worked cases that are to be proved: one table, and what it claims.
+use Prim.Native.Nat.{ℕ, _≤_, _<_}
+use mathlib.Core.Path.{_≡_}
+use mathlib.Core.List.{List, [], _∷_}
+use lib.IntN.{ℤ, pos, negℤ}
+use lib.ListN.{length, take}
+use Rattle.meaning.specs.Bounds.{STEPS, DONE, CONFLICT}
+use Rattle.meaning.specs.Rules.{Rule, negation, total}
+use Rattle.meaning.specs.Tables.{Tables, at, Room}
+use Rattle.meaning.specs.Promise.{Given}
+use Rattle.meaning.specs.Calls.{next-in, rules-and}
+use Rattle.meaning.specs.Runs.{Call, Made}
+
+-- A row of the table: a call, and what must come back and be left.
+pub data Row : Type 0 where
+  -- Add, accepted: how many steps moved, and the days.
+  add : Rule → ℕ → List ℕ → Row
+  -- Add, a conflict: the ring, and its sum.
+  refuse : Rule → List ℕ → ℤ → Row
+  mark : Row
+  -- Back, accepted: how many rules are left, and the days.
+  back : ℕ → List ℕ → Row
+  watch : Rule → Row
+  -- Consequences: the first list and the second.
+  split : List ℕ → List ℕ → Row
+  -- No call: the one rule is the negation of the other, and back again.
+  negate : Rule → Rule → Row
+
+-- A case: its number in the paper, the days right after Open (as many as there are steps), and its rows.
+pub record Case : Type 0 where
+  pub number : ℕ
+  pub fresh : List ℕ
+  pub rows : List Row
+
+-- The tables have these days, as many as there are steps.
+pub record Days (t : Tables) (days : List ℕ) : Type 0 where
+  pub as-many : t .counts .steps ≡ length days
+  pub each : (v : ℕ) → v < length days → at (t .days) v ≡ at days v
+
+-- The answer is DONE with these values.
+abbrev pub Done : ℕ → ℕ → Given → Type 0
+Done a b g = g ≡ record { number = DONE; one = a; two = b }
+
+-- Some outcome of the call keeps its promise.
+pub record Possible (c : Call) (t : Tables) : Type 0 where
+  pub answer : Given
+  pub tables : Tables
+  pub made : Made c t answer tables
+
+-- What a row claims of tables t, where X is what is claimed of the tables that its call leaves: whatever outcome the call's promise allows
+-- is as the row says, and some outcome is allowed. The lists lent are any lists that are long enough.
+abbrev pub Says : Row → Tables → (Tables → Type 0) → Type 0
+Says (Row.add r k days) t X =
+    (l : List ℕ)
+    → STEPS ≤ length l
+    → ((g : Given) (u : Tables) (l′ : List ℕ) → Made (Call.adds r l l′) t g u → Done k 0 g × Days u days × X u)
+    × ((l′ : List ℕ) × Possible (Call.adds r l l′) t)
+Says (Row.refuse r ring sum) t X =
+    (l : List ℕ)
+    → STEPS ≤ length l
+    → ((g : Given) (u : Tables) (l′ : List ℕ)
+    → Made (Call.adds r l l′) t g u
+    → (g .number ≡ CONFLICT) × (take (g .one) l′ ≡ ring) × (total (rules-and r t) ring ≡ sum) × X u)
+    × ((l′ : List ℕ) × Possible (Call.adds r l l′) t)
+Says Row.mark t X = ((g : Given) (u : Tables) → Made Call.marks t g u → Done 0 0 g × X u) × Possible Call.marks t
+Says (Row.back k days) t X =
+    ((g : Given) (u : Tables) → Made Call.goes-back t g u → Done 0 0 g × (u .counts .rules ≡ k) × Days u days × X u) × Possible Call.goes-back t
+Says (Row.watch r) t X = ((g : Given) (u : Tables) → Made (Call.watches r) t g u → Done 0 0 g × X u) × Possible (Call.watches r) t
+Says (Row.split all none) t X =
+    (l m : List ℕ)
+    → t .counts .watched ≤ length l
+    → t .counts .watched ≤ length m
+    → ((g : Given) (u : Tables) (l′ m′ : List ℕ)
+    → Made (Call.asks-consequences l l′ m m′) t g u
+    → Done (length all) (length none) g × (take (length all) l′ ≡ all) × (take (length none) m′ ≡ none) × X u)
+    × ((l′ : List ℕ) × (m′ : List ℕ) × Possible (Call.asks-consequences l l′ m m′) t)
+Says (Row.negate r s) t X = (negation r ≡ s) × (negation s ≡ r) × X t
+
+-- What rows claim of tables t: what the first claims, and the others of whatever tables it leaves.
+abbrev pub Claim : Tables → List Row → Type 0
+Claim t [] = Unit {0}
+Claim t (row ∷ rows) = Says row t (λ u. Claim u rows)
+
+-- What a case claims: on any tables with room Open gives the fresh days, and its rows' claims hold of what it leaves.
+abbrev pub Proved : Case → Type 0
+Proved c =
+    (t : Tables)
+    → Room t
+    → ((g : Given) (u : Tables) → Made (Call.opens (length (c .fresh))) t g u → Done 0 0 g × Days u (c .fresh) × Claim u (c .rows))
+    × Possible (Call.opens (length (c .fresh))) t
+
+-- x, y, c.
+abbrev rule : ℕ → ℕ → ℤ → Rule
+rule x y c = record { first = x; second = y; amount = c }
+
+abbrev minus : ℕ → ℤ
+minus n = negℤ (pos n)
+
+-- Four steps, fresh.
+abbrev fresh : List ℕ
+fresh = 0 ∷ 0 ∷ 0 ∷ 0 ∷ []
+
+-- Cases 2 and 3, which others go on from.
+abbrev after-2 : List Row → List Row
+after-2 rows = Row.add (rule 0 1 (minus 2)) 1 (0 ∷ 2 ∷ 0 ∷ 0 ∷ []) ∷ rows
+
+abbrev after-3 : List Row → List Row
+after-3 rows = after-2 (Row.add (rule 1 2 (minus 3)) 1 (0 ∷ 2 ∷ 5 ∷ 0 ∷ []) ∷ rows)
+
+-- The starred cases.
+abbrev pub starred : List Case
+starred =
+    record { number = 1; fresh = fresh; rows = [] }
+    ∷ record { number = 2; fresh = fresh; rows = after-2 [] }
+    ∷ record { number = 3; fresh = fresh; rows = after-3 [] }
+    ∷ record { number = 4; fresh = fresh; rows = after-3 (Row.add (rule 2 0 (pos 5)) 0 (0 ∷ 2 ∷ 5 ∷ 0 ∷ []) ∷ []) }
+    ∷ record { number = 5; fresh = fresh; rows = after-3 (Row.refuse (rule 2 0 (pos 4)) (2 ∷ 0 ∷ 1 ∷ []) (minus 1) ∷ []) }
+    ∷ record { number = 6; fresh = fresh; rows = Row.add (rule 3 3 (pos 0)) 0 fresh ∷ Row.refuse (rule 3 3 (minus 1)) (1 ∷ []) (minus 1) ∷ [] }
+    ∷ record { number = 7; fresh = fresh; rows = Row.add (rule 2 0 (minus 7)) 1 (7 ∷ 0 ∷ 0 ∷ 0 ∷ []) ∷ [] }
+    ∷ record { number = 8; fresh = fresh; rows = Row.add (rule 0 1 (pos 0)) 0 fresh ∷ Row.add (rule 1 0 (pos 0)) 0 fresh ∷ [] }
+    ∷ record {
+      number = 9;
+      fresh = fresh;
+      rows = after-2 (Row.mark ∷ Row.add (rule 1 2 (minus 3)) 1 (0 ∷ 2 ∷ 5 ∷ 0 ∷ []) ∷ Row.back 1 (0 ∷ 2 ∷ 0 ∷ 0 ∷ []) ∷ []);
+    }
+    ∷ record {
+      number = 10;
+      fresh = fresh;
+      rows =
+          after-3
+          (Row.watch (rule 0 2 (minus 5))
+          ∷ Row.watch (rule 0 2 (minus 6))
+          ∷ Row.watch (rule 2 0 (pos 4))
+          ∷ Row.watch (rule 2 0 (pos 5))
+          ∷ Row.watch (rule 3 3 (pos 0))
+          ∷ Row.watch (rule 3 3 (minus 1))
+          ∷ Row.split (0 ∷ 4 ∷ []) (2 ∷ 5 ∷ [])
+          ∷ []
+          );
+    }
+    ∷ record { number = 11; fresh = fresh; rows = Row.negate (rule 0 1 (minus 2)) (rule 1 0 (pos 1)) ∷ [] }
+    ∷ []

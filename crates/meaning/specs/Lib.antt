@@ -1,0 +1,8 @@
+-- The meaning, in reading order. What follows from it stands in proofs/.
+pub mod Bounds
+pub mod Rules
+pub mod Tables
+pub mod Promise
+pub mod Calls
+pub mod Runs
+pub mod Cases

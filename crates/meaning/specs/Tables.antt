@@ -1,0 +1,125 @@
+-- The office tables: what is lent, how rules are read from columns, and when the tables are sound.
+use Prim.Native.Nat.{ℕ, _+_, _-_, _≤_, _<_}
+use mathlib.Core.List.{List}
+use lib.ListN.{length, getD, set}
+use lib.IntN.{ℤ, pos}
+use Rattle.meaning.specs.declared.Counts.{Counts}
+use Rattle.meaning.specs.Bounds.{STEPS, RULES, MARKS, WATCHED}
+use Rattle.meaning.specs.Rules.{Rule, InBounds, Earliest}
+
+-- A table of rules, as three columns.
+pub record Columns : Type 0 where
+  pub firsts : List ℕ
+  pub seconds : List ℕ
+  pub amounts : List ℤ
+
+-- All that is lent to every call: the counts, the rules held, the days, the marks and the watched rules.
+pub record Tables : Type 0 where
+  pub counts : Counts
+  pub rules : Columns
+  pub days : List ℕ
+  pub marks : List ℕ
+  pub watched : Columns
+
+-- The rule under number i of a table.
+abbrev pub rule-at : Columns → ℕ → Rule
+rule-at c i = record { first = getD (c .firsts) i 0; second = getD (c .seconds) i 0; amount = getD (c .amounts) i (pos 0) }
+
+-- The table with the rule r written under number i.
+abbrev pub put : Columns → ℕ → Rule → Columns
+put c i r = record { firsts = set (c .firsts) i (r .first); seconds = set (c .seconds) i (r .second); amounts = set (c .amounts) i (r .amount) }
+
+-- What stands at place i of a list of days, marks or ring entries; 0 past its end.
+abbrev pub at : List ℕ → ℕ → ℕ
+at l i = getD l i 0
+
+-- Which rule numbers are held: those below the rule count.
+abbrev pub held : Counts → ℕ → Type 0
+held c i = i < c .rules
+
+-- The number that the next rule would have.
+abbrev pub next : Counts → ℕ
+next c = c .rules
+
+-- The table has at least k places in each column.
+pub record ColumnsRoom (k : ℕ) (c : Columns) : Type 0 where
+  pub firsts-room : k ≤ length (c .firsts)
+  pub seconds-room : k ≤ length (c .seconds)
+  pub amounts-room : k ≤ length (c .amounts)
+
+-- Each table has room for its full bound.
+pub record Room (t : Tables) : Type 0 where
+  pub rules-room : ColumnsRoom RULES (t .rules)
+  pub days-room : STEPS ≤ length (t .days)
+  pub marks-room : MARKS ≤ length (t .marks)
+  pub watched-room : ColumnsRoom WATCHED (t .watched)
+
+-- The counts are within bounds.
+pub record InCounts (c : Counts) : Type 0 where
+  pub some-step : 1 ≤ c .steps
+  pub steps-in : c .steps ≤ STEPS
+  pub rules-in : c .rules ≤ RULES
+  pub marks-in : c .marks ≤ MARKS
+  pub watched-in : c .watched ≤ WATCHED
+
+-- The tables are sound: the counts are within bounds, every held and watched rule is within bounds, marks never fall and none exceeds
+-- the rule count, and the days equal the earliest plan of the rules held. Cells past the counts may hold anything.
+pub record Sound (t : Tables) : Type 0 where
+  pub counts-in : InCounts (t .counts)
+  pub rules-good : (i : ℕ) → held (t .counts) i → InBounds (t .counts .steps) (rule-at (t .rules) i)
+  pub watched-good : (i : ℕ) → i < t .counts .watched → InBounds (t .counts .steps) (rule-at (t .watched) i)
+  pub marks-never-fall : (i j : ℕ) → i ≤ j → j < t .counts .marks → at (t .marks) i ≤ at (t .marks) j
+  pub marks-held : (i : ℕ) → i < t .counts .marks → at (t .marks) i ≤ t .counts .rules
+  pub days-earliest : Earliest (t .counts .steps) (rule-at (t .rules)) (held (t .counts)) (at (t .days))
+
+-- The tables of n steps with no rule, mark or watched rule. The days are not yet set.
+abbrev pub opened : ℕ → Tables → Tables
+opened n t = record { counts = record { steps = n; rules = 0; marks = 0; watched = 0 }; rules = t .rules; days = t .days; marks = t .marks; watched = t .watched }
+
+-- The tables with one more rule watched, at the end.
+abbrev pub with-watched : Rule → Tables → Tables
+with-watched r t = record {
+  counts = record { steps = t .counts .steps; rules = t .counts .rules; marks = t .counts .marks; watched = t .counts .watched + 1 };
+  rules = t .rules;
+  days = t .days;
+  marks = t .marks;
+  watched = put (t .watched) (t .counts .watched) r;
+}
+
+-- The tables with one more rule held, under the next number. The days are not yet brought up to date.
+abbrev pub with-rule : Rule → Tables → Tables
+with-rule r t = record {
+  counts = record { steps = t .counts .steps; rules = t .counts .rules + 1; marks = t .counts .marks; watched = t .counts .watched };
+  rules = put (t .rules) (next (t .counts)) r;
+  days = t .days;
+  marks = t .marks;
+  watched = t .watched;
+}
+
+-- The tables with one more mark: the number of rules held now.
+abbrev pub with-mark : Tables → Tables
+with-mark t = record {
+  counts = record { steps = t .counts .steps; rules = t .counts .rules; marks = t .counts .marks + 1; watched = t .counts .watched };
+  rules = t .rules;
+  days = t .days;
+  marks = set (t .marks) (t .counts .marks) (t .counts .rules);
+  watched = t .watched;
+}
+
+-- The newest mark.
+abbrev pub newest-mark : Tables → ℕ
+newest-mark t = at (t .marks) (t .counts .marks - 1)
+
+-- The tables without the newest mark and the rules added after it. The days are not yet brought up to date.
+abbrev pub without-mark : Tables → Tables
+without-mark t = record {
+  counts = record { steps = t .counts .steps; rules = newest-mark t; marks = t .counts .marks - 1; watched = t .counts .watched };
+  rules = t .rules;
+  days = t .days;
+  marks = t .marks;
+  watched = t .watched;
+}
+
+-- The tables with other days.
+abbrev pub with-days : List ℕ → Tables → Tables
+with-days days t = record { counts = t .counts; rules = t .rules; days = days; marks = t .marks; watched = t .watched }

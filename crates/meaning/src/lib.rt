@@ -1,0 +1,46 @@
+// The types that every call's contract shares, and the bounds as the code has them. What they mean stands in specs/.
+
+// There are 1 to STEPS steps.
+pub const STEPS: usize = 256;
+
+// At most so many rules are held.
+pub const RULES: usize = 4096;
+
+// At most so many marks are open.
+pub const MARKS: usize = 64;
+
+// At most so many rules are watched.
+pub const WATCHED: usize = 1024;
+
+// The largest amount; the smallest is -LARGEST.
+pub const LARGEST: i32 = 1000000;
+
+// How many of each thing the tables hold. The caller lends it; a call brings it up to date.
+pub struct Counts {
+    pub steps: u32,
+    pub rules: u32,
+    pub marks: u32,
+    pub watched: u32,
+}
+
+// What a call gives back. Done has the call's two values, 0 where it has none; Conflict has the ring's length.
+pub enum Answer {
+    Done(u32, u32),
+    Short,
+    Damaged,
+    Step,
+    Amount,
+    Full,
+    Conflict(u32),
+    NoMark,
+    Syntax,
+    Mode,
+    Name,
+    Size,
+}
+
+// An answer with the counts as they are after the call.
+pub struct Reply {
+    pub counts: Counts,
+    pub answer: Answer,
+}
