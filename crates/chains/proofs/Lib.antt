@@ -1,0 +1,3 @@
+-- What the chains' proofs share, and the laws of a walk along a chain.
+pub mod Laws
+pub mod Walk

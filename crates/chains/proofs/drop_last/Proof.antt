@@ -1,0 +1,44 @@
+-- `chains::drop_last` meets its contract: `chained-less` at the cell written.
+use mathlib.Core.Path.{refl}
+use borrow.Author.Needs.{needs}
+use Rattle.chains.proofs.Laws.{chained-less}
+use Rattle.chains.proofs.drop_last.Statement.{statement}
+use Rattle.chains.proofs.drop_last.Tie as tie
+
+number-at-requires : tie.Need-number-at-requires
+number-at-requires c κs = search needs
+
+mul-heads : tie.Need-mul-heads
+mul-heads c = search needs
+
+shared-slice-read-heads : tie.Need-shared-slice-read-heads
+shared-slice-read-heads c = search needs
+
+mul-heads-2 : tie.Need-mul-heads-2
+mul-heads-2 c = search needs
+
+slice-write-heads : tie.Need-slice-write-heads
+slice-write-heads c = search needs
+
+same-length : tie.Need-same-length
+same-length c = search needs
+
+returns : tie.Need-returns
+returns c =
+    let args = c .before .before .before .before .before .args in
+    rw (c .before .number-at .ensures) (record {
+      heads-are = refl;
+      chained = λ n first-in ch. chained-less n (args .m) (args .xs .now) (args .heads .now) (args .nexts .now) first-in (c .before .before .before .before .before .pre .head-place) ch;
+    })
+
+pub drop-last-spec : {M : Type 1} → statement M
+drop-last-spec =
+    tie.close
+    (tie.spec
+    number-at-requires
+    mul-heads
+    shared-slice-read-heads
+    mul-heads-2
+    slice-write-heads
+    same-length
+    returns)

@@ -1,0 +1,2 @@
+-- What the chains' contracts cite.
+pub mod Chains

@@ -1,0 +1,3 @@
+-- What the readers' proofs share.
+pub mod Amounts
+pub mod Tests

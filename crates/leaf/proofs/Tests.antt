@@ -1,0 +1,29 @@
+-- One rule's test over natural numbers.
+use Prim.Native.Nat.{ℕ, _+_, _≤_}
+use native.Mathlib.Omega.{arith}
+use mathlib.Core.Path.{_≡_}
+use mathlib.Core.List.{List}
+use lib.Dec.{leb}
+use lib.ListN.{getD}
+use lib.IntN.{ℤ}
+use borrow.Author.Tests.{leb-true, leb-false}
+use Rattle.meaning.specs.Tables.{rule-at, at}
+use Rattle.meaning.proofs.Whole.{plan→, →plan}
+use Rattle.leaf.specs.Decides.{Decides}
+use Rattle.leaf.specs.Lent.{columns, KeptAt, Limit}
+
+module _ (xs ys : List ℕ) (cs : List ℤ) (days : List ℕ) (i : ℕ) where
+  -- The days keep the rule under i exactly when its first step's day is within its limit.
+  pub kept→within : (l : ℕ) → Limit ys cs days i l → KeptAt xs ys cs days i → at days (getD xs i 0) + 2147483648 ≤ l
+  kept→within l limit kept = omega (arith, plan→ (at days) (rule-at (columns xs ys cs) i) kept)
+
+  -- And back.
+  pub within→kept : (l : ℕ) → Limit ys cs days i l → at days (getD xs i 0) + 2147483648 ≤ l → KeptAt xs ys cs days i
+  within→kept l limit within = →plan (at days) (rule-at (columns xs ys cs) i) (omega arith)
+
+  -- The machine's test.
+  pub test-decides : (d l : ℕ) → d ≡ at days (getD xs i 0) → Limit ys cs days i l → Decides (leb (d + 2147483648) l) (KeptAt xs ys cs days i)
+  test-decides d l day limit = record {
+    so = λ e. within→kept l limit (omega (arith, leb-true (d + 2147483648) l e));
+    not-so = λ e kept. omega (arith, leb-false (d + 2147483648) l e, kept→within l limit kept);
+  }

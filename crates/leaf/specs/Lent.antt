@@ -1,0 +1,59 @@
+-- The lists that are lent to a function, as the tables of the meaning; and what must be in reach for a rule to be read.
+use Prim.Native.Nat.{ℕ, _+_, _<_}
+use mathlib.Core.Path.{_≡_}
+use mathlib.Core.List.{List}
+use lib.ListN.{length, getD}
+use lib.IntN.{ℤ, pos}
+use Rattle.meaning.specs.declared.Counts.{Counts}
+use Rattle.meaning.specs.Rules.{Keeps}
+use Rattle.meaning.proofs.Whole.{up, dn}
+use Rattle.meaning.specs.Tables.{Columns, Tables, rule-at, at}
+
+-- The table of rules whose columns are lent: first steps, second steps and amounts.
+abbrev pub columns : List ℕ → List ℕ → List ℤ → Columns
+columns xs ys cs = record { firsts = xs; seconds = ys; amounts = cs }
+
+-- All that is lent, as the office tables: the counts, the rules held, the days, the marks and the watched rules.
+abbrev pub tables : Counts → List ℕ → List ℕ → List ℤ → List ℕ → List ℕ → List ℕ → List ℕ → List ℤ → Tables
+tables counts xs ys cs days marks wxs wys wcs = record {
+  counts = counts;
+  rules = columns xs ys cs;
+  days = days;
+  marks = marks;
+  watched = columns wxs wys wcs;
+}
+
+-- r is the amount c counted from 2147483648 below 0.
+pub record Biased (c : ℤ) (r : ℕ) : Type 0 where
+  pub is : r + dn c ≡ up c + 2147483648
+  pub narrow : r < 4294967296
+
+-- The days keep the rule under i.
+abbrev pub KeptAt : List ℕ → List ℕ → List ℤ → List ℕ → ℕ → Type 0
+KeptAt xs ys cs days i = Keeps (λ v. pos (at days v)) (rule-at (columns xs ys cs) i)
+
+-- r is the latest day that the rule under i leaves its first step, counted from 2147483648 below 0.
+abbrev pub Limit : List ℕ → List ℤ → List ℕ → ℕ → ℕ → Type 0
+Limit ys cs days i r = r + dn (getD cs i (pos 0)) ≡ at days (getD ys i 0) + up (getD cs i (pos 0)) + 2147483648
+
+-- r is how many days the rule under i has to spare.
+abbrev pub Spare : List ℕ → List ℕ → List ℤ → List ℕ → ℕ → ℕ → Type 0
+Spare xs ys cs days i r = at days (getD xs i 0) + dn (getD cs i (pos 0)) + r ≡ at days (getD ys i 0) + up (getD cs i (pos 0))
+
+-- Number i has a place in each column.
+pub record Placed (xs ys : List ℕ) (cs : List ℤ) (i : ℕ) : Type 0 where
+  pub first-place : i < length xs
+  pub second-place : i < length ys
+  pub amount-place : i < length cs
+
+-- The rule under i has a second step with a day, and an amount.
+pub record Limited (ys : List ℕ) (cs : List ℤ) (days : List ℕ) (i : ℕ) : Type 0 where
+  pub second-place : i < length ys
+  pub amount-place : i < length cs
+  pub second-day : getD ys i 0 < length days
+
+-- Number i has a place in each column, and both steps of the rule under it have a day.
+pub record Dated (xs ys : List ℕ) (cs : List ℤ) (days : List ℕ) (i : ℕ) : Type 0 where
+  pub placed : Placed xs ys cs i
+  pub first-day : getD xs i 0 < length days
+  pub second-day : getD ys i 0 < length days

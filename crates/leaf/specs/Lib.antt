@@ -1,0 +1,4 @@
+-- What the contracts of the readers and of the calls cite.
+pub mod Decides
+pub mod Lent
+pub mod Promises

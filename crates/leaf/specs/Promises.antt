@@ -1,0 +1,61 @@
+-- The promises of the eight calls over the lists that are lent, each stated once: inner calls, public calls and exports cite them.
+-- In each, the first lists are as they were lent, in the order counts, rules, days, marks, watched rules, other lists; then what was asked;
+-- then the reply, and the lists that the call may write as it left them.
+use Prim.Native.Nat.{ℕ}
+use mathlib.Core.List.{List}
+use lib.IntN.{ℤ}
+use Rattle.meaning.specs.declared.Counts.{Counts}
+use Rattle.meaning.specs.declared.Reply.{Reply}
+use Rattle.meaning.specs.Rules.{Rule}
+use Rattle.meaning.specs.Tables.{Tables, Room, Sound}
+use Rattle.meaning.specs.Promise.{Obeys, given}
+use Rattle.meaning.specs.Calls.{WithList, WithLists, open-meaning, watch-meaning, add-meaning, mark-meaning, back-meaning, trial-meaning, consequences-meaning, ring-check-meaning}
+use Rattle.leaf.specs.Lent.{tables}
+
+-- The rule x, y, c.
+abbrev pub rule : ℕ → ℕ → ℤ → Rule
+rule x y c = record { first = x; second = y; amount = c }
+
+-- The tables have room and are sound: what the inner calls may rely on.
+pub record Border (t : Tables) : Type 0 where
+  pub room : Room t
+  pub sound : Sound t
+
+abbrev with-list : Tables → List ℕ → WithList
+with-list t l = record { tables = t; list = l }
+
+abbrev with-lists : Tables → List ℕ → List ℕ → WithLists
+with-lists t l m = record { tables = t; one = l; two = m }
+
+module _ (counts : Counts) (xs ys : List ℕ) (cs : List ℤ) (days marks wxs wys : List ℕ) (wcs : List ℤ) where
+  -- The tables as they were lent.
+  abbrev lent : Tables
+  lent = tables counts xs ys cs days marks wxs wys wcs
+
+  abbrev pub Opens : ℕ → Reply → List ℕ → Type 0
+  Opens n r days′ = Obeys (open-meaning n lent) lent (given (r .answer)) (tables (r .counts) xs ys cs days′ marks wxs wys wcs)
+
+  abbrev pub Watches : ℕ → ℕ → ℤ → Reply → List ℕ → List ℕ → List ℤ → Type 0
+  Watches x y c r wxs′ wys′ wcs′ = Obeys (watch-meaning (rule x y c) lent) lent (given (r .answer)) (tables (r .counts) xs ys cs days marks wxs′ wys′ wcs′)
+
+  abbrev pub Adds : List ℕ → ℕ → ℕ → ℤ → Reply → List ℕ → List ℕ → List ℤ → List ℕ → List ℕ → Type 0
+  Adds ring x y c r xs′ ys′ cs′ days′ ring′ =
+      Obeys (add-meaning (rule x y c) (with-list lent ring)) (with-list lent ring) (given (r .answer)) (with-list (tables (r .counts) xs′ ys′ cs′ days′ marks wxs wys wcs) ring′)
+
+  abbrev pub Marks : Reply → List ℕ → Type 0
+  Marks r marks′ = Obeys (mark-meaning lent) lent (given (r .answer)) (tables (r .counts) xs ys cs days marks′ wxs wys wcs)
+
+  abbrev pub GoesBack : Reply → List ℕ → Type 0
+  GoesBack r days′ = Obeys (back-meaning lent) lent (given (r .answer)) (tables (r .counts) xs ys cs days′ marks wxs wys wcs)
+
+  abbrev pub Tries : List ℕ → List ℕ → ℕ → ℕ → ℤ → Reply → List ℕ → List ℕ → Type 0
+  Tries one two x y c r one′ two′ =
+      Obeys (trial-meaning (rule x y c) (with-lists lent one two)) (with-lists lent one two) (given (r .answer)) (with-lists (tables (r .counts) xs ys cs days marks wxs wys wcs) one′ two′)
+
+  abbrev pub Splits : List ℕ → List ℕ → Reply → List ℕ → List ℕ → Type 0
+  Splits one two r one′ two′ =
+      Obeys (consequences-meaning (with-lists lent one two)) (with-lists lent one two) (given (r .answer)) (with-lists (tables (r .counts) xs ys cs days marks wxs wys wcs) one′ two′)
+
+  abbrev pub ChecksRing : List ℕ → ℕ → ℕ → ℤ → Reply → Type 0
+  ChecksRing list x y c r =
+      Obeys (ring-check-meaning (rule x y c) (with-list lent list)) (with-list lent list) (given (r .answer)) (with-list (tables (r .counts) xs ys cs days marks wxs wys wcs) list)

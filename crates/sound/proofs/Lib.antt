@@ -1,0 +1,6 @@
+-- What the proofs of the test share.
+pub mod Counted
+pub mod Entering
+pub mod Grounding
+pub mod Marks
+pub mod Answers

@@ -1,0 +1,59 @@
+-- `sound::counts_in` meets its contract: each early return has a count outside its bound.
+use native.Mathlib.Omega.{arith}
+use mathlib.Core.Path.{refl}
+use borrow.Author.Tests.{leb-true, leb-false}
+use borrow.Author.Needs.{needs}
+use Rattle.meaning.specs.Bounds.{WATCHED}
+use Rattle.leaf.specs.Decides.{decides-no}
+use Rattle.sound.proofs.counts_in.Statement.{statement}
+use Rattle.sound.proofs.counts_in.Tie as tie
+
+returns : tie.Need-returns
+returns c = decides-no refl (λ h. omega (arith, c .if1 .taken, h .some-step))
+
+cast-if2 : tie.Need-cast-if2
+cast-if2 c = search needs
+
+returns-2 : tie.Need-returns-2
+returns-2 c = decides-no refl (λ h. omega (arith, c .if2 .taken, h .steps-in))
+
+cast-if3 : tie.Need-cast-if3
+cast-if3 c = search needs
+
+returns-3 : tie.Need-returns-3
+returns-3 c = decides-no refl (λ h. omega (arith, c .if3 .taken, h .rules-in))
+
+cast-if4 : tie.Need-cast-if4
+cast-if4 c = search needs
+
+returns-4 : tie.Need-returns-4
+returns-4 c = decides-no refl (λ h. omega (arith, c .if4 .taken, h .marks-in))
+
+cast-result : tie.Need-cast-result
+cast-result c = search needs
+
+returns-5 : tie.Need-returns-5
+returns-5 c = record {
+  so = λ e. record {
+    some-step = omega (arith, c .before .before .before .before .before .before .before .if1 .left);
+    steps-in = omega (arith, c .before .before .before .before .before .if2 .left);
+    rules-in = omega (arith, c .before .before .before .if3 .left);
+    marks-in = omega (arith, c .before .if4 .left);
+    watched-in = leb-true (c .before .before .before .before .before .before .before .before .before .args .counts .watched) WATCHED e;
+  };
+  not-so = λ e h. omega (arith, leb-false (c .before .before .before .before .before .before .before .before .before .args .counts .watched) WATCHED e, h .watched-in);
+}
+
+pub counts-in-spec : {M : Type 1} → statement M
+counts-in-spec =
+    tie.close
+    (tie.spec
+    returns
+    cast-if2
+    returns-2
+    cast-if3
+    returns-3
+    cast-if4
+    returns-4
+    cast-result
+    returns-5)

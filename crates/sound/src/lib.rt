@@ -1,0 +1,280 @@
+// Whether the lent tables have room, and whether they are sound. The days are the earliest plan when they keep every rule and every step is
+// grounded: it has day 0, or a rule with nothing to spare leads to it from a grounded step. So steps are entered in a work-list, those
+// of day 0 first, and the rules of each are followed once: a broken rule, or a step left out at the end, says no.
+ghost use mathlib.Core.Logic.{_⊎_};
+ghost use Prim.Native.Nat.{_≤_, _<_};
+ghost use lib.ListN.{length};
+ghost use Rattle.meaning.specs.declared.Counts.{Counts};
+ghost use Rattle.meaning.specs.Bounds.{STEPS};
+ghost use Rattle.meaning.specs.Rules.{Earliest};
+ghost use Rattle.meaning.specs.Tables.{ColumnsRoom, InCounts, Room, rule-at, at};
+ghost use Rattle.leaf.specs.Decides.{Decides};
+ghost use Rattle.leaf.specs.Lent.{columns, tables};
+ghost use Rattle.sound.specs.Parts.{AllIn, MarksIn, ChainsRoom, RulesTested, Testable, Tested};
+ghost use Rattle.sound.specs.Ground.{below, Worklist, Enterable, Stays, Comes, ListsRoom, Seeded, Ready, Underway, AfterStep};
+use meaning::Counts;
+
+// Whether each of three columns has at least k places.
+fn columns_have(k: usize, xs: &[u16], ys: &[u16], cs: &[i32]) -> bool
+    ensures { λ r. ⌜ Decides r (ColumnsRoom k (columns (now (xs .entry)) (now (ys .entry)) (now (cs .entry)))) ⌝ }
+{
+    if xs.len() < k {
+        return false;
+    }
+    if ys.len() < k {
+        return false;
+    }
+    k <= cs.len()
+}
+
+// Whether each table has room for its full bound.
+pub fn has_room(
+    xs: &[u16],
+    ys: &[u16],
+    cs: &[i32],
+    days: &[u32],
+    marks: &[u32],
+    wxs: &[u16],
+    wys: &[u16],
+    wcs: &[i32],
+) -> bool
+    ensures { λ r. ⌜ ((counts : Counts) → Decides r (Room (tables counts (now (xs .entry)) (now (ys .entry)) (now (cs .entry)) (now (days .entry)) (now (marks .entry)) (now (wxs .entry)) (now (wys .entry)) (now (wcs .entry))))) ⌝ }
+{
+    if !columns_have(meaning::RULES, xs, ys, cs) {
+        return false;
+    }
+    if days.len() < meaning::STEPS {
+        return false;
+    }
+    if marks.len() < meaning::MARKS {
+        return false;
+    }
+    columns_have(meaning::WATCHED, wxs, wys, wcs)
+}
+
+// Whether the counts are within bounds.
+fn counts_in(counts: Counts) -> bool
+    ensures { λ r. ⌜ Decides r (InCounts counts) ⌝ }
+{
+    if counts.steps < 1 {
+        return false;
+    }
+    if meaning::STEPS < counts.steps as usize {
+        return false;
+    }
+    if meaning::RULES < counts.rules as usize {
+        return false;
+    }
+    if meaning::MARKS < counts.marks as usize {
+        return false;
+    }
+    counts.watched as usize <= meaning::WATCHED
+}
+
+// Whether every rule below number m is within bounds, over n steps.
+fn all_in(n: usize, m: usize, xs: &[u16], ys: &[u16], cs: &[i32]) -> bool
+    requires { ⌜ ColumnsRoom m (columns (now xs) (now ys) (now cs)) ⌝ }
+    ensures { λ r. ⌜ Decides r (AllIn n m (now (xs .entry)) (now (ys .entry)) (now (cs .entry))) ⌝ }
+{
+    for i in 0..m {
+        if !leaf::rule_in(n, xs, ys, cs, i) {
+            return false;
+        }
+    }
+    true
+}
+
+// Whether every rule below number m is within bounds, over n steps; where all are, heads and nexts are left with their chains.
+fn rules_in(
+    n: usize,
+    m: usize,
+    xs: &[u16],
+    ys: &[u16],
+    cs: &[i32],
+    heads: &mut [u16],
+    nexts: &mut [u16],
+) -> bool
+    requires { ⌜ ChainsRoom n m (now xs) (now ys) (now cs) (now heads) (now nexts) ⌝ }
+    ensures { λ r. ⌜ RulesTested n m (now (xs .entry)) (now (ys .entry)) (now (cs .entry)) r (now (heads .exit)) (now (nexts .exit)) ⌝ }
+{
+    chains::clear(n, heads);
+    for i in 0..m {
+        if !leaf::rule_in(n, xs, ys, cs, i) {
+            return false;
+        }
+        chains::push(xs, heads, nexts, i);
+    }
+    true
+}
+
+// Whether the first k marks never fall and none exceeds m.
+fn marks_in(m: usize, k: usize, marks: &[u32]) -> bool
+    requires { ⌜ k ≤ length (now marks) ⌝ }
+    ensures { λ r. ⌜ Decides r (MarksIn m k (now (marks .entry))) ⌝ }
+{
+    let mut newest: u64 = 0;
+    for i in 0..k {
+        let mark = leaf::day_at(marks, i);
+        if mark < newest {
+            return false;
+        }
+        newest = mark;
+    }
+    newest <= m as u64
+}
+
+// Enters step v as the k-th, unless it is entered; returns how many steps are now entered.
+fn enter(v: usize, k: usize, places: &mut [u16], work: &mut [u16]) -> usize
+    requires { ⌜ Enterable v k (now places) (now work) ⌝ }
+    ensures { λ r. ⌜ Stays v k (now (places .entry)) (now (work .entry)) r (now (places .exit)) (now (work .exit)) ⊎ Comes v k (now (places .entry)) (now (work .entry)) r (now (places .exit)) (now (work .exit)) ⌝ }
+{
+    if places[v] != 0 {
+        return k;
+    }
+    places[v] = (k + 1) as u16;
+    work[k] = v as u16;
+    k + 1
+}
+
+// Enters the steps of day 0 in the empty work-list; returns how many they are.
+fn seed(n: usize, days: &[u32], places: &mut [u16], work: &mut [u16]) -> usize
+    requires { ⌜ Worklist n 0 (now places) (now work) ⌝ }
+    requires { ⌜ ListsRoom n (now places) (now work) ⌝ }
+    requires { ⌜ n ≤ length (now days) ⌝ }
+    requires { ⌜ n ≤ STEPS ⌝ }
+    ensures { λ r. ⌜ Seeded n (now (days .entry)) n r (now (places .exit)) (now (work .exit)) ⌝ }
+{
+    let mut k = 0;
+    for v in 0..n {
+        if leaf::day_at(days, v) == 0 {
+            k = enter(v, k, places, work);
+        }
+    }
+    k
+}
+
+// Whether the days keep every rule of a step, and how many steps are entered.
+struct Walked {
+    kept: bool,
+    entered: usize,
+}
+
+// Follows the rules of step a, up to one that the days break: the second step of each that has nothing to spare is entered.
+// The promise speaks of m rules over n steps; the chain says by itself which of them are a's.
+fn follow(
+    n: usize,
+    m: usize,
+    a: usize,
+    xs: &[u16],
+    ys: &[u16],
+    cs: &[i32],
+    days: &[u32],
+    heads: &[u16],
+    nexts: &[u16],
+    entered: usize,
+    places: &mut [u16],
+    work: &mut [u16],
+) -> Walked
+    requires { ⌜ Ready n m (now xs) (now ys) (now cs) (now days) (now heads) (now nexts) ⌝ }
+    requires { ⌜ ListsRoom n (now places) (now work) ⌝ }
+    requires { ⌜ Underway n m (now xs) (now ys) (now cs) (now days) entered (now places) (now work) ⌝ }
+    requires { ⌜ (a < n) × (1 ≤ at (now places) a) ⌝ }
+    ensures { λ r. ⌜ AfterStep n m (now (xs .entry)) (now (ys .entry)) (now (cs .entry)) (now (days .entry)) a (now (places .entry)) (r .kept) (r .entered) (now (places .exit)) (now (work .exit)) ⌝ }
+{
+    let mut k = entered;
+    let mut link = leaf::number_at(heads, a);
+    while link != 0 {
+        let i = link - 1;
+        if !leaf::kept(xs, ys, cs, days, i) {
+            return Walked {
+                kept: false,
+                entered: k,
+            };
+        }
+        if leaf::slack(xs, ys, cs, days, i) == 0 {
+            k = enter(leaf::number_at(ys, i), k, places, work);
+        }
+        link = leaf::number_at(nexts, i);
+    }
+    Walked {
+        kept: true,
+        entered: k,
+    }
+}
+
+// Whether the days are the earliest plan of the first m rules, over n steps.
+fn is_earliest(
+    n: usize,
+    m: usize,
+    xs: &[u16],
+    ys: &[u16],
+    cs: &[i32],
+    days: &[u32],
+    heads: &[u16],
+    nexts: &[u16],
+) -> bool
+    requires { ⌜ Ready n m (now xs) (now ys) (now cs) (now days) (now heads) (now nexts) ⌝ }
+    ensures { λ r. ⌜ Decides r (Earliest n (rule-at (columns (now (xs .entry)) (now (ys .entry)) (now (cs .entry)))) (below m) (at (now (days .entry)))) ⌝ }
+{
+    let mut places = [0u16; meaning::STEPS];
+    let mut work = [0u16; meaning::STEPS];
+    let mut entered = seed(n, days, &mut places, &mut work);
+    let mut done = 0;
+    while done < entered {
+        let a = leaf::number_at(&work, done);
+        let walked = follow(
+            n,
+            m,
+            a,
+            xs,
+            ys,
+            cs,
+            days,
+            heads,
+            nexts,
+            entered,
+            &mut places,
+            &mut work,
+        );
+        if !walked.kept {
+            return false;
+        }
+        entered = walked.entered;
+        done += 1;
+    }
+    entered == n
+}
+
+// Whether the tables, which have room, are sound; where they are, heads and nexts are left with the chains of the rules held.
+pub fn is_sound(
+    counts: Counts,
+    xs: &[u16],
+    ys: &[u16],
+    cs: &[i32],
+    days: &[u32],
+    marks: &[u32],
+    wxs: &[u16],
+    wys: &[u16],
+    wcs: &[i32],
+    heads: &mut [u16],
+    nexts: &mut [u16],
+) -> bool
+    requires { ⌜ Testable (tables counts (now xs) (now ys) (now cs) (now days) (now marks) (now wxs) (now wys) (now wcs)) (now heads) (now nexts) ⌝ }
+    ensures { λ r. ⌜ Tested (tables counts (now (xs .entry)) (now (ys .entry)) (now (cs .entry)) (now (days .entry)) (now (marks .entry)) (now (wxs .entry)) (now (wys .entry)) (now (wcs .entry))) r (now (heads .exit)) (now (nexts .exit)) ⌝ }
+{
+    if !counts_in(counts) {
+        return false;
+    }
+    let n = counts.steps as usize;
+    let m = counts.rules as usize;
+    if !rules_in(n, m, xs, ys, cs, heads, nexts) {
+        return false;
+    }
+    if !all_in(n, counts.watched as usize, wxs, wys, wcs) {
+        return false;
+    }
+    if !marks_in(m, counts.marks as usize, marks) {
+        return false;
+    }
+    is_earliest(n, m, xs, ys, cs, days, heads, nexts)
+}
