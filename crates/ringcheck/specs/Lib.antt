@@ -1,0 +1,2 @@
+-- What the ring check's contracts cite.
+pub mod Closing

@@ -1,0 +1,105 @@
+// Whether a list of numbers is a negative ring that starts with a rule under its would-be number and goes on over held rules.
+ghost use Prim.Native.Nat.{_≤_, _<_};
+ghost use mathlib.Core.Path.{_≡_};
+ghost use lib.ListN.{length, drop};
+ghost use Rattle.meaning.specs.Rules.{Refutes};
+ghost use Rattle.meaning.specs.Tables.{rule-at, at};
+ghost use Rattle.leaf.specs.Decides.{Decides};
+ghost use Rattle.leaf.specs.Lent.{columns};
+ghost use Rattle.ringcheck.specs.Closing.{Closes, GoesOn, Walkable, Checkable};
+
+// The number at place k of the list.
+fn entry_at(list: &[u32], k: usize) -> usize
+    requires { ⌜ k < length (now list) ⌝ }
+    ensures { λ r. ⌜ r ≡ at (now (list .entry)) k ⌝ }
+{
+    leaf::day_at(list, k) as usize
+}
+
+// Whether number i is below m, its rule's first step is the step reached, and that step was not met before.
+fn goes_on(m: usize, xs: &[u16], met: &[u8], reached: usize, i: usize) -> bool
+    requires { ⌜ (m ≤ length (now xs)) × (reached < length (now met)) ⌝ }
+    ensures { λ r. ⌜ Decides r (GoesOn (at (now (xs .entry))) (λ i. i < m) (now (met .entry)) reached i) ⌝ }
+{
+    if m <= i {
+        return false;
+    }
+    if leaf::number_at(xs, i) != reached {
+        return false;
+    }
+    met[reached] == 0
+}
+
+// Whether the numbers of the list after its first are below m and their rules close a ring at step x from step y, where the first
+// number's amount is given as amount + 2147483648. The steps met by then are flagged in met, which is used up.
+fn closes(
+    m: usize,
+    xs: &[u16],
+    ys: &[u16],
+    cs: &[i32],
+    x: usize,
+    y: usize,
+    amount: u64,
+    list: &[u32],
+    met: &mut [u8],
+) -> bool
+    requires { ⌜ Walkable m (now xs) (now ys) (now cs) y amount (now list) (now met) ⌝ }
+    ensures { λ r. ⌜ Decides r (Closes (rule-at (columns (now (xs .entry)) (now (ys .entry)) (now (cs .entry)))) (λ i. i < m) x (now (met .entry)) y amount 2147483648 (drop 1 (now (list .entry)))) ⌝ }
+{
+    let mut reached = y;
+    let mut sum = amount;
+    let mut k: usize = 1;
+    while k < list.len() {
+        let i = entry_at(list, k);
+        if !goes_on(m, xs, met, reached, i) {
+            return false;
+        }
+        met[reached] = 1;
+        sum += leaf::amount_at(cs, i);
+        reached = leaf::number_at(ys, i);
+        k += 1;
+    }
+    reached == x && sum < (k as u64) * 2147483648
+}
+
+// Whether the list is a negative ring of the rule x, y, c under number m and then of rules below m. Any list may be asked about: one
+// with more numbers than the n steps is no ring, since some step would be a first step twice.
+pub fn is_ring(
+    n: usize,
+    m: usize,
+    xs: &[u16],
+    ys: &[u16],
+    cs: &[i32],
+    x: u16,
+    y: u16,
+    c: i32,
+    list: &[u32],
+) -> bool
+    requires { ⌜ Checkable n m (now xs) (now ys) (now cs) (record { first = x; second = y; amount = c }) ⌝ }
+    ensures { λ r. ⌜ Decides r (Refutes (rule-at (columns (now (xs .entry)) (now (ys .entry)) (now (cs .entry)))) (λ i. i < m) m (record { first = x; second = y; amount = c }) (now (list .entry))) ⌝ }
+{
+    let numbers = list.len();
+    if numbers == 0 {
+        return false;
+    }
+    if n < numbers {
+        return false;
+    }
+    if entry_at(list, 0) != m {
+        return false;
+    }
+    let first = x as usize;
+    let mut met = [0u8; meaning::STEPS];
+    met[first] = 1;
+    closes(
+        m,
+        xs,
+        ys,
+        cs,
+        first,
+        y as usize,
+        leaf::biased(c),
+        list,
+        &mut met,
+    )
+}

@@ -1,0 +1,148 @@
+-- `spread::relax_all` meets its contract. The loop's invariant: the rules of x from the link on have been relaxed. The measure is the link.
+use Prim.Native.Nat.{suc, _-_, _<_}
+use mathlib.Core.Path.{_≡_, refl, _∙_}
+use lib.ListN.{length}
+use Rattle.meaning.specs.Tables.{at}
+use Rattle.chains.proofs.Walk.{Link, link-head, link-next}
+use Rattle.spread.proofs.Walking.{relaxable, Walked, walked-none, walked-more}
+use borrow.Author.Needs.{needs}
+use native.Mathlib.Omega.{arith}
+use Rattle.spread.proofs.relax_all.Statement.{statement}
+use Rattle.spread.proofs.relax_all.Tie as tie
+
+abbrev Inv-loop : tie.InvT-loop
+Inv-loop n m xs ys cs days heads nexts x gains₀ by₀ list₀ k reach count₀ link₀ gains by list count link =
+    (length gains ≡ length gains₀) × (length by ≡ length by₀) × (length list ≡ length list₀) × Link m xs x link
+    × Walked n m xs ys cs days x (at heads x) link reach gains₀ by₀ list₀ k gains by list count
+
+abbrev μ-loop : tie.MeasureT-loop
+μ-loop n m xs ys cs days heads nexts x gains₀ by₀ list₀ k reach count₀ link₀ gains by list count link =
+    link
+
+day-at-requires : tie.Need-day-at-requires Inv-loop μ-loop
+day-at-requires c κs = omega (arith, c .before .before .before .before .before .before .before .before .pre .0 .days-room, c .before .before .before .before .before .before .before .before .pre .1 .1 .1)
+
+gain-at-requires : tie.Need-gain-at-requires Inv-loop μ-loop
+gain-at-requires c κs = omega (arith, c .before .before .before .before .before .before .before .before .before .before .pre .1 .0 .gains-room, c .before .before .before .before .before .before .before .before .before .before .pre .1 .1 .1)
+
+add-reach : tie.Need-add-reach Inv-loop μ-loop
+add-reach c =
+    omega (
+      arith,
+      c .before .before .day-at .ensures,
+      c .gain-at .ensures,
+      c .before .before .before .before .before .before .before .before .shared-slice-known3 .given (c .before .before .before .before .before .before .before .before .before .before .before .args .x),
+      c .before .before .before .before .before .before .before .before .before .before .before .pre .1 .1 .0 .small (c .before .before .before .before .before .before .before .before .before .before .before .args .x) (c .before .before .before .before .before .before .before .before .before .before .before .pre .1 .1 .1),
+    )
+
+add-reach-2 : tie.Need-add-reach-2 Inv-loop μ-loop
+add-reach-2 c =
+    omega (
+      arith,
+      c .before .before .day-at .ensures,
+      c .gain-at .ensures,
+      c .before .before .before .before .before .before .before .before .shared-slice-known3 .given (c .before .before .before .before .before .before .before .before .before .before .before .args .x),
+      c .before .before .before .before .before .before .before .before .before .before .before .pre .1 .1 .0 .small (c .before .before .before .before .before .before .before .before .before .before .before .args .x) (c .before .before .before .before .before .before .before .before .before .before .before .pre .1 .1 .1),
+    )
+
+number-at-requires : tie.Need-number-at-requires Inv-loop μ-loop
+number-at-requires c κs = omega (arith, c .before .before .before .before .before .before .before .before .before .before .before .pre .0 .heads-room, c .before .before .before .before .before .before .before .before .before .before .before .pre .1 .1 .1)
+
+loop-holds : tie.Need-loop-holds Inv-loop μ-loop
+loop-holds c =
+    let a = c .before .before .before .before .before .before .before .before .before .before .before .before .args in
+    let ground = c .before .before .before .before .before .before .before .before .before .before .before .before .pre .0 in
+    let head = c .number-at .ensures in (
+      refl,
+      refl,
+      refl,
+      rw head (link-head (a .n) (a .m) (a .xs .now) (a .heads .now) (a .nexts .now) (ground .chained) (a .x) (c .before .before .before .before .before .before .before .before .before .before .before .before .pre .1 .1 .1)),
+      rw head
+          (walked-none (a .n) (a .m) (a .xs .now) (a .ys .now) (a .cs .now) (a .days .now) (a .x) (at (a .heads .now) (a .x)) _ (a .gains .now) (a .by .now) (a .list .now) (a .k)
+          (omega (arith, c .before .before .before .day-at .ensures, c .before .gain-at .ensures))
+          (c .before .before .before .before .before .before .before .before .before .before .before .before .pre .1 .1 .0)),
+    )
+
+sub-i : tie.Need-sub-i Inv-loop μ-loop
+sub-i c = search needs
+
+relax-requires : tie.Need-relax-requires Inv-loop μ-loop
+relax-requires c κs =
+    let a = c .before .before .before .before .before .before .before .before .before .before .before .before .before .before .before .before .before .args in
+    relaxable (a .n) (a .m) (a .xs .now) (a .ys .now) (a .cs .now) (a .days .now) (a .heads .now) (a .nexts .now) (c .before .before .before .before .loop .gains) (c .before .before .before .before .loop .by) (c .before .before .before .before .loop .list) (c .before .before .before .before .loop .count) (c .before .before .before .before .loop .link - 1)
+    (c .before .before .before .before .before .before .before .before .before .before .before .before .before .before .before .before .before .pre .0)
+    (omega (arith, c .before .before .before .loop-test .taken, c .before .before .before .before .loop .inv .3 .within))
+    (record {
+      gains-room = omega (arith, c .before .before .before .before .loop .inv .0, c .before .before .before .before .before .before .before .before .before .before .before .before .before .before .before .before .before .pre .1 .0 .gains-room);
+      by-room = omega (arith, c .before .before .before .before .loop .inv .1, c .before .before .before .before .before .before .before .before .before .before .before .before .before .before .before .before .before .pre .1 .0 .by-room);
+      list-room = omega (arith, c .before .before .before .before .loop .inv .2, c .before .before .before .before .before .before .before .before .before .before .before .before .before .before .before .before .before .pre .1 .0 .list-room);
+    })
+    (c .before .before .before .before .loop .inv .4 .ready)
+
+number-at-requires-2 : tie.Need-number-at-requires-2 Inv-loop μ-loop
+number-at-requires-2 c κs = omega (arith, c .before .before .before .before .before .before .before .before .before .before .loop-test .taken, c .before .before .before .before .before .before .before .before .before .before .before .loop .inv .3 .within, c .before .before .before .before .before .before .before .before .before .before .before .before .before .before .before .before .before .before .before .before .before .before .before .before .pre .0 .nexts-room)
+
+loop-less : tie.Need-loop-less Inv-loop μ-loop
+loop-less c =
+    omega (
+      arith,
+      c .before .before .before .before .before .before .before .before .before .before .before .loop-test .taken,
+      c .number-at2 .ensures,
+      c .before .before .before .before .before .before .before .before .before .before .before .before .before .before .before .before .before .before .before .before .before .before .before .before .before .pre .0 .chained .next-in (c .before .before .before .before .before .before .before .before .before .before .before .before .loop .link - 1) (omega (arith, c .before .before .before .before .before .before .before .before .before .before .before .loop-test .taken, c .before .before .before .before .before .before .before .before .before .before .before .before .loop .inv .3 .within)),
+    )
+
+loop-again : tie.Need-loop-again Inv-loop μ-loop
+loop-again c =
+    let a = c .before .before .before .before .before .before .before .before .before .before .before .before .before .before .before .before .before .before .before .before .before .before .before .before .before .args in
+    let ground = c .before .before .before .before .before .before .before .before .before .before .before .before .before .before .before .before .before .before .before .before .before .before .before .before .before .pre .0 in
+    let i = c .before .before .before .before .before .before .before .before .before .before .before .before .loop .link - 1 in
+    let counted : c .before .before .before .before .before .before .before .before .before .before .before .before .loop .link ≡ suc i = omega (arith, c .before .before .before .before .before .before .before .before .before .before .before .loop-test .taken) in
+    let held : i < a .m = omega (arith, counted, c .before .before .before .before .before .before .before .before .before .before .before .before .loop .inv .3 .within) in
+    let own : at (a .xs .now) i ≡ a .x = c .before .before .before .before .before .before .before .before .before .before .before .before .loop .inv .3 .own i counted in (
+      c .before .before .before .before .before .before .before .relax .kept .1 .1 .1 .1 .1 .0 ∙ c .before .before .before .before .before .before .before .before .before .before .before .before .loop .inv .0,
+      c .before .before .before .before .before .before .before .relax .kept .1 .1 .1 .1 .1 .1 .0 ∙ c .before .before .before .before .before .before .before .before .before .before .before .before .loop .inv .1,
+      c .before .before .before .before .before .before .before .relax .kept .1 .1 .1 .1 .1 .1 .1 .0 ∙ c .before .before .before .before .before .before .before .before .before .before .before .before .loop .inv .2,
+      rw (c .number-at2 .ensures) (link-next (a .n) (a .m) (a .xs .now) (a .heads .now) (a .nexts .now) (ground .chained) (a .x) i held own),
+      rw (c .number-at2 .ensures)
+          (walked-more (a .n) (a .m) (a .xs .now) (a .ys .now) (a .cs .now) (a .days .now) (a .heads .now) (a .nexts .now) ground i held (at (a .heads .now) (a .x)) _
+          (a .gains .now) (a .by .now) (a .list .now) (a .k) (c .before .before .before .before .before .before .before .before .before .before .before .before .loop .gains) (c .before .before .before .before .before .before .before .before .before .before .before .before .loop .by) (c .before .before .before .before .before .before .before .before .before .before .before .before .loop .list) (c .before .before .before .before .before .before .before .before .before .before .before .before .loop .count) _ _ _ _ (a .x) own (c .before .before .before .before .before .before .before .relax .ensures)
+          (rw counted at (c .before .before .before .before .before .before .before .before .before .before .before .before .loop .inv .4))),
+    )
+
+same-length : tie.Need-same-length Inv-loop μ-loop
+same-length c = search needs
+
+same-length-2 : tie.Need-same-length-2 Inv-loop μ-loop
+same-length-2 c = search needs
+
+same-length-3 : tie.Need-same-length-3 Inv-loop μ-loop
+same-length-3 c = search needs
+
+returns : tie.Need-returns Inv-loop μ-loop
+returns c =
+    let a = c .before .before .before .before .before .before .before .before .before .before .before .before .before .before .args in
+    let done : c .before .loop .link ≡ 0 = omega (arith, c .loop-test .left) in
+    let w = rw done at (c .before .loop .inv .4) in
+    record { ready = w .ready; no-more = w .no-more; past = w .past; keeps = w .keeps }
+
+pub relax-all-spec : {M : Type 1} → statement M
+relax-all-spec =
+    tie.close
+    (tie.spec
+    Inv-loop
+    μ-loop
+    day-at-requires
+    gain-at-requires
+    add-reach
+    add-reach-2
+    number-at-requires
+    loop-holds
+    sub-i
+    relax-requires
+    number-at-requires-2
+    loop-less
+    loop-again
+    same-length
+    same-length-2
+    same-length-3
+    returns)

@@ -1,0 +1,58 @@
+-- `spread::spread` meets its contract: the steps with a gain are collected, and then all turns made.
+use Prim.Native.Nat.{_+_}
+use mathlib.Core.Path.{refl}
+use Rattle.meaning.specs.Tables.{at}
+use Rattle.spread.specs.Ground.{rules, first}
+use Rattle.spread.proofs.Ends.{no-turn-yet, collected-ready}
+use native.Mathlib.Omega.{arith}
+use borrow.Author.Needs.{needs}
+use Rattle.spread.proofs.spread.Statement.{statement}
+use Rattle.spread.proofs.spread.Tie as tie
+
+slice-aggregate-collect : tie.Need-slice-aggregate-collect
+slice-aggregate-collect c = search needs
+
+collect-requires : tie.Need-collect-requires
+collect-requires c κs = search needs
+
+slice-aggregate-settle-all : tie.Need-slice-aggregate-settle-all
+slice-aggregate-settle-all c = search needs
+
+settle-all-requires : tie.Need-settle-all-requires
+settle-all-requires c κs =
+    let a = c .before .before .before .before .before .before .before .before .before .before .before .before .before .before .before .before .before .args in (
+      c .before .before .before .before .before .before .before .before .before .before .before .before .before .before .before .before .before .pre .0,
+      (
+        record {
+          gains-room = c .before .before .before .before .before .before .before .before .before .before .before .before .before .before .before .before .before .pre .1 .gains-room;
+          by-room = omega (arith, c .before .before .before .before .before .before .collect .kept .1 .1 .0, c .before .before .before .before .before .before .before .before .before .before .before .before .before .before .before .before .before .pre .1 .by-room);
+          list-room = omega (arith, c .before .before .before .before .before .before .collect .kept .1 .1 .1 .0, c .before .before .before .before .before .before .before .before .before .before .before .before .before .before .before .before .before .pre .0 .steps-in);
+        },
+        collected-ready (a .n) (at (a .gains .now)) (at (c .before .before .before .before .before .before .collect .last .1 .1 .0)) (at (c .before .before .before .before .before .before .collect .last .1 .1 .1 .0)) (c .before .before .before .before .before .before .collect .result) (c .before .before .before .before .before .before .before .before .before .before .before .before .before .before .before .before .before .pre .1 .small) (c .before .before .before .before .before .before .collect .ensures),
+      ),
+    )
+
+same-length : tie.Need-same-length
+same-length c = search needs
+
+same-length-2 : tie.Need-same-length-2
+same-length-2 c = search needs
+
+returns : tie.Need-returns
+returns c =
+    let a = c .before .before .before .before .before .before .before .before .before .before .before .before .before .before .before .before .before .before .before .before .before .before .before .args in
+    c .before .before .before .before .before .settle-all .ensures (λ v. at (a .days .now) v + at (a .gains .now) v)
+    (no-turn-yet (a .n) (rules (a .xs .now) (a .ys .now) (a .cs .now)) (first (a .m)) (at (a .days .now)) (λ v. at (a .days .now) v + at (a .gains .now) v)
+    (at (a .gains .now)) (at (c .before .before .before .before .before .before .before .before .before .before .before .before .collect .last .1 .1 .0)) (at (c .before .before .before .before .before .before .before .before .before .before .before .before .collect .last .1 .1 .1 .0)) (c .before .before .before .before .before .before .before .before .before .before .before .before .collect .result) (λ v v-in. refl) (c .before .before .before .before .before .before .before .before .before .before .before .before .collect .ensures))
+
+pub spread-spec : {M : Type 1} → statement M
+spread-spec =
+    tie.close
+    (tie.spec
+    slice-aggregate-collect
+    collect-requires
+    slice-aggregate-settle-all
+    settle-all-requires
+    same-length
+    same-length-2
+    returns)

@@ -1,0 +1,371 @@
+// The least gains that keep the rules. Given days that keep the rules held and a gain for each step, a spread raises the gains as little as
+// keeps every rule: the days with their gains are then the earliest plan that is not before the days with the gains at the start. Each turn
+// settles the open step of largest gain and relaxes its rules; the open steps with a gain stand in a short list.
+ghost use mathlib.Core.Path.{_≡_};
+ghost use Prim.Native.Nat.{_+_, _<_, _≤_};
+ghost use lib.ListN.{length};
+ghost use Rattle.meaning.specs.Bounds.{STEPS};
+ghost use Rattle.meaning.specs.Tables.{at};
+ghost use Rattle.leaf.specs.Decides.{Decides};
+ghost use Rattle.spread.specs.Ground.{Ground};
+ghost use Rattle.spread.specs.State.{Ready};
+ghost use Rattle.spread.specs.Relax.{Relaxable, Relaxed};
+ghost use Rattle.spread.specs.Contracts.{Searchable, LargestAt, StepsRoom, Collected, RelaxedAll, Turned, Askable, AskableAlone, Begun, alone, Spread, SettledAll};
+ghost use Rattle.spread.specs.Ring.{Reached, Lacks, Hops, RingIn};
+
+// The gain of step v.
+fn gain_at(gains: &[u64], v: usize) -> u64
+    requires { ⌜ v < length (now gains) ⌝ }
+    ensures { λ r. ⌜ r ≡ at (now (gains .entry)) v ⌝ }
+{
+    gains[v]
+}
+
+// Among the first k places of the list, one that has a step of largest gain.
+fn largest(list: &[u16], k: usize, gains: &[u64]) -> usize
+    requires { ⌜ Searchable (now gains) (now list) k ⌝ }
+    ensures { λ r. ⌜ LargestAt (at (now (gains .entry))) (at (now (list .entry))) k r ⌝ }
+{
+    let mut best = 0;
+    let mut top = gain_at(gains, leaf::number_at(list, 0));
+    let mut j = 1;
+    while j < k {
+        let gain = gain_at(gains, leaf::number_at(list, j));
+        if top < gain {
+            top = gain;
+            best = j;
+        }
+        j += 1;
+    }
+    best
+}
+
+// Puts each step below n with a gain into the list, names no rule for it, and gives back how many there are.
+fn collect(n: usize, gains: &[u64], by: &mut [u16], list: &mut [u16]) -> usize
+    requires { ⌜ n ≤ STEPS ⌝ }
+    requires { ⌜ StepsRoom n (now gains) (now by) (now list) ⌝ }
+    ensures { λ r. ⌜ Collected n (at (now (gains .entry))) (at (now (by .exit))) (at (now (list .exit))) r ⌝ }
+{
+    let mut k = 0;
+    let mut v = 0;
+    while v < n {
+        if 0 < gain_at(gains, v) {
+            list[k] = v as u16;
+            by[v] = 0;
+            k += 1;
+        }
+        v += 1;
+    }
+    k
+}
+
+// Relaxes the rule under i, where `reach` is the day of its first step with its gain, plus 2147483648: where the rule asks more of its second
+// step than that has, its gain is raised to just that and the rule is named for it; and where it had no gain, it is put at the end of the
+// list. Gives back how many steps the list has then.
+fn relax(
+    i: usize,
+    reach: u64,
+    ys: &[u16],
+    cs: &[i32],
+    days: &[u32],
+    gains: &mut [u64],
+    by: &mut [u16],
+    list: &mut [u16],
+    k: usize,
+) -> usize
+    requires { ⌜ Relaxable (now ys) (now cs) (now days) (now gains) (now by) (now list) k i ⌝ }
+    ensures { λ r. ⌜
+        Relaxed (now (ys .entry)) (now (cs .entry)) (now (days .entry)) i reach
+        (now (gains .entry)) (now (by .entry)) (now (list .entry)) k
+        (now (gains .exit)) (now (by .exit)) (now (list .exit)) r ⌝ }
+{
+    let y = leaf::number_at(ys, i);
+    let far = leaf::day_at(days, y) + leaf::amount_at(cs, i);
+    let have = gains[y];
+    if reach <= far + have {
+        return k;
+    }
+    gains[y] = reach - far;
+    by[y] = (i + 1) as u16;
+    if 0 < have {
+        return k;
+    }
+    list[k] = y as u16;
+    k + 1
+}
+
+// Relaxes each rule of step x. Gives back how many steps the list has then.
+fn relax_all(
+    n: usize,
+    m: usize,
+    xs: &[u16],
+    ys: &[u16],
+    cs: &[i32],
+    days: &[u32],
+    heads: &[u16],
+    nexts: &[u16],
+    x: usize,
+    gains: &mut [u64],
+    by: &mut [u16],
+    list: &mut [u16],
+    k: usize,
+) -> usize
+    requires { ⌜ Ground n m (now xs) (now ys) (now cs) (now days) (now heads) (now nexts) ⌝ }
+    requires { ⌜ StepsRoom n (now gains) (now by) (now list) ⌝ }
+    requires { ⌜ Ready n (at (now gains)) (at (now list)) k ⌝ }
+    requires { ⌜ x < n ⌝ }
+    ensures { λ r. ⌜
+        RelaxedAll n m (now (xs .entry)) (now (ys .entry)) (now (cs .entry)) (now (days .entry)) (now (heads .entry)) x
+        (now (gains .entry)) (now (by .entry)) (now (list .entry)) k
+        (now (gains .exit)) (now (by .exit)) (now (list .exit)) r ⌝ }
+{
+    let reach = leaf::day_at(days, x) + gain_at(gains, x) + 2147483648;
+    let mut count = k;
+    let mut link = leaf::number_at(heads, x);
+    while 0 < link {
+        let i = link - 1;
+        count = relax(i, reach, ys, cs, days, gains, by, list, count);
+        link = leaf::number_at(nexts, i);
+    }
+    count
+}
+
+// One turn: settles a step of largest gain in the list, which has one, and relaxes its rules. Gives back how many steps the list has then.
+fn turn(
+    n: usize,
+    m: usize,
+    xs: &[u16],
+    ys: &[u16],
+    cs: &[i32],
+    days: &[u32],
+    heads: &[u16],
+    nexts: &[u16],
+    gains: &mut [u64],
+    by: &mut [u16],
+    list: &mut [u16],
+    k: usize,
+) -> usize
+    requires { ⌜ Ground n m (now xs) (now ys) (now cs) (now days) (now heads) (now nexts) ⌝ }
+    requires { ⌜ StepsRoom n (now gains) (now by) (now list) ⌝ }
+    requires { ⌜ Ready n (at (now gains)) (at (now list)) k ⌝ }
+    requires { ⌜ 0 < k ⌝ }
+    ensures { λ r. ⌜
+        Turned n m (now (xs .entry)) (now (ys .entry)) (now (cs .entry)) (now (days .entry))
+        (now (gains .entry)) (now (by .entry)) (now (list .entry)) k
+        (now (gains .exit)) (now (by .exit)) (now (list .exit)) r ⌝ }
+{
+    let j = largest(list, k, gains);
+    let x = leaf::number_at(list, j);
+    list[j] = list[k - 1];
+    relax_all(
+        n,
+        m,
+        xs,
+        ys,
+        cs,
+        days,
+        heads,
+        nexts,
+        x,
+        gains,
+        by,
+        list,
+        k - 1,
+    )
+}
+
+// Gives step y, below n, the gain that is asked for there alone: y stands alone in the list, and no rule is named for it.
+fn begin(n: usize, y: usize, gain: u64, gains: &mut [u64], by: &mut [u16], list: &mut [u16])
+    requires { ⌜ n ≤ STEPS ⌝ }
+    requires { ⌜ AskableAlone n y gain (now gains) (now by) ⌝ }
+    requires { ⌜ n ≤ length (now list) ⌝ }
+    ensures { λ _. ⌜ Begun n y gain (now (gains .entry)) (now (gains .exit)) (now (by .exit)) (now (list .exit)) ⌝ }
+{
+    gains[y] = gain;
+    by[y] = 0;
+    list[0] = y as u16;
+}
+
+// Whether the goal is a step below n with a gain.
+fn reached(n: usize, gains: &[u64], goal: usize) -> bool
+    requires { ⌜ n ≤ length (now gains) ⌝ }
+    ensures { λ r. ⌜ Decides r ((goal < n) × (0 < at (now (gains .entry)) goal)) ⌝ }
+{
+    goal < n && 0 < gain_at(gains, goal)
+}
+
+// Turn by turn, settles the steps of the list, which first has k, and those that enter it, until none is left or the goal is a step with a gain.
+fn settle_all(
+    n: usize,
+    m: usize,
+    xs: &[u16],
+    ys: &[u16],
+    cs: &[i32],
+    days: &[u32],
+    heads: &[u16],
+    nexts: &[u16],
+    goal: usize,
+    gains: &mut [u64],
+    by: &mut [u16],
+    list: &mut [u16],
+    k: usize,
+)
+    requires { ⌜ Ground n m (now xs) (now ys) (now cs) (now days) (now heads) (now nexts) ⌝ }
+    requires { ⌜ StepsRoom n (now gains) (now by) (now list) ⌝ }
+    requires { ⌜ Ready n (at (now gains)) (at (now list)) k ⌝ }
+    ensures { λ _. ⌜
+        SettledAll n m (now (xs .entry)) (now (ys .entry)) (now (cs .entry)) (now (days .entry)) goal
+        (now (gains .entry)) (now (by .entry)) (now (list .entry)) k
+        (now (gains .exit)) (now (by .exit)) ⌝ }
+{
+    let mut left = k;
+    while 0 < left {
+        if reached(n, gains, goal) {
+            return;
+        }
+        left = turn(n, m, xs, ys, cs, days, heads, nexts, gains, by, list, left);
+    }
+}
+
+// Raises the gains of n steps as little as keeps each of m rules, which the days keep, where heads and nexts are the chains of the rules: the days
+// with their gains are then the earliest plan that is not before the days with the gains at entry. It stops early where the goal is a step below n
+// that has a gain. `by` has for each step with a gain the number, plus 1, of the rule that it came by, or 0 where it kept its gain.
+pub fn spread(
+    n: usize,
+    m: usize,
+    xs: &[u16],
+    ys: &[u16],
+    cs: &[i32],
+    days: &[u32],
+    heads: &[u16],
+    nexts: &[u16],
+    goal: usize,
+    gains: &mut [u64],
+    by: &mut [u16],
+)
+    requires { ⌜ Ground n m (now xs) (now ys) (now cs) (now days) (now heads) (now nexts) ⌝ }
+    requires { ⌜ Askable n (now gains) (now by) ⌝ }
+    ensures { λ _. ⌜
+        Spread n m (now (xs .entry)) (now (ys .entry)) (now (cs .entry)) (now (days .entry)) goal
+        (λ v. at (now (days .entry)) v + at (now (gains .entry)) v)
+        (now (gains .entry)) (now (gains .exit)) (now (by .exit)) ⌝ }
+{
+    let mut list = [0u16; meaning::STEPS];
+    let k = collect(n, gains, by, &mut list);
+    settle_all(
+        n,
+        m,
+        xs,
+        ys,
+        cs,
+        days,
+        heads,
+        nexts,
+        goal,
+        gains,
+        by,
+        &mut list,
+        k,
+    );
+}
+
+// The same, where the gain is asked for at step y alone and no step below n has one at entry.
+pub fn spread_one(
+    n: usize,
+    m: usize,
+    xs: &[u16],
+    ys: &[u16],
+    cs: &[i32],
+    days: &[u32],
+    heads: &[u16],
+    nexts: &[u16],
+    y: usize,
+    gain: u64,
+    goal: usize,
+    gains: &mut [u64],
+    by: &mut [u16],
+)
+    requires { ⌜ Ground n m (now xs) (now ys) (now cs) (now days) (now heads) (now nexts) ⌝ }
+    requires { ⌜ AskableAlone n y gain (now gains) (now by) ⌝ }
+    ensures { λ _. ⌜
+        Spread n m (now (xs .entry)) (now (ys .entry)) (now (cs .entry)) (now (days .entry)) goal
+        (λ v. at (now (days .entry)) v + alone y gain v)
+        (now (gains .entry)) (now (gains .exit)) (now (by .exit)) ⌝ }
+{
+    let mut list = [0u16; meaning::STEPS];
+    begin(n, y, gain, gains, by, &mut list);
+    settle_all(
+        n,
+        m,
+        xs,
+        ys,
+        cs,
+        days,
+        heads,
+        nexts,
+        goal,
+        gains,
+        by,
+        &mut list,
+        1,
+    );
+}
+
+// How many hops lead back to y from x, which the gain asked for at y alone has reached: a hop is to the first step of the rule that a step came by.
+fn hops(
+    n: usize,
+    m: usize,
+    xs: &[u16],
+    ys: &[u16],
+    cs: &[i32],
+    days: &[u32],
+    gains: &[u64],
+    by: &[u16],
+    x: usize,
+    y: usize,
+) -> usize
+    requires { ⌜ Reached n m (now xs) (now ys) (now cs) (now days) (now gains) (now by) x y ⌝ }
+    ensures { λ r. ⌜ Hops n (now (xs .entry)) (now (by .entry)) x y r ⌝ }
+{
+    let mut v = x;
+    let mut k = 0;
+    while v != y {
+        v = leaf::number_at(xs, leaf::number_at(by, v) - 1);
+        k += 1;
+    }
+    k
+}
+
+// Writes the ring of the refused rule x, y, c into the list and gives back its length: first the rule's would-be number m, then the held rules that
+// lead from y to x. The gain that y has, as much as the days lack for the rule, was asked for at y alone and has reached x.
+pub fn ring(
+    n: usize,
+    m: usize,
+    xs: &[u16],
+    ys: &[u16],
+    cs: &[i32],
+    days: &[u32],
+    gains: &[u64],
+    by: &[u16],
+    x: usize,
+    y: usize,
+    c: i32,
+    list: &mut [u32],
+) -> usize
+    requires { ⌜ Reached n m (now xs) (now ys) (now cs) (now days) (now gains) (now by) x y ⌝ }
+    requires { ⌜ Lacks (now days) (now gains) x y c ⌝ }
+    requires { ⌜ n ≤ length (now list) ⌝ }
+    ensures { λ r. ⌜ RingIn m (now (xs .entry)) (now (ys .entry)) (now (cs .entry)) x y c r (now (list .entry)) (now (list .exit)) ⌝ }
+{
+    let k = hops(n, m, xs, ys, cs, days, gains, by, x, y) + 1;
+    let mut v = x;
+    let mut j = k;
+    while v != y {
+        let i = leaf::number_at(by, v) - 1;
+        j -= 1;
+        list[j] = i as u32;
+        v = leaf::number_at(xs, i);
+    }
+    list[0] = m as u32;
+    k
+}
