@@ -1,0 +1,22 @@
+-- `goback::keep_first` meets its contract: the days stay where all rules do; else the first k rules, which the days keep, are planned.
+use Rattle.goback.proofs.Replanning.{plannable-first}
+use Rattle.goback.proofs.Dropping.{all-stay}
+use Rattle.goback.proofs.keep_first.Statement.{statement}
+use Rattle.goback.proofs.keep_first.Tie as tie
+
+returns : tie.Need-returns
+returns c = all-stay (c .before .before .before .before .pre) (c .if1 .taken)
+
+plan-requires : tie.Need-plan-requires
+plan-requires c κs =
+    let start = c .before .before .before .before .before in
+    plannable-first (start .pre .plannable) (start .pre .stay)
+
+same-length : tie.Need-same-length
+same-length c = c .before .before .plan .kept .1 .1 .1 .1 .1 .0
+
+returns-2 : tie.Need-returns-2
+returns-2 c = c .before .before .plan .ensures
+
+pub keep-first-spec : {M : Type 1} → statement M
+keep-first-spec = tie.close (tie.spec returns plan-requires same-length returns-2)

@@ -1,0 +1,2 @@
+-- What the contracts of going back cite.
+pub mod Replan

@@ -1,0 +1,3 @@
+-- Laws that the proofs of the inner calls share.
+pub mod Equal
+pub mod Clearing

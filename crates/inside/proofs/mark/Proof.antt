@@ -1,0 +1,37 @@
+-- `inside::mark`: no place left is FULL; else one cell and one count are written, as the promise says.
+use Prim.Native.Nat.{_<_}
+use mathlib.Core.Path.{_≡_, refl}
+use mathlib.Core.Logic.{inl, inr}
+use Rattle.meaning.specs.Bounds.{FULL}
+use Rattle.meaning.proofs.Needs.{obeys-done, obeys-refused}
+use native.Mathlib.Omega.{arith}
+use borrow.Author.Needs.{needs}
+use Rattle.inside.proofs.mark.Statement.{statement}
+use Rattle.inside.proofs.mark.Tie as tie
+use Rattle.inside.proofs.mark.Reads as reads
+use Rattle.inside.proofs.mark.Lts as lts
+
+cast-at : tie.Need-cast-at
+cast-at c = search needs
+
+returns : tie.Need-returns
+returns c = obeys-refused _ _ FULL (λ e. omega arith) (λ e. omega arith) (inr (c .before .before .pre .room, inr (c .before .before .pre .sound, inl (refl, λ h. omega arith))))
+
+mul-marks : tie.Need-mul-marks
+mul-marks c = search needs
+
+slice-write-marks : tie.Need-slice-write-marks
+slice-write-marks c = search needs
+
+add-t15 : tie.Need-add-t15
+add-t15 c = search needs
+
+same-length : tie.Need-same-length
+same-length c = search needs
+
+returns-2 : tie.Need-returns-2
+returns-2 c = obeys-done _ _ 0 0 _ (c .before .before .before .pre .room, (c .before .before .before .pre .sound, (omega arith, tt))) (record { no-values = (refl, refl); marked = refl })
+
+pub mark-spec : {M : Type 1} → statement M
+mark-spec =
+    tie.close (tie.spec cast-at returns mul-marks slice-write-marks add-t15 same-length returns-2)

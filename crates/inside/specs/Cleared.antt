@@ -1,0 +1,11 @@
+-- Days set to 0.
+use Prim.Native.Nat.{ℕ, _<_}
+use mathlib.Core.Path.{_≡_}
+use mathlib.Core.List.{List}
+use Rattle.meaning.specs.Tables.{at}
+use Rattle.meaning.specs.Promise.{Past}
+
+-- The first n days are 0, and from place n on the days are as before.
+pub record Cleared (n : ℕ) (before after : List ℕ) : Type 0 where
+  pub day-0 : (v : ℕ) → v < n → at after v ≡ 0
+  pub past : Past n before after

@@ -1,0 +1,2 @@
+-- What the inner calls' contracts cite.
+pub mod Cleared

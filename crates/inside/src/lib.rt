@@ -1,0 +1,132 @@
+// The calls on tables that are known to have room and to be sound. They are not for callers outside: the public calls check their tables and
+// then call these.
+ghost use mathlib.Core.Path.{_≡_};
+ghost use Prim.Native.Nat.{_≤_};
+ghost use lib.ListN.{length};
+ghost use Rattle.inside.specs.Cleared.{Cleared};
+ghost use lib.IntN.{ℤ};
+ghost use Rattle.meaning.specs.Rules.{InSteps};
+ghost use Rattle.meaning.specs.Tables.{put};
+ghost use Rattle.leaf.specs.Decides.{Decides};
+ghost use Rattle.leaf.specs.Lent.{columns, tables, Placed};
+ghost use Rattle.leaf.specs.Promises.{rule, Border, Watches, Marks};
+use meaning::Answer;
+use meaning::Counts;
+use meaning::Reply;
+
+// Whether both steps are below n.
+pub fn steps_fit(n: usize, x: u16, y: u16) -> bool
+    ensures { λ r. ⌜ ((c : ℤ) → Decides r (InSteps n (rule x y c))) ⌝ }
+{
+    if n <= x as usize {
+        return false;
+    }
+    (y as usize) < n
+}
+
+// Writes the rule x, y, c under number i.
+pub fn write_rule(xs: &mut [u16], ys: &mut [u16], cs: &mut [i32], i: usize, x: u16, y: u16, c: i32)
+    requires { ⌜ Placed (now xs) (now ys) (now cs) i ⌝ }
+    ensures { λ _. ⌜ columns (now (xs .exit)) (now (ys .exit)) (now (cs .exit)) ≡ put (columns (now (xs .entry)) (now (ys .entry)) (now (cs .entry))) i (rule x y c) ⌝ }
+{
+    xs[i] = x;
+    ys[i] = y;
+    cs[i] = c;
+}
+
+// Watch: STEP or AMOUNT where the rule is not within bounds, FULL where no place is left; else the rule stands at the end of the watched list.
+pub fn watch(
+    counts: Counts,
+    xs: &[u16],
+    ys: &[u16],
+    cs: &[i32],
+    days: &[u32],
+    marks: &[u32],
+    wxs: &mut [u16],
+    wys: &mut [u16],
+    wcs: &mut [i32],
+    x: u16,
+    y: u16,
+    c: i32,
+) -> Reply
+    requires { ⌜ Border (tables counts (now xs) (now ys) (now cs) (now days) (now marks) (now wxs) (now wys) (now wcs)) ⌝ }
+    ensures { λ r. ⌜
+        Watches counts (now (xs .entry)) (now (ys .entry)) (now (cs .entry)) (now (days .entry)) (now (marks .entry))
+        (now (wxs .entry)) (now (wys .entry)) (now (wcs .entry)) x y c r (now (wxs .exit)) (now (wys .exit)) (now (wcs .exit)) ⌝ }
+{
+    if !steps_fit(counts.steps as usize, x, y) {
+        return Reply {
+            counts: counts,
+            answer: Answer::Step,
+        };
+    }
+    if !leaf::amount_fits(c) {
+        return Reply {
+            counts: counts,
+            answer: Answer::Amount,
+        };
+    }
+    let at = counts.watched as usize;
+    if meaning::WATCHED <= at {
+        return Reply {
+            counts: counts,
+            answer: Answer::Full,
+        };
+    }
+    write_rule(wxs, wys, wcs, at, x, y, c);
+    Reply {
+        counts: Counts {
+            steps: counts.steps,
+            rules: counts.rules,
+            marks: counts.marks,
+            watched: counts.watched + 1,
+        },
+        answer: Answer::Done(0, 0),
+    }
+}
+
+// Mark: FULL where no place is left; else the rule count is the newest mark.
+pub fn mark(
+    counts: Counts,
+    xs: &[u16],
+    ys: &[u16],
+    cs: &[i32],
+    days: &[u32],
+    marks: &mut [u32],
+    wxs: &[u16],
+    wys: &[u16],
+    wcs: &[i32],
+) -> Reply
+    requires { ⌜ Border (tables counts (now xs) (now ys) (now cs) (now days) (now marks) (now wxs) (now wys) (now wcs)) ⌝ }
+    ensures { λ r. ⌜
+        Marks counts (now (xs .entry)) (now (ys .entry)) (now (cs .entry)) (now (days .entry)) (now (marks .entry))
+        (now (wxs .entry)) (now (wys .entry)) (now (wcs .entry)) r (now (marks .exit)) ⌝ }
+{
+    let at = counts.marks as usize;
+    if meaning::MARKS <= at {
+        return Reply {
+            counts: counts,
+            answer: Answer::Full,
+        };
+    }
+    marks[at] = counts.rules;
+    Reply {
+        counts: Counts {
+            steps: counts.steps,
+            rules: counts.rules,
+            marks: counts.marks + 1,
+            watched: counts.watched,
+        },
+        answer: Answer::Done(0, 0),
+    }
+}
+
+// Sets the first n days to 0.
+pub fn clear_days(n: usize, days: &mut [u32])
+    requires { ⌜ n ≤ length (now days) ⌝ }
+    ensures { λ _. ⌜ Cleared n (now (days .entry)) (now (days .exit)) ⌝ }
+{
+    for v in 0..n {
+        days[v] = 0;
+    }
+}

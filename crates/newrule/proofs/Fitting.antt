@@ -1,0 +1,111 @@
+-- Whether a new rule fits, from what the days lack for it and from the spread of that gain.
+use Prim.Native.Nat.{ℕ, _+_, _^_, _≤_, _<_}
+use native.Mathlib.Omega.{arith}
+use native.Mathlib.Decide.{ℕ-discrete}
+use mathlib.Core.Path.{_≡_, refl, sym, _∙_, ap, subst}
+use mathlib.Core.Bool.{Bool, true, false, true≢false, false≢true}
+use mathlib.Core.List.{List}
+use lib.Dec.{eqb}
+use lib.ListN.{length}
+use borrow.Author.Tests.{eqb-true, eqb-false}
+use lib.IntN.{ℤ, pos}
+use Rattle.meaning.specs.Rules.{Rule, Keeps, InSteps, Earliest, more, plus}
+use Rattle.meaning.specs.Tables.{at}
+use Rattle.meaning.proofs.Whole.{up, dn}
+use Rattle.meaning.proofs.More.{more-all}
+use Rattle.meaning.proofs.Theory.{earliest-ext}
+use Rattle.leaf.specs.Promises.{rule}
+use Rattle.spread.specs.Ground.{rules, first, Ground}
+use Rattle.spread.specs.Trace.{Traced}
+use Rattle.spread.specs.Contracts.{alone, Spread}
+use Rattle.spread.specs.Ring.{Reached, Lacks}
+use Rattle.spread.proofs.Collecting.{alone-there, alone-elsewhere}
+use Rattle.spread.proofs.Uses.{gains-bounded, kept-earliest, added-earliest}
+use Rattle.newrule.specs.Planning.{Lack, Plannable, Planned}
+
+module _ (n m : ℕ) (xs ys : List ℕ) (cs : List ℤ) (days heads nexts gains by : List ℕ) (x y : ℕ) (c : ℤ) (p : Plannable n m xs ys cs days heads nexts gains by x y) where
+  -- The steps of the rules held, and of the new rule, are below n.
+  new-in : InSteps n (rule x y c)
+  new-in = record { first-in = p .first-in; second-in = p .second-in }
+
+  all-in : (i : ℕ) → plus (first m) m i → InSteps n (more (rules xs ys cs) m (rule x y c) i)
+  all-in = more-all (InSteps n) (rules xs ys cs) (first m) m (rule x y c) new-in (p .ground .in-steps)
+
+  -- The days keep the rule: with no gain they are the earliest plan with it.
+  pub fits-at-once : Keeps (λ v. pos (at days v)) (rule x y c) → (by′ : List ℕ) → Planned n m xs ys cs days gains by′ x y c true
+  fits-at-once kept by′ =
+      record {
+        earliest =
+            λ e.
+            earliest-ext
+            n
+            (more (rules xs ys cs) m (rule x y c))
+            (plus (first m) m)
+            (at days)
+            (λ v. at days v + at gains v)
+            all-in
+            (λ v h. omega (arith, p .none-yet v h))
+            (kept-earliest n (rules xs ys cs) (first m) (at days) m (rule x y c) (λ h. omega arith) (p .earliest) kept);
+        reached = λ e. absurd (true≢false e);
+        lacks = λ e. absurd (true≢false e);
+      }
+
+  module _ (gain : ℕ) (lack : at days x + dn c ≡ at days y + gain + up c) (before gains′ by′ : List ℕ) (by-room : n ≤ length by′) (s : Spread n m xs ys cs days x (λ v. at days v + alone y gain v) before gains′ by′) where
+    -- The gain of y stays what was asked.
+    gain-stays : at gains′ y ≡ gain
+    gain-stays =
+        omega (
+          arith,
+          s .forced .not-below y (p .second-in),
+          alone-there y gain y refl,
+          gains-bounded n (rules xs ys cs) (first m) (at days) (alone y gain) (at gains′) gain (p .ground .plan) (s .forced) most y (p .second-in),
+        )
+      where
+        most : (v : ℕ) → v < n → alone y gain v ≤ gain
+        most v h = tell (ℕ-discrete v y)
+          where
+            tell : Dec (v ≡ y) → alone y gain v ≤ gain
+            tell (yes e) = omega (arith, alone-there y gain v e)
+            tell (no e) = omega (arith, alone-elsewhere y gain v e)
+
+    -- It has not reached x: the days with their gains are the earliest plan.
+    earliest-where : at gains′ x ≡ 0 → Earliest n (more (rules xs ys cs) m (rule x y c)) (plus (first m) m) (λ v. at days v + at gains′ v)
+    earliest-where none =
+        added-earliest
+        n
+        (rules xs ys cs)
+        (first m)
+        (at days)
+        (alone y gain)
+        (at gains′)
+        m
+        (rule x y c)
+        (λ h. omega arith)
+        new-in
+        (p .earliest)
+        (omega (arith, lack, alone-there y gain y refl))
+        (λ v h other. alone-elsewhere y gain v other)
+        (record { plan = s .plan (λ h. none); forced = s .forced })
+        none
+
+    -- It has reached x.
+    reached-where : 0 < at gains′ x → Reached n m xs ys cs days gains′ by′ x y
+    reached-where some =
+        record {
+          first-in = p .first-in;
+          second-in = p .second-in;
+          rules-in = p .ground .rules-in;
+          firsts-room = p .ground .rules-room .firsts-room;
+          by-room = by-room;
+          in-steps = p .ground .in-steps;
+          plan = p .ground .plan;
+          traced = subst (λ k. Traced n (rules xs ys cs) (first m) (at days) (λ v. at days v + alone y k v) (at gains′) (at by′)) (sym gain-stays) (s .traced);
+          reached = some;
+        }
+
+    pub planned : Planned n m xs ys cs days gains′ by′ x y c (eqb (at gains′ x) 0)
+    planned = record {
+      earliest = λ e. earliest-where (eqb-true (at gains′ x) 0 e);
+      reached = λ e. reached-where (omega (arith, eqb-false (at gains′ x) 0 e));
+      lacks = λ e. omega (arith, lack, gain-stays);
+    }

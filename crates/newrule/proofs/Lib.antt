@@ -1,0 +1,4 @@
+-- Laws of planning a new rule.
+pub mod Raising
+pub mod Fitting
+pub mod Answers

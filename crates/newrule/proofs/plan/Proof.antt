@@ -1,0 +1,71 @@
+-- `newrule::plan`: with nothing lacking the days stay; else the gain that is lacking is spread, and x tells whether the rule fits.
+use Prim.Native.Nat.{_<_}
+use mathlib.Core.Path.{_≡_}
+use mir.Syntax.{w32}
+use mir.ValLaws.{toZ-ofZ}
+use Rattle.newrule.specs.Planning.{Lack}
+use Rattle.newrule.proofs.Fitting.{fits-at-once, planned}
+use native.Mathlib.Omega.{arith}
+use borrow.Author.Needs.{needs}
+use Rattle.newrule.proofs.plan.Statement.{statement}
+use Rattle.newrule.proofs.plan.Tie as tie
+use Rattle.newrule.proofs.plan.Reads as reads
+use Rattle.newrule.proofs.plan.Lts as lts
+use Rattle.newrule.proofs.lack.Reads as lack-reads
+use Rattle.spread.proofs.spread_one.Reads as spread-one-reads
+
+lack-requires : tie.Need-lack-requires
+lack-requires c κs = search needs
+
+returns : tie.Need-returns
+returns c =
+    let l : Lack (c .before .before .before .before .before .before .before .before .before .args .days .now) (c .before .before .before .before .before .before .before .before .before .args .x) (c .before .before .before .before .before .before .before .before .before .args .y) (c .before .before .before .before .before .before .before .before .before .args .c) (c .before .lack .result) = rw (toZ-ofZ w32 (c .before .before .before .before .before .before .before .before .before .args .c) (c .before .before .before .before .before .before .before .before .before .fits .c)) at (c .before .lack .ensures) in
+    fits-at-once (c .before .before .before .before .before .before .before .before .before .args .n) (c .before .before .before .before .before .before .before .before .before .args .m) (c .before .before .before .before .before .before .before .before .before .args .xs .now) (c .before .before .before .before .before .before .before .before .before .args .ys .now) (c .before .before .before .before .before .before .before .before .before .args .cs .now) (c .before .before .before .before .before .before .before .before .before .args .days .now)
+    (c .before .before .before .before .before .before .before .before .before .args .heads .now) (c .before .before .before .before .before .before .before .before .before .args .nexts .now) (c .before .before .before .before .before .before .before .before .before .args .gains .now) (c .before .before .before .before .before .before .before .before .before .args .by .now) (c .before .before .before .before .before .before .before .before .before .args .x) (c .before .before .before .before .before .before .before .before .before .args .y) (c .before .before .before .before .before .before .before .before .before .args .c)
+    (c .before .before .before .before .before .before .before .before .before .pre) (l .none (c .if1 .taken)) (c .before .before .before .before .before .before .before .before .before .args .by .now)
+
+spread-one-requires : tie.Need-spread-one-requires
+spread-one-requires c κs =
+    let l : Lack (c .before .before .before .before .before .before .before .before .before .before .before .args .days .now) (c .before .before .before .before .before .before .before .before .before .before .before .args .x) (c .before .before .before .before .before .before .before .before .before .before .before .args .y) (c .before .before .before .before .before .before .before .before .before .before .before .args .c) (c .before .before .before .lack .result) = rw (toZ-ofZ w32 (c .before .before .before .before .before .before .before .before .before .before .before .args .c) (c .before .before .before .before .before .before .before .before .before .before .before .fits .c)) at (c .before .before .before .lack .ensures) in (
+      c .before .before .before .before .before .before .before .before .before .before .before .pre .ground,
+      record {
+        step-in = c .before .before .before .before .before .before .before .before .before .before .before .pre .second-in;
+        some = omega (arith, c .before .before .if1 .left);
+        small = l .small;
+        none-yet = c .before .before .before .before .before .before .before .before .before .before .before .pre .none-yet;
+        gains-room = c .before .before .before .before .before .before .before .before .before .before .before .pre .gains-room;
+        by-room = c .before .before .before .before .before .before .before .before .before .before .before .pre .by-room;
+      },
+    )
+
+mul-result : tie.Need-mul-result
+mul-result c = search needs
+
+slice-read-result : tie.Need-slice-read-result
+slice-read-result c = search needs
+
+same-length : tie.Need-same-length
+same-length c = search needs
+
+same-length-2 : tie.Need-same-length-2
+same-length-2 c = search needs
+
+returns-2 : tie.Need-returns-2
+returns-2 c =
+    let l : Lack (c .before .before .before .before .before .before .before .before .before .before .before .before .before .before .before .before .before .args .days .now) (c .before .before .before .before .before .before .before .before .before .before .before .before .before .before .before .before .before .args .x) (c .before .before .before .before .before .before .before .before .before .before .before .before .before .before .before .before .before .args .y) (c .before .before .before .before .before .before .before .before .before .before .before .before .before .before .before .before .before .args .c) (c .before .before .before .before .before .before .before .before .before .lack .result) = rw (toZ-ofZ w32 (c .before .before .before .before .before .before .before .before .before .before .before .before .before .before .before .before .before .args .c) (c .before .before .before .before .before .before .before .before .before .before .before .before .before .before .before .before .before .fits .c)) at (c .before .before .before .before .before .before .before .before .before .lack .ensures) in
+    planned (c .before .before .before .before .before .before .before .before .before .before .before .before .before .before .before .before .before .args .n) (c .before .before .before .before .before .before .before .before .before .before .before .before .before .before .before .before .before .args .m) (c .before .before .before .before .before .before .before .before .before .before .before .before .before .before .before .before .before .args .xs .now) (c .before .before .before .before .before .before .before .before .before .before .before .before .before .before .before .before .before .args .ys .now) (c .before .before .before .before .before .before .before .before .before .before .before .before .before .before .before .before .before .args .cs .now) (c .before .before .before .before .before .before .before .before .before .before .before .before .before .before .before .before .before .args .days .now)
+    (c .before .before .before .before .before .before .before .before .before .before .before .before .before .before .before .before .before .args .heads .now) (c .before .before .before .before .before .before .before .before .before .before .before .before .before .before .before .before .before .args .nexts .now) (c .before .before .before .before .before .before .before .before .before .before .before .before .before .before .before .before .before .args .gains .now) (c .before .before .before .before .before .before .before .before .before .before .before .before .before .before .before .before .before .args .by .now) (c .before .before .before .before .before .before .before .before .before .before .before .before .before .before .before .before .before .args .x) (c .before .before .before .before .before .before .before .before .before .before .before .before .before .before .before .before .before .args .y) (c .before .before .before .before .before .before .before .before .before .before .before .before .before .before .before .before .before .args .c)
+    (c .before .before .before .before .before .before .before .before .before .before .before .before .before .before .before .before .before .pre) (c .before .before .before .before .before .before .before .before .before .lack .result) (l .some (omega (arith, c .before .before .before .before .before .before .before .before .if1 .left))) _ _ _ (omega (arith, c .before .before .before .before .before .spread-one .kept .1 .1 .1 .1 .1 .1 .1 .1 .1 .1 .1 .1 .0, c .before .before .before .before .before .before .before .before .before .before .before .before .before .before .before .before .before .pre .by-room)) (c .before .before .before .before .before .spread-one .ensures)
+
+pub plan-spec : {M : Type 1} → statement M
+plan-spec =
+    tie.close
+    (tie.spec
+    lack-requires
+    returns
+    spread-one-requires
+    mul-result
+    slice-read-result
+    same-length
+    same-length-2
+    returns-2)

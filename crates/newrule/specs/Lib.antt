@@ -1,0 +1,4 @@
+-- What the contracts of Add and Trial cite.
+pub mod Planning
+pub mod Lending
+pub mod Kept

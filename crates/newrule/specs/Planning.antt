@@ -1,0 +1,52 @@
+-- Planning a new rule: what the days lack for it, the gains that it asks, and the days with their gains.
+use Prim.Native.Nat.{ℕ, _+_, _^_, _≤_, _<_}
+use mathlib.Core.Path.{_≡_}
+use mathlib.Core.Bool.{Bool, true, false}
+use mathlib.Core.List.{List}
+use lib.ListN.{length}
+use lib.IntN.{ℤ, pos}
+use Rattle.meaning.specs.Bounds.{STEPS}
+use Rattle.meaning.specs.Rules.{Rule, Keeps, InSteps, Earliest, more, plus}
+use Rattle.meaning.specs.Tables.{at}
+use Rattle.meaning.specs.Promise.{Past, moved}
+use Rattle.meaning.proofs.Whole.{up, dn}
+use Rattle.leaf.specs.Promises.{rule}
+use Rattle.spread.specs.Ground.{rules, first, Ground}
+use Rattle.spread.specs.Ring.{Reached, Lacks}
+
+-- r is what the days lack for the rule x, y, c: 0 where they keep it.
+pub record Lack (days : List ℕ) (x y : ℕ) (c : ℤ) (r : ℕ) : Type 0 where
+  pub none : r ≡ 0 → Keeps (λ v. pos (at days v)) (rule x y c)
+  pub some : 0 < r → at days x + dn c ≡ at days y + r + up c
+  pub small : r < 2 ^ 62
+
+-- The rule x, y, c can be planned: the days are the earliest plan of the first m rules, no step has a gain yet, and all have their places.
+pub record Plannable (n m : ℕ) (xs ys : List ℕ) (cs : List ℤ) (days heads nexts gains by : List ℕ) (x y : ℕ) : Type 0 where
+  pub ground : Ground n m xs ys cs days heads nexts
+  pub earliest : Earliest n (rules xs ys cs) (first m) (at days)
+  pub first-in : x < n
+  pub second-in : y < n
+  pub none-yet : (v : ℕ) → v < n → at gains v ≡ 0
+  pub gains-room : n ≤ length gains
+  pub by-room : n ≤ length by
+
+-- The list has the days with their gains in its first n places, r of them other than the days, and from place n on what it had.
+pub record Raised (n : ℕ) (days gains before after : List ℕ) (r : ℕ) : Type 0 where
+  pub each : (v : ℕ) → v < n → at after v ≡ at days v + at gains v
+  pub past : Past n before after
+  pub count : r ≡ moved n days after
+
+-- The days with their gains fit a u32, and there is a place for each.
+pub record Raisable (n : ℕ) (days gains list : List ℕ) : Type 0 where
+  pub days-room : n ≤ length days
+  pub gains-room : n ≤ length gains
+  pub list-room : n ≤ length list
+  pub few : n ≤ STEPS
+  pub fits : (v : ℕ) → v < n → at days v + at gains v < 2 ^ 32
+
+-- The rule x, y, c was planned. It fits: the days with their gains are the earliest plan of the first m rules and of it. Or the gain that it asks of
+-- y has reached x.
+pub record Planned (n m : ℕ) (xs ys : List ℕ) (cs : List ℤ) (days gains by : List ℕ) (x y : ℕ) (c : ℤ) (fits : Bool) : Type 0 where
+  pub earliest : fits ≡ true → Earliest n (more (rules xs ys cs) m (rule x y c)) (plus (first m) m) (λ v. at days v + at gains v)
+  pub reached : fits ≡ false → Reached n m xs ys cs days gains by x y
+  pub lacks : fits ≡ false → Lacks days gains x y c

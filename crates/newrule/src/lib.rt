@@ -1,0 +1,356 @@
+// Add and Trial on tables that are known to have room and to be sound. A rule that the days break asks a gain of its second step, just what
+// the days lack; the gain is spread, and where it reaches the rule's first step there is a ring, else the days with their gains are the earliest plan.
+ghost use Prim.Native.Nat.{_<_, _≤_};
+ghost use lib.ListN.{length};
+ghost use Rattle.meaning.specs.Tables.{at};
+ghost use Rattle.meaning.specs.Bounds.{STEPS};
+ghost use Rattle.leaf.specs.Lent.{tables};
+ghost use Rattle.leaf.specs.Promises.{Border, Adds, Tries};
+ghost use Rattle.newrule.specs.Lending.{Ready, LentChains};
+ghost use Rattle.newrule.specs.Kept.{BothRoom, TrialKept, AddKept};
+ghost use Rattle.newrule.specs.Planning.{Lack, Plannable, Planned, Raised, Raisable};
+use meaning::Answer;
+use meaning::Counts;
+use meaning::Reply;
+
+// What the days lack for the rule x, y, c: 0 where they keep it.
+fn lack(days: &[u32], x: usize, y: usize, c: i32) -> u64
+    requires { ⌜ x < length (now days) ⌝ }
+    requires { ⌜ y < length (now days) ⌝ }
+    ensures { λ r. ⌜ Lack (now (days .entry)) x y c r ⌝ }
+{
+    let asked = leaf::day_at(days, x) + 2147483648;
+    let given = leaf::day_at(days, y) + leaf::biased(c);
+    if asked <= given {
+        return 0;
+    }
+    asked - given
+}
+
+// Plans the rule x, y, c, and says whether it fits: then the days with their gains are the earliest plan with it; else the gain asked of y, as
+// much as the days lack, has reached x.
+fn plan(
+    n: usize,
+    m: usize,
+    xs: &[u16],
+    ys: &[u16],
+    cs: &[i32],
+    days: &[u32],
+    heads: &[u16],
+    nexts: &[u16],
+    x: usize,
+    y: usize,
+    c: i32,
+    gains: &mut [u64],
+    by: &mut [u16],
+) -> bool
+    requires { ⌜ Plannable n m (now xs) (now ys) (now cs) (now days) (now heads) (now nexts) (now gains) (now by) x y ⌝ }
+    ensures { λ r. ⌜ Planned n m (now (xs .entry)) (now (ys .entry)) (now (cs .entry)) (now (days .entry)) (now (gains .exit)) (now (by .exit)) x y c r ⌝ }
+{
+    let lacks = lack(days, x, y, c);
+    if lacks == 0 {
+        return true;
+    }
+    spread::spread_one(n, m, xs, ys, cs, days, heads, nexts, y, lacks, x, gains, by);
+    gains[x] == 0
+}
+
+// Writes the days with their gains into the first n places of the list, and gives back how many differ from the days.
+fn write_days(n: usize, days: &[u32], gains: &[u64], list: &mut [u32]) -> u32
+    requires { ⌜ Raisable n (now days) (now gains) (now list) ⌝ }
+    ensures { λ r. ⌜ Raised n (now (days .entry)) (now (gains .entry)) (now (list .entry)) (now (list .exit)) r ⌝ }
+{
+    let mut count = 0;
+    for v in 0..n {
+        let day = leaf::day_at(days, v);
+        let gain = gains[v];
+        list[v] = (day + gain) as u32;
+        if 0 < gain {
+            count += 1;
+        }
+    }
+    count
+}
+
+// Raises the first n days by their gains, and gives back how many moved.
+fn raise_days(n: usize, gains: &[u64], days: &mut [u32]) -> u32
+    requires { ⌜ Raisable n (now days) (now gains) (now days) ⌝ }
+    ensures { λ r. ⌜ Raised n (now (days .entry)) (now (gains .entry)) (now (days .entry)) (now (days .exit)) r ⌝ }
+{
+    let mut count = 0;
+    for v in 0..n {
+        let gain = gains[v];
+        if 0 < gain {
+            let day = leaf::day_at(days, v);
+            days[v] = (day + gain) as u32;
+            count += 1;
+        }
+    }
+    count
+}
+
+// Trial of a rule that can be asked for, with gains and by to work in.
+fn trial_fine(
+    counts: Counts,
+    xs: &[u16],
+    ys: &[u16],
+    cs: &[i32],
+    days: &[u32],
+    heads: &[u16],
+    nexts: &[u16],
+    gains: &mut [u64],
+    by: &mut [u16],
+    one: &mut [u32],
+    two: &mut [u32],
+    x: u16,
+    y: u16,
+    c: i32,
+) -> Reply
+    requires { ⌜ Ready (counts .steps) (counts .rules) (now xs) (now ys) (now cs) (now days) (now heads) (now nexts) (now gains) (now by) x y c ⌝ }
+    requires { ⌜ BothRoom (now one) (now two) ⌝ }
+    ensures { λ r. ⌜
+        TrialKept counts (now (xs .entry)) (now (ys .entry)) (now (cs .entry)) (now (days .entry)) (now (one .entry)) (now (two .entry))
+        x y c r (now (one .exit)) (now (two .exit)) ⌝ }
+{
+    let n = counts.steps as usize;
+    let m = counts.rules as usize;
+    if plan(
+        n,
+        m,
+        xs,
+        ys,
+        cs,
+        days,
+        heads,
+        nexts,
+        x as usize,
+        y as usize,
+        c,
+        gains,
+        by,
+    ) {
+        let moved = write_days(n, days, gains, one);
+        return Reply {
+            counts: counts,
+            answer: Answer::Done(moved, 0),
+        };
+    }
+    let k = spread::ring(
+        n,
+        m,
+        xs,
+        ys,
+        cs,
+        days,
+        gains,
+        by,
+        x as usize,
+        y as usize,
+        c,
+        two,
+    );
+    Reply {
+        counts: counts,
+        answer: Answer::Conflict(k as u32),
+    }
+}
+
+// Add of a rule that can be asked for, with gains and by to work in.
+fn add_fine(
+    counts: Counts,
+    xs: &mut [u16],
+    ys: &mut [u16],
+    cs: &mut [i32],
+    days: &mut [u32],
+    heads: &[u16],
+    nexts: &[u16],
+    gains: &mut [u64],
+    by: &mut [u16],
+    list: &mut [u32],
+    x: u16,
+    y: u16,
+    c: i32,
+) -> Reply
+    requires { ⌜ Ready (counts .steps) (counts .rules) (now xs) (now ys) (now cs) (now days) (now heads) (now nexts) (now gains) (now by) x y c ⌝ }
+    requires { ⌜ STEPS ≤ length (now list) ⌝ }
+    ensures { λ r. ⌜
+        AddKept counts (now (xs .entry)) (now (ys .entry)) (now (cs .entry)) (now (days .entry)) (now (list .entry)) x y c r
+        (now (xs .exit)) (now (ys .exit)) (now (cs .exit)) (now (days .exit)) (now (list .exit)) ⌝ }
+{
+    let n = counts.steps as usize;
+    let m = counts.rules as usize;
+    if plan(
+        n,
+        m,
+        xs,
+        ys,
+        cs,
+        days,
+        heads,
+        nexts,
+        x as usize,
+        y as usize,
+        c,
+        gains,
+        by,
+    ) {
+        let moved = raise_days(n, gains, days);
+        inside::write_rule(xs, ys, cs, m, x, y, c);
+        return Reply {
+            counts: Counts {
+                steps: counts.steps,
+                rules: counts.rules + 1,
+                marks: counts.marks,
+                watched: counts.watched,
+            },
+            answer: Answer::Done(moved, 0),
+        };
+    }
+    let k = spread::ring(
+        n,
+        m,
+        xs,
+        ys,
+        cs,
+        days,
+        gains,
+        by,
+        x as usize,
+        y as usize,
+        c,
+        list,
+    );
+    Reply {
+        counts: counts,
+        answer: Answer::Conflict(k as u32),
+    }
+}
+
+// Trial: STEP, AMOUNT, FULL in this order where the rule cannot be asked for; the days it would give, in list one, where it fits; else its ring,
+// in list two. No table is written.
+pub fn trial(
+    counts: Counts,
+    xs: &[u16],
+    ys: &[u16],
+    cs: &[i32],
+    days: &[u32],
+    marks: &[u32],
+    wxs: &[u16],
+    wys: &[u16],
+    wcs: &[i32],
+    heads: &[u16],
+    nexts: &[u16],
+    one: &mut [u32],
+    two: &mut [u32],
+    x: u16,
+    y: u16,
+    c: i32,
+) -> Reply
+    requires { ⌜ Border (tables counts (now xs) (now ys) (now cs) (now days) (now marks) (now wxs) (now wys) (now wcs)) ⌝ }
+    requires { ⌜ LentChains (counts .steps) (counts .rules) (now xs) (now heads) (now nexts) ⌝ }
+    requires { ⌜ BothRoom (now one) (now two) ⌝ }
+    ensures { λ r. ⌜
+        Tries counts (now (xs .entry)) (now (ys .entry)) (now (cs .entry)) (now (days .entry)) (now (marks .entry))
+        (now (wxs .entry)) (now (wys .entry)) (now (wcs .entry)) (now (one .entry)) (now (two .entry)) x y c r (now (one .exit)) (now (two .exit)) ⌝ }
+{
+    if !inside::steps_fit(counts.steps as usize, x, y) {
+        return Reply {
+            counts: counts,
+            answer: Answer::Step,
+        };
+    }
+    if !leaf::amount_fits(c) {
+        return Reply {
+            counts: counts,
+            answer: Answer::Amount,
+        };
+    }
+    if meaning::RULES <= counts.rules as usize {
+        return Reply {
+            counts: counts,
+            answer: Answer::Full,
+        };
+    }
+    let mut gains = [0u64; meaning::STEPS];
+    let mut by = [0u16; meaning::STEPS];
+    trial_fine(
+        counts,
+        xs,
+        ys,
+        cs,
+        days,
+        heads,
+        nexts,
+        &mut gains,
+        &mut by,
+        one,
+        two,
+        x,
+        y,
+        c,
+    )
+}
+
+// Add: STEP, AMOUNT, FULL in this order where the rule cannot be asked for; where it fits it is held and the days are brought up to date; else
+// its ring is in the list.
+pub fn add(
+    counts: Counts,
+    xs: &mut [u16],
+    ys: &mut [u16],
+    cs: &mut [i32],
+    days: &mut [u32],
+    marks: &[u32],
+    wxs: &[u16],
+    wys: &[u16],
+    wcs: &[i32],
+    heads: &[u16],
+    nexts: &[u16],
+    list: &mut [u32],
+    x: u16,
+    y: u16,
+    c: i32,
+) -> Reply
+    requires { ⌜ Border (tables counts (now xs) (now ys) (now cs) (now days) (now marks) (now wxs) (now wys) (now wcs)) ⌝ }
+    requires { ⌜ LentChains (counts .steps) (counts .rules) (now xs) (now heads) (now nexts) ⌝ }
+    requires { ⌜ STEPS ≤ length (now list) ⌝ }
+    ensures { λ r. ⌜
+        Adds counts (now (xs .entry)) (now (ys .entry)) (now (cs .entry)) (now (days .entry)) (now (marks .entry))
+        (now (wxs .entry)) (now (wys .entry)) (now (wcs .entry)) (now (list .entry)) x y c r
+        (now (xs .exit)) (now (ys .exit)) (now (cs .exit)) (now (days .exit)) (now (list .exit)) ⌝ }
+{
+    if !inside::steps_fit(counts.steps as usize, x, y) {
+        return Reply {
+            counts: counts,
+            answer: Answer::Step,
+        };
+    }
+    if !leaf::amount_fits(c) {
+        return Reply {
+            counts: counts,
+            answer: Answer::Amount,
+        };
+    }
+    if meaning::RULES <= counts.rules as usize {
+        return Reply {
+            counts: counts,
+            answer: Answer::Full,
+        };
+    }
+    let mut gains = [0u64; meaning::STEPS];
+    let mut by = [0u16; meaning::STEPS];
+    add_fine(
+        counts,
+        xs,
+        ys,
+        cs,
+        days,
+        heads,
+        nexts,
+        &mut gains,
+        &mut by,
+        list,
+        x,
+        y,
+        c,
+    )
+}
