@@ -1,0 +1,2 @@
+-- Laws that the proofs of the public calls share.
+pub mod Parts

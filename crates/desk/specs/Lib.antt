@@ -1,0 +1,2 @@
+-- What the public calls' contracts cite beside the promises.
+pub mod Part
