@@ -1,0 +1,73 @@
+-- `worked::calls::watch` is safe: the call keeps the length of each list that it can write.
+use mathlib.Core.Path.{refl}
+use Rattle.worked.proofs.calls.watch.Statement.{statement}
+use Rattle.worked.proofs.calls.watch.Tie as tie
+
+asks-requires : tie.Need-asks-requires
+asks-requires c κs = tt
+
+returns : tie.Need-returns
+returns c = tt
+
+sum-counts-requires : tie.Need-sum-counts-requires
+sum-counts-requires c κs = tt
+
+sum-rules-requires : tie.Need-sum-rules-requires
+sum-rules-requires c κs = tt
+
+watch-requires : tie.Need-watch-requires
+watch-requires c κs = tt
+
+sum-counts-requires-2 : tie.Need-sum-counts-requires-2
+sum-counts-requires-2 c κs = tt
+
+sum-rules-requires-2 : tie.Need-sum-rules-requires-2
+sum-rules-requires-2 c κs = tt
+
+values-requires : tie.Need-values-requires
+values-requires c κs = tt
+
+slice-aggregate-told : tie.Need-slice-aggregate-told
+slice-aggregate-told c = refl
+
+told-requires : tie.Need-told-requires
+told-requires c κs = tt
+
+told-by-requires : tie.Need-told-by-requires
+told-by-requires c κs = tt
+
+counts-requires : tie.Need-counts-requires
+counts-requires c κs = tt
+
+same-length : tie.Need-same-length
+same-length c = c .before .before .before .before .before .before .before .before .before .before .before .before .before .before .before .before .watch .kept .1 .1 .1 .1 .1 .1 .0
+
+same-length-2 : tie.Need-same-length-2
+same-length-2 c = c .before .before .before .before .before .before .before .before .before .before .before .before .before .before .before .before .watch .kept .1 .1 .1 .1 .1 .1 .1 .0
+
+same-length-3 : tie.Need-same-length-3
+same-length-3 c = c .before .before .before .before .before .before .before .before .before .before .before .before .before .before .before .before .watch .kept .1 .1 .1 .1 .1 .1 .1 .1 .0
+
+returns-2 : tie.Need-returns-2
+returns-2 c = tt
+
+pub watch-spec : {M : Type 1} → statement M
+watch-spec =
+    tie.close
+    (tie.spec
+    asks-requires
+    returns
+    sum-counts-requires
+    sum-rules-requires
+    watch-requires
+    sum-counts-requires-2
+    sum-rules-requires-2
+    values-requires
+    slice-aggregate-told
+    told-requires
+    told-by-requires
+    counts-requires
+    same-length
+    same-length-2
+    same-length-3
+    returns-2)

@@ -1,0 +1,37 @@
+-- `worked::words::amount` is safe: a number below 2^31 has a negative.
+use Prim.Native.Nat.{ℕ, _+_, _%_, _<_}
+use native.Mathlib.Omega.{arith}
+use mathlib.Core.Path.{_≡_}
+use lib.IntN.{ℤ, pos, negsuc, _-ℤ_}
+use lib.Signed.{mag}
+use mir.Syntax.{w32}
+use mir.Val.{SFits, toZ}
+use mir.ValLaws.{toZ-pos}
+use borrow.Author.Needs.{needs}
+use Rattle.meaning.proofs.Whole.{up, dn, minus-is}
+use Rattle.worked.proofs.words.amount.Statement.{statement}
+use Rattle.worked.proofs.words.amount.Tie as tie
+
+near : (z : ℤ) (n : ℕ) → up z + n ≡ dn z → n < 2147483648 → mag z < 2147483648
+near (pos m) n e l = omega arith
+near (negsuc m) n e l = omega arith
+
+negative : (n : ℕ) → n < 2147483648 → SFits w32 (pos 0 -ℤ pos n)
+negative n l = record { sfits = near (pos 0 -ℤ pos n) n (omega (arith, minus-is (pos 0) (pos n))) l }
+
+cast-c : tie.Need-cast-c
+cast-c c = search needs
+
+sub-result : tie.Need-sub-result
+sub-result c =
+    let small : c .before .args .size % 2147483648 < 2147483648 = omega arith in
+    rw (toZ-pos w32 (c .before .args .size % 2147483648) small) (negative (c .before .args .size % 2147483648) small)
+
+returns : tie.Need-returns
+returns c = search needs
+
+returns-2 : tie.Need-returns-2
+returns-2 c = search needs
+
+pub amount-spec : {M : Type 1} → statement M
+amount-spec = tie.close (tie.spec cast-c sub-result returns returns-2)
