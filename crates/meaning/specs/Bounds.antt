@@ -21,6 +21,26 @@ MARKS = 64
 abbrev pub WATCHED : ℕ
 WATCHED = 1024
 
+-- A script has at most so many bytes, where the program or the whole-script entry reads it.
+abbrev pub TEXT : ℕ
+TEXT = 65536
+
+-- A name has at most so many bytes, and a table of names so many places for each.
+abbrev pub NAME-BYTES : ℕ
+NAME-BYTES = 32
+
+-- Terms are at most so deep, the asserted term itself being depth 1.
+abbrev pub DEPTH : ℕ
+DEPTH = 16
+
+-- One get-value has at most so many names.
+abbrev pub ASKED : ℕ
+ASKED = 256
+
+-- A script command is lent at least so many bytes for its answer.
+abbrev pub ROOM : ℕ
+ROOM = 16384
+
 -- The call was carried out.
 abbrev pub DONE : ℕ
 DONE = 0

@@ -15,6 +15,21 @@ pub const WATCHED: usize = 1024;
 // The largest amount; the smallest is -LARGEST.
 pub const LARGEST: i32 = 1000000;
 
+// A script has at most so many bytes.
+pub const TEXT: usize = 65536;
+
+// A name has at most so many bytes.
+pub const NAME_BYTES: usize = 32;
+
+// Terms are at most so deep.
+pub const DEPTH: usize = 16;
+
+// One get-value has at most so many names.
+pub const ASKED: usize = 256;
+
+// A script command is lent at least so many bytes for its answer.
+pub const ROOM: usize = 16384;
+
 // How many of each thing the tables hold. The caller lends it; a call brings it up to date.
 pub struct Counts {
     pub steps: u32,

@@ -1,0 +1,2 @@
+-- What the contract of the span cites.
+pub mod Span

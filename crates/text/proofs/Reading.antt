@@ -1,0 +1,61 @@
+-- The table says what the lexicon says: tests that antt computes over all its places, and the law that turns such a test into a fact at each place.
+use mathlib.Core.Path.{_≡_, subst, sym}
+use mathlib.Core.Bool.{Bool, true, false}
+use Prim.Native.Nat.{ℕ, zero, suc, _+_, _*_, _<_}
+use native.Mathlib.Nat.{not-suc-le-zero}
+use native.Mathlib.Decide.{ℕ-discrete}
+use native.Mathlib.Omega.{arith}
+use lib.Dec.{T, eqb, ltb, eqb→eq, ltb→lt}
+use lib.ListN.{getD}
+use Rattle.text.specs.Lexicon.{both, class, grown, kind}
+use Rattle.text.specs.Table.{TABLE}
+
+pub both-left : (a b : Bool) → T (both a b) → T a
+both-left true b t = tt
+both-left false b t = t
+
+pub both-right : (a b : Bool) → T (both a b) → T b
+both-right true b t = t
+both-right false b t = absurd t
+
+-- The test f passes at every number below n.
+abbrev pub below : ℕ → (ℕ → Bool) → Bool
+below zero f = true
+below (suc n) f = both (f n) (below n f)
+
+pub at : (n : ℕ) (f : ℕ → Bool) → T (below n f) → (k : ℕ) → k < n → T (f k)
+at zero f t k h = absurd (not-suc-le-zero h)
+at (suc n) f t k h = by-place (at n f (both-right (f n) (below n f) t) k) (ℕ-discrete k n)
+  where
+    by-place : (k < n → T (f k)) → Dec (k ≡ n) → T (f k)
+    by-place less (yes e) = subst (λ (m : ℕ). T (f m)) (sym e) (both-left (f n) (below n f) t)
+    by-place less (no apart) = less (omega arith)
+
+class-right : ℕ → Bool
+class-right b = eqb (getD TABLE b 0) (class b)
+
+pub class-is : (b : ℕ) → b < 256 → getD TABLE b 0 ≡ class b
+unfolding class-right TABLE
+class-is b h = eqb→eq (getD TABLE b 0) (class b) (at 256 class-right tt b h)
+
+grown-right : ℕ → ℕ → Bool
+grown-right p k = both (eqb (getD TABLE (256 + 16 * p + k) 0) (grown p k)) (ltb (grown p k) 16)
+
+grown-all : (p k : ℕ) → p < 16 → k < 16 → T (grown-right p k)
+unfolding grown-right TABLE
+grown-all p k h g = at 16 (grown-right p) (at 16 (λ (q : ℕ). below 16 (grown-right q)) tt p h) k g
+
+pub grown-is : (p k : ℕ) → p < 16 → k < 16 → getD TABLE (256 + 16 * p + k) 0 ≡ grown p k
+unfolding grown-right
+grown-is p k h g = eqb→eq (getD TABLE (256 + 16 * p + k) 0) (grown p k) (both-left (eqb (getD TABLE (256 + 16 * p + k) 0) (grown p k)) (ltb (grown p k) 16) (grown-all p k h g))
+
+pub grown-small : (p k : ℕ) → p < 16 → k < 16 → grown p k < 16
+unfolding grown-right
+grown-small p k h g = ltb→lt (grown p k) 16 (both-right (eqb (getD TABLE (256 + 16 * p + k) 0) (grown p k)) (ltb (grown p k) 16) (grown-all p k h g))
+
+kind-right : ℕ → Bool
+kind-right p = eqb (getD TABLE (512 + p) 0) (kind p)
+
+pub kind-is : (p : ℕ) → p < 16 → getD TABLE (512 + p) 0 ≡ kind p
+unfolding kind-right TABLE
+kind-is p h = eqb→eq (getD TABLE (512 + p) 0) (kind p) (at 16 kind-right tt p h)

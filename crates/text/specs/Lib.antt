@@ -1,0 +1,3 @@
+-- What the contracts of the token reader cite.
+pub mod Lexicon
+pub mod Table
