@@ -1,0 +1,3 @@
+-- What the contracts of the atoms cite.
+pub mod Atoms
+pub mod Reading

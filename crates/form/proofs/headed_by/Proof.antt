@@ -1,0 +1,288 @@
+-- `form::headed_by` meets its contract: one name after another is tried, and the form of the first that it is decides.
+use mathlib.Core.Path.{_≡_, refl, ap, _∙_}
+use mathlib.Core.List.{[]}
+use Rattle.text.specs.declared.Tok.{Tok}
+use Rattle.text.specs.Lexicon.{bytes}
+use Rattle.form.specs.declared.Command.{Command}
+use Rattle.form.specs.declared.Command.the-variants.{Declare, Push, Pop, GetValue}
+use Rattle.form.specs.Form.{headed}
+use Rattle.form.proofs.Steps.{on}
+use Rattle.form.proofs.Commands.{first-named, from-declare-fun, from-check-sat, from-push, from-pop, from-get-value, from-set-logic, from-exit, headed-is, this-one, a-later, none-named, finished-as}
+use borrow.Author.Needs.{needs}
+use Rattle.form.proofs.headed_by.Statement.{statement}
+use Rattle.form.proofs.headed_by.Tie as tie
+
+-- Where a name is none of those up to this one, the later ones decide.
+past-assert : (c : tie.Else1) (q : Command) → q ≡ first-named (bytes (c .before .before .before .before .args .s .now) (c .before .before .before .before .args .a) (c .before .before .before .before .args .b)) (from-declare-fun (c .before .before .before .before .args .s .now) (c .before .before .before .before .args .b)) → q ≡ headed (c .before .before .before .before .args .s .now) (c .before .before .before .before .args .a) (c .before .before .before .before .args .b)
+past-assert c q h = a-later _ _ _ _ _ (c .before .same .ensures) q (c .if1 .left) h ∙ headed-is (c .before .before .before .before .args .s .now) (c .before .before .before .before .args .a) (c .before .before .before .before .args .b)
+
+past-declare-fun : (c : tie.Else2) (q : Command) → q ≡ first-named (bytes (c .before .before .before .before .before .before .before .args .s .now) (c .before .before .before .before .before .before .before .args .a) (c .before .before .before .before .before .before .before .args .b)) (from-check-sat (c .before .before .before .before .before .before .before .args .s .now) (c .before .before .before .before .before .before .before .args .b)) → q ≡ headed (c .before .before .before .before .before .before .before .args .s .now) (c .before .before .before .before .before .before .before .args .a) (c .before .before .before .before .before .before .before .args .b)
+past-declare-fun c q h = past-assert (c .before .before .before) q (a-later _ _ _ _ _ (c .before .same2 .ensures) q (c .if2 .left) h)
+
+past-check-sat : (c : tie.Else3) (q : Command) → q ≡ first-named (bytes (c .before .before .before .before .before .before .before .before .before .before .args .s .now) (c .before .before .before .before .before .before .before .before .before .before .args .a) (c .before .before .before .before .before .before .before .before .before .before .args .b)) (from-push (c .before .before .before .before .before .before .before .before .before .before .args .s .now) (c .before .before .before .before .before .before .before .before .before .before .args .b)) → q ≡ headed (c .before .before .before .before .before .before .before .before .before .before .args .s .now) (c .before .before .before .before .before .before .before .before .before .before .args .a) (c .before .before .before .before .before .before .before .before .before .before .args .b)
+past-check-sat c q h = past-declare-fun (c .before .before .before) q (a-later _ _ _ _ _ (c .before .same3 .ensures) q (c .if3 .left) h)
+
+past-push : (c : tie.Else4) (q : Command) → q ≡ first-named (bytes (c .before .before .before .before .before .before .before .before .before .before .before .before .before .args .s .now) (c .before .before .before .before .before .before .before .before .before .before .before .before .before .args .a) (c .before .before .before .before .before .before .before .before .before .before .before .before .before .args .b)) (from-pop (c .before .before .before .before .before .before .before .before .before .before .before .before .before .args .s .now) (c .before .before .before .before .before .before .before .before .before .before .before .before .before .args .b)) → q ≡ headed (c .before .before .before .before .before .before .before .before .before .before .before .before .before .args .s .now) (c .before .before .before .before .before .before .before .before .before .before .before .before .before .args .a) (c .before .before .before .before .before .before .before .before .before .before .before .before .before .args .b)
+past-push c q h = past-check-sat (c .before .before .before) q (a-later _ _ _ _ _ (c .before .same4 .ensures) q (c .if4 .left) h)
+
+past-pop : (c : tie.Else5) (q : Command) → q ≡ first-named (bytes (c .before .before .before .before .before .before .before .before .before .before .before .before .before .before .before .before .args .s .now) (c .before .before .before .before .before .before .before .before .before .before .before .before .before .before .before .before .args .a) (c .before .before .before .before .before .before .before .before .before .before .before .before .before .before .before .before .args .b)) (from-get-value (c .before .before .before .before .before .before .before .before .before .before .before .before .before .before .before .before .args .s .now) (c .before .before .before .before .before .before .before .before .before .before .before .before .before .before .before .before .args .b)) → q ≡ headed (c .before .before .before .before .before .before .before .before .before .before .before .before .before .before .before .before .args .s .now) (c .before .before .before .before .before .before .before .before .before .before .before .before .before .before .before .before .args .a) (c .before .before .before .before .before .before .before .before .before .before .before .before .before .before .before .before .args .b)
+past-pop c q h = past-push (c .before .before .before) q (a-later _ _ _ _ _ (c .before .same5 .ensures) q (c .if5 .left) h)
+
+past-get-value : (c : tie.Else6) (q : Command) → q ≡ first-named (bytes (c .before .before .before .before .before .before .before .before .before .before .before .before .before .before .before .before .before .before .before .args .s .now) (c .before .before .before .before .before .before .before .before .before .before .before .before .before .before .before .before .before .before .before .args .a) (c .before .before .before .before .before .before .before .before .before .before .before .before .before .before .before .before .before .before .before .args .b)) (from-set-logic (c .before .before .before .before .before .before .before .before .before .before .before .before .before .before .before .before .before .before .before .args .s .now) (c .before .before .before .before .before .before .before .before .before .before .before .before .before .before .before .before .before .before .before .args .b)) → q ≡ headed (c .before .before .before .before .before .before .before .before .before .before .before .before .before .before .before .before .before .before .before .args .s .now) (c .before .before .before .before .before .before .before .before .before .before .before .before .before .before .before .before .before .before .before .args .a) (c .before .before .before .before .before .before .before .before .before .before .before .before .before .before .before .before .before .before .before .args .b)
+past-get-value c q h = past-pop (c .before .before .before) q (a-later _ _ _ _ _ (c .before .same6 .ensures) q (c .if6 .left) h)
+
+past-set-logic : (c : tie.Else7) (q : Command) → q ≡ first-named (bytes (c .before .before .before .before .before .before .before .before .before .before .before .before .before .before .before .before .before .before .before .before .before .before .args .s .now) (c .before .before .before .before .before .before .before .before .before .before .before .before .before .before .before .before .before .before .before .before .before .before .args .a) (c .before .before .before .before .before .before .before .before .before .before .before .before .before .before .before .before .before .before .before .before .before .before .args .b)) (from-exit (c .before .before .before .before .before .before .before .before .before .before .before .before .before .before .before .before .before .before .before .before .before .before .args .s .now) (c .before .before .before .before .before .before .before .before .before .before .before .before .before .before .before .before .before .before .before .before .before .before .args .b)) → q ≡ headed (c .before .before .before .before .before .before .before .before .before .before .before .before .before .before .before .before .before .before .before .before .before .before .args .s .now) (c .before .before .before .before .before .before .before .before .before .before .before .before .before .before .before .before .before .before .before .before .before .before .args .a) (c .before .before .before .before .before .before .before .before .before .before .before .before .before .before .before .before .before .before .before .before .before .before .args .b)
+past-set-logic c q h = past-get-value (c .before .before .before) q (a-later _ _ _ _ _ (c .before .same7 .ensures) q (c .if7 .left) h)
+
+past-exit : (c : tie.Else8) (q : Command) → q ≡ first-named (bytes (c .before .before .before .before .before .before .before .before .before .before .before .before .before .before .before .before .before .before .before .before .before .before .before .before .before .args .s .now) (c .before .before .before .before .before .before .before .before .before .before .before .before .before .before .before .before .before .before .before .before .before .before .before .before .before .args .a) (c .before .before .before .before .before .before .before .before .before .before .before .before .before .before .before .before .before .before .before .before .before .before .before .before .before .args .b)) [] → q ≡ headed (c .before .before .before .before .before .before .before .before .before .before .before .before .before .before .before .before .before .before .before .before .before .before .before .before .before .args .s .now) (c .before .before .before .before .before .before .before .before .before .before .before .before .before .before .before .before .before .before .before .before .before .before .before .before .before .args .a) (c .before .before .before .before .before .before .before .before .before .before .before .before .before .before .before .before .before .before .before .before .before .before .before .before .before .args .b)
+past-exit c q h = past-set-logic (c .before .before .before) q (a-later _ _ _ _ _ (c .before .same8 .ensures) q (c .if8 .left) h)
+
+slice-aggregate-same : tie.Need-slice-aggregate-same
+slice-aggregate-same c = search needs
+
+same-requires : tie.Need-same-requires
+same-requires c κs = (c .before .before .pre .1 .0, c .before .before .pre .1 .1)
+
+read-term-requires : tie.Need-read-term-requires
+read-term-requires c κs = c .before .before .before .before .pre .0
+
+read-kind-requires : tie.Need-read-kind-requires
+read-kind-requires c κs = c .before .before .before .before .before .pre .0
+
+finished-requires : tie.Need-finished-requires
+finished-requires c κs = search needs
+
+returns : tie.Need-returns
+returns c =
+    this-one _ _ _ _ _ (c .before .before .before .before .same .ensures) _ (c .before .before .before .if1 .taken)
+    (finished-as _ _ _ _ _ (refl) (on _ _ _ _ (c .before .before .read-term .ensures) (c .before .read-kind .ensures)) (c .finished .ensures))
+    ∙ headed-is (c .before .before .before .before .before .before .before .args .s .now) (c .before .before .before .before .before .before .before .args .a) (c .before .before .before .before .before .before .before .args .b)
+
+slice-aggregate-same-2 : tie.Need-slice-aggregate-same-2
+slice-aggregate-same-2 c = search needs
+
+same-requires-2 : tie.Need-same-requires-2
+same-requires-2 c κs = (c .before .before .before .before .before .pre .1 .0, c .before .before .before .before .before .pre .1 .1)
+
+token-requires : tie.Need-token-requires
+token-requires c κs = c .before .before .before .before .before .before .before .pre .0
+
+read-name-requires : tie.Need-read-name-requires
+read-name-requires c κs = c .before .before .before .before .before .before .before .before .pre .0
+
+read-kind-requires-2 : tie.Need-read-kind-requires-2
+read-kind-requires-2 c κs = c .before .before .before .before .before .before .before .before .before .pre .0
+
+read-kind-requires-3 : tie.Need-read-kind-requires-3
+read-kind-requires-3 c κs = c .before .before .before .before .before .before .before .before .before .before .pre .0
+
+slice-aggregate-read-word : tie.Need-slice-aggregate-read-word
+slice-aggregate-read-word c = search needs
+
+read-word-requires : tie.Need-read-word-requires
+read-word-requires c κs = c .before .before .before .before .before .before .before .before .before .before .before .before .pre .0
+
+read-kind-requires-4 : tie.Need-read-kind-requires-4
+read-kind-requires-4 c κs = c .before .before .before .before .before .before .before .before .before .before .before .before .before .pre .0
+
+finished-requires-2 : tie.Need-finished-requires-2
+finished-requires-2 c κs = search needs
+
+returns-2 : tie.Need-returns-2
+returns-2 c =
+    past-assert (c .before .before .before .before .before .before .before .before .before .before .before) _ (this-one _ _ _ _ _ (c .before .before .before .before .before .before .before .before .before .same2 .ensures) _ (c .before .before .before .before .before .before .before .before .if2 .taken)
+    (finished-as _ _ _ _ _ (ap (λ (t : Tok). Declare (t .from) (t .to)) (c .before .before .before .before .before .before .before .token .ensures)) (on _ _ _ _ (on _ _ _ _ (on _ _ _ _ (on _ _ _ _ (c .before .before .before .before .before .before .read-name .ensures) (c .before .before .before .before .before .read-kind2 .ensures)) (c .before .before .before .before .read-kind3 .ensures)) (c .before .before .read-word .ensures)) (c .before .read-kind4 .ensures)) (c .finished2 .ensures)))
+
+slice-aggregate-same-3 : tie.Need-slice-aggregate-same-3
+slice-aggregate-same-3 c = search needs
+
+same-requires-3 : tie.Need-same-requires-3
+same-requires-3 c κs = (c .before .before .before .before .before .before .before .before .pre .1 .0, c .before .before .before .before .before .before .before .before .pre .1 .1)
+
+read-kind-requires-5 : tie.Need-read-kind-requires-5
+read-kind-requires-5 c κs = c .before .before .before .before .before .before .before .before .before .before .pre .0
+
+finished-requires-3 : tie.Need-finished-requires-3
+finished-requires-3 c κs = search needs
+
+returns-3 : tie.Need-returns-3
+returns-3 c =
+    past-declare-fun (c .before .before .before .before .before) _ (this-one _ _ _ _ _ (c .before .before .before .same3 .ensures) _ (c .before .before .if3 .taken)
+    (finished-as _ _ _ _ _ (refl) (c .before .read-kind5 .ensures) (c .finished3 .ensures)))
+
+slice-aggregate-same-4 : tie.Need-slice-aggregate-same-4
+slice-aggregate-same-4 c = search needs
+
+same-requires-4 : tie.Need-same-requires-4
+same-requires-4 c κs = (c .before .before .before .before .before .before .before .before .before .before .before .pre .1 .0, c .before .before .before .before .before .before .before .before .before .before .before .pre .1 .1)
+
+read-number-requires : tie.Need-read-number-requires
+read-number-requires c κs = c .before .before .before .before .before .before .before .before .before .before .before .before .before .pre .0
+
+read-kind-requires-6 : tie.Need-read-kind-requires-6
+read-kind-requires-6 c κs = c .before .before .before .before .before .before .before .before .before .before .before .before .before .before .pre .0
+
+read-kind-requires-7 : tie.Need-read-kind-requires-7
+read-kind-requires-7 c κs = c .before .before .before .before .before .before .before .before .before .before .before .before .before .before .before .pre .0
+
+finished-requires-4 : tie.Need-finished-requires-4
+finished-requires-4 c κs = search needs
+
+returns-4 : tie.Need-returns-4
+returns-4 c =
+    past-check-sat (c .before .before .before .before .before .before .before) _ (this-one _ _ _ _ _ (c .before .before .before .before .before .same4 .ensures) _ (c .before .before .before .before .if4 .taken)
+    (finished-as _ _ _ _ _ (ap Push (c .before .before .before .read-number .ensures)) (on _ _ _ _ (c .before .before .read-kind6 .ensures) (c .before .read-kind7 .ensures)) (c .finished4 .ensures)))
+
+slice-aggregate-same-5 : tie.Need-slice-aggregate-same-5
+slice-aggregate-same-5 c = search needs
+
+same-requires-5 : tie.Need-same-requires-5
+same-requires-5 c κs = (c .before .before .before .before .before .before .before .before .before .before .before .before .before .before .pre .1 .0, c .before .before .before .before .before .before .before .before .before .before .before .before .before .before .pre .1 .1)
+
+read-number-requires-2 : tie.Need-read-number-requires-2
+read-number-requires-2 c κs = c .before .before .before .before .before .before .before .before .before .before .before .before .before .before .before .before .pre .0
+
+read-kind-requires-8 : tie.Need-read-kind-requires-8
+read-kind-requires-8 c κs = c .before .before .before .before .before .before .before .before .before .before .before .before .before .before .before .before .before .pre .0
+
+read-kind-requires-9 : tie.Need-read-kind-requires-9
+read-kind-requires-9 c κs = c .before .before .before .before .before .before .before .before .before .before .before .before .before .before .before .before .before .before .pre .0
+
+finished-requires-5 : tie.Need-finished-requires-5
+finished-requires-5 c κs = search needs
+
+returns-5 : tie.Need-returns-5
+returns-5 c =
+    past-push (c .before .before .before .before .before .before .before) _ (this-one _ _ _ _ _ (c .before .before .before .before .before .same5 .ensures) _ (c .before .before .before .before .if5 .taken)
+    (finished-as _ _ _ _ _ (ap Pop (c .before .before .before .read-number2 .ensures)) (on _ _ _ _ (c .before .before .read-kind8 .ensures) (c .before .read-kind9 .ensures)) (c .finished5 .ensures)))
+
+slice-aggregate-same-6 : tie.Need-slice-aggregate-same-6
+slice-aggregate-same-6 c = search needs
+
+same-requires-6 : tie.Need-same-requires-6
+same-requires-6 c κs = (c .before .before .before .before .before .before .before .before .before .before .before .before .before .before .before .before .before .pre .1 .0, c .before .before .before .before .before .before .before .before .before .before .before .before .before .before .before .before .before .pre .1 .1)
+
+token-requires-2 : tie.Need-token-requires-2
+token-requires-2 c κs = c .before .before .before .before .before .before .before .before .before .before .before .before .before .before .before .before .before .before .before .pre .0
+
+read-kind-requires-10 : tie.Need-read-kind-requires-10
+read-kind-requires-10 c κs = c .before .before .before .before .before .before .before .before .before .before .before .before .before .before .before .before .before .before .before .before .pre .0
+
+read-names-requires : tie.Need-read-names-requires
+read-names-requires c κs = c .before .before .before .before .before .before .before .before .before .before .before .before .before .before .before .before .before .before .before .before .before .pre .0
+
+read-kind-requires-11 : tie.Need-read-kind-requires-11
+read-kind-requires-11 c κs = c .before .before .before .before .before .before .before .before .before .before .before .before .before .before .before .before .before .before .before .before .before .before .pre .0
+
+finished-requires-6 : tie.Need-finished-requires-6
+finished-requires-6 c κs = search needs
+
+returns-6 : tie.Need-returns-6
+returns-6 c =
+    past-pop (c .before .before .before .before .before .before .before .before) _ (this-one _ _ _ _ _ (c .before .before .before .before .before .before .same6 .ensures) _ (c .before .before .before .before .before .if6 .taken)
+    (finished-as _ _ _ _ _ (ap (λ (t : Tok). GetValue (t .to)) (c .before .before .before .before .token2 .ensures)) (on _ _ _ _ (on _ _ _ _ (c .before .before .before .read-kind10 .ensures) (c .before .before .read-names .ensures)) (c .before .read-kind11 .ensures)) (c .finished6 .ensures)))
+
+slice-aggregate-same-7 : tie.Need-slice-aggregate-same-7
+slice-aggregate-same-7 c = search needs
+
+same-requires-7 : tie.Need-same-requires-7
+same-requires-7 c κs = (c .before .before .before .before .before .before .before .before .before .before .before .before .before .before .before .before .before .before .before .before .pre .1 .0, c .before .before .before .before .before .before .before .before .before .before .before .before .before .before .before .before .before .before .before .before .pre .1 .1)
+
+slice-aggregate-read-word-2 : tie.Need-slice-aggregate-read-word-2
+slice-aggregate-read-word-2 c = search needs
+
+read-word-requires-2 : tie.Need-read-word-requires-2
+read-word-requires-2 c κs = c .before .before .before .before .before .before .before .before .before .before .before .before .before .before .before .before .before .before .before .before .before .before .before .pre .0
+
+read-kind-requires-12 : tie.Need-read-kind-requires-12
+read-kind-requires-12 c κs = c .before .before .before .before .before .before .before .before .before .before .before .before .before .before .before .before .before .before .before .before .before .before .before .before .pre .0
+
+finished-requires-7 : tie.Need-finished-requires-7
+finished-requires-7 c κs = search needs
+
+returns-7 : tie.Need-returns-7
+returns-7 c =
+    past-get-value (c .before .before .before .before .before .before .before) _ (this-one _ _ _ _ _ (c .before .before .before .before .before .same7 .ensures) _ (c .before .before .before .before .if7 .taken)
+    (finished-as _ _ _ _ _ (refl) (on _ _ _ _ (c .before .before .read-word2 .ensures) (c .before .read-kind12 .ensures)) (c .finished7 .ensures)))
+
+slice-aggregate-same-8 : tie.Need-slice-aggregate-same-8
+slice-aggregate-same-8 c = search needs
+
+same-requires-8 : tie.Need-same-requires-8
+same-requires-8 c κs = (c .before .before .before .before .before .before .before .before .before .before .before .before .before .before .before .before .before .before .before .before .before .before .before .pre .1 .0, c .before .before .before .before .before .before .before .before .before .before .before .before .before .before .before .before .before .before .before .before .before .before .before .pre .1 .1)
+
+read-kind-requires-13 : tie.Need-read-kind-requires-13
+read-kind-requires-13 c κs = c .before .before .before .before .before .before .before .before .before .before .before .before .before .before .before .before .before .before .before .before .before .before .before .before .before .pre .0
+
+finished-requires-8 : tie.Need-finished-requires-8
+finished-requires-8 c κs = search needs
+
+returns-8 : tie.Need-returns-8
+returns-8 c =
+    past-set-logic (c .before .before .before .before .before) _ (this-one _ _ _ _ _ (c .before .before .before .same8 .ensures) _ (c .before .before .if8 .taken)
+    (finished-as _ _ _ _ _ (refl) (c .before .read-kind13 .ensures) (c .finished8 .ensures)))
+
+returns-9 : tie.Need-returns-9
+returns-9 c = past-exit c _ (none-named _)
+
+pub headed-by-spec : {M : Type 1} → statement M
+headed-by-spec =
+    tie.close
+    (tie.spec
+    slice-aggregate-same
+    same-requires
+    read-term-requires
+    read-kind-requires
+    finished-requires
+    returns
+    slice-aggregate-same-2
+    same-requires-2
+    token-requires
+    read-name-requires
+    read-kind-requires-2
+    read-kind-requires-3
+    slice-aggregate-read-word
+    read-word-requires
+    read-kind-requires-4
+    finished-requires-2
+    returns-2
+    slice-aggregate-same-3
+    same-requires-3
+    read-kind-requires-5
+    finished-requires-3
+    returns-3
+    slice-aggregate-same-4
+    same-requires-4
+    read-number-requires
+    read-kind-requires-6
+    read-kind-requires-7
+    finished-requires-4
+    returns-4
+    slice-aggregate-same-5
+    same-requires-5
+    read-number-requires-2
+    read-kind-requires-8
+    read-kind-requires-9
+    finished-requires-5
+    returns-5
+    slice-aggregate-same-6
+    same-requires-6
+    token-requires-2
+    read-kind-requires-10
+    read-names-requires
+    read-kind-requires-11
+    finished-requires-6
+    returns-6
+    slice-aggregate-same-7
+    same-requires-7
+    slice-aggregate-read-word-2
+    read-word-requires-2
+    read-kind-requires-12
+    finished-requires-7
+    returns-7
+    slice-aggregate-same-8
+    same-requires-8
+    read-kind-requires-13
+    finished-requires-8
+    returns-8
+    returns-9)

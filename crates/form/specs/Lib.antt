@@ -1,0 +1,2 @@
+-- What the contracts of the command reader cite.
+pub mod Form
