@@ -1,0 +1,135 @@
+-- Setting marks one by one: what the marks then hold, and which days are kept.
+use Prim.Native.Nat.{ℕ, zero, suc, _+_, _*_, _-_, _≤_, _<_}
+use native.Mathlib.Omega.{arith}
+use native.Mathlib.Decide.{ℕ-discrete, decLt}
+use mathlib.Core.Path.{_≡_, refl, sym, _∙_, ap, subst}
+use mathlib.Core.List.{List}
+use lib.ListN.{length, set, length-set}
+use lib.Seq.{getD-set-same, getD-set-other}
+use Rattle.meaning.specs.declared.Counts.{Counts}
+use Rattle.meaning.specs.Bounds.{STEPS, MARKS}
+use Rattle.meaning.specs.Rules.{Earliest}
+use Rattle.meaning.specs.Tables.{rule-at, at}
+use Rattle.meaning.proofs.Theory.{earliest-ext}
+use Rattle.levels.specs.Levels.{marked, more-marks, KeepsDays, Copied}
+
+-- Marks that are set keep the length of their list.
+pub marked-length : (n r k : ℕ) (marks : List ℕ) → length (marked n r k marks) ≡ length marks
+unfolding marked
+marked-length zero r k marks = refl
+marked-length (suc n) r k marks = marked-length n r (k + 1) (set marks k r) ∙ length-set marks k r
+
+-- Older marks stay.
+pub marked-old : (n r k : ℕ) (marks : List ℕ) (i : ℕ) → i < k → at (marked n r k marks) i ≡ at marks i
+unfolding marked
+marked-old zero r k marks i older = refl
+marked-old (suc n) r k marks i older = marked-old n r (k + 1) (set marks k r) i (omega arith) ∙ getD-set-other marks k i r 0 (λ e. omega arith)
+
+-- Each new mark is r.
+pub marked-new : (n r k : ℕ) (marks : List ℕ) (i : ℕ) → k ≤ i → i < k + n → k + n ≤ length marks → at (marked n r k marks) i ≡ r
+unfolding marked
+marked-new zero r k marks i from i-in room = absurd (omega arith)
+marked-new (suc n) r k marks i from i-in room =
+    told (ℕ-discrete i k) (λ later. marked-new n r (k + 1) (set marks k r) i later (omega arith) (omega (arith, length-set marks k r)))
+  where
+    told : Dec (i ≡ k) → (k + 1 ≤ i → at (marked n r (k + 1) (set marks k r)) i ≡ r) → at (marked n r (k + 1) (set marks k r)) i ≡ r
+    told (yes e) rest = marked-old n r (k + 1) (set marks k r) i (omega arith) ∙ ap (at (set marks k r)) e ∙ getD-set-same marks k r 0 (omega arith)
+    told (no e) rest = rest (omega arith)
+
+-- Where some marks are still to be set, setting the next leaves one fewer.
+pub marked-next : {n m : ℕ} (r k : ℕ) (marks : List ℕ) → n ≡ suc m → marked n r k marks ≡ marked m r (k + 1) (set marks k r)
+unfolding marked
+marked-next r k marks e = ap (λ (x : ℕ). marked x r k marks) e
+
+-- Before the first all n are to be set.
+pub marked-start : (n r k : ℕ) (marks : List ℕ) → marked (k + n - k) r k marks ≡ marked n r k marks
+marked-start n r k marks = ap (λ (x : ℕ). marked x r k marks) all
+  where
+    all : k + n - k ≡ n
+    all = omega arith
+
+-- No mark is left to be set.
+pub marked-end : {n : ℕ} (r k : ℕ) (marks : List ℕ) → n ≡ 0 → marked n r k marks ≡ marks
+unfolding marked
+marked-end r k marks e = ap (λ (x : ℕ). marked x r k marks) e
+
+-- Of the marks from first up to k the days are kept, and those kept of older marks stay.
+pub record KeptFrom (steps base first k : ℕ) (days kept kept′ : List ℕ) : Type 0 where
+  pub same-length : length kept′ ≡ length kept
+  pub older : (j v : ℕ) → j < first → v < STEPS → at kept′ (STEPS * j + v) ≡ at kept (STEPS * j + v)
+  pub newer : (j v : ℕ) → base ≤ j → first ≤ j → j < k → v < steps → at kept′ (STEPS * j + v) ≡ at days v
+
+-- Before the first of them nothing is kept.
+pub kept-none : (steps base first : ℕ) (days kept : List ℕ) → KeptFrom steps base first first days kept kept
+kept-none steps base first days kept = record { same-length = refl; older = λ j v j-in v-in. refl; newer = λ j v based from j-in v-in. absurd (omega arith) }
+
+module _ {steps base first k : ℕ} {days kept kept′ : List ℕ} (passed : KeptFrom steps base first k days kept kept′) where
+  -- The days of a mark below base are not kept.
+  pub kept-skip : k < base → KeptFrom steps base first (k + 1) days kept kept′
+  kept-skip skipped = record {
+    same-length = passed .same-length;
+    older = passed .older;
+    newer = λ j v based from j-in v-in. passed .newer j v based from (omega arith) v-in;
+  }
+
+  -- The days of one mark more are kept.
+  pub kept-more : {kept″ : List ℕ} → first ≤ k → steps ≤ STEPS → Copied steps days 0 kept′ (STEPS * k) kept″ → KeptFrom steps base first (k + 1) days kept kept″
+  kept-more {kept″} from-first few copy = record {
+    same-length = copy .same-length ∙ passed .same-length;
+    older = λ j v j-in v-in. copy .below (STEPS * j + v) (omega arith) ∙ passed .older j v j-in v-in;
+    newer = λ j v based from j-in v-in. told j v based from j-in v-in (ℕ-discrete j k);
+  }
+    where
+      told : (j v : ℕ) → base ≤ j → first ≤ j → j < k + 1 → v < steps → Dec (j ≡ k) → at kept″ (STEPS * j + v) ≡ at days v
+      told j v based from j-in v-in (yes e) = ap (λ (x : ℕ). at kept″ (STEPS * x + v)) e ∙ copy .copied v v-in ∙ ap (at days) from-0
+        where
+          from-0 : 0 + v ≡ v
+          from-0 = omega arith
+      told j v based from j-in v-in (no e) = copy .below (STEPS * j + v) (omega arith) ∙ passed .newer j v based from (omega arith) v-in
+
+-- Once the days of n new marks are kept, those of all open marks are.
+pub keeps-days :
+    (n : ℕ) {c : Counts} {base : ℕ} {days marks kept kept′ : List ℕ} → MARKS ≤ length marks → c .marks + n ≤ MARKS →
+    KeptFrom (c .steps) base (c .marks) (c .marks + n) days kept kept′ →
+    KeepsDays c base days marks kept (more-marks n c) (marked n (c .rules) (c .marks) marks) kept′
+keeps-days n {c} {base} {days} {marks} {kept} {kept′} room few passed rules watched sound before = record {
+  kept-room = λ k based k-in. omega (arith, before .kept-room k based k-in, passed .same-length);
+  kept-earliest = λ k based k-in. told k based k-in (decLt k (c .marks));
+}
+  where
+    plan : (k : ℕ) → (ℕ → ℕ) → Type 0
+    plan m = Earliest (c .steps) (rule-at rules) (λ i. i < m)
+
+    marks′ : List ℕ
+    marks′ = marked n (c .rules) (c .marks) marks
+
+    -- The rules below a number that is not above the rule count have both steps below the step count.
+    same-plan : (m : ℕ) (p q : ℕ → ℕ) → m ≤ c .rules → ((v : ℕ) → v < c .steps → p v ≡ q v) → plan m p → plan m q
+    same-plan m p q held = earliest-ext (c .steps) (rule-at rules) (λ i. i < m) p q (λ i i-in. sound .rules-good i (omega arith) .steps-in)
+
+    told : (k : ℕ) → base ≤ k → k < c .marks + n → Dec (k < c .marks) → plan (at marks′ k) (λ v. at kept′ (STEPS * k + v))
+    told k based k-in (yes older) =
+        subst (λ (m : ℕ). plan m (λ v. at kept′ (STEPS * k + v))) (sym (marked-old n (c .rules) (c .marks) marks k older))
+        (same-plan (at marks k) (λ v. at kept (STEPS * k + v)) (λ v. at kept′ (STEPS * k + v)) (sound .marks-held k older)
+        (λ v v-in. sym (passed .older k v older (omega (arith, sound .counts-in .steps-in)))) (before .kept-earliest k based older))
+    told k based k-in (no newer) =
+        subst (λ (m : ℕ). plan m (λ v. at kept′ (STEPS * k + v))) (sym (marked-new n (c .rules) (c .marks) marks k (omega arith) k-in (omega arith)))
+        (same-plan (c .rules) (at days) (λ v. at kept′ (STEPS * k + v)) (omega arith)
+        (λ v v-in. sym (passed .newer k v based (omega arith) k-in v-in)) (sound .days-earliest))
+
+-- No mark is left to be set: all are as they should be, and so are the days kept.
+pub pushed :
+    (n : ℕ) {c : Counts} {base k : ℕ} {days marks marks′ kept kept′ : List ℕ} → MARKS ≤ length marks → c .marks + n ≤ MARKS → k ≡ c .marks + n →
+    marked (c .marks + n - k) (c .rules) k marks′ ≡ marked n (c .rules) (c .marks) marks → KeptFrom (c .steps) base (c .marks) k days kept kept′ →
+    (marks′ ≡ marked n (c .rules) (c .marks) marks) × KeepsDays c base days marks kept (more-marks n c) marks′ kept′
+pushed n {c} {base} {k} {days} {marks} {marks′} {kept} {kept′} room few all rest passed = (
+  same,
+  subst (λ (l : List ℕ). KeepsDays c base days marks kept (more-marks n c) l kept′) (sym same)
+      (keeps-days n room few (subst (λ (x : ℕ). KeptFrom (c .steps) base (c .marks) x days kept kept′) all passed)),
+)
+  where
+    none-left : c .marks + n - k ≡ 0
+    none-left = omega (arith, all)
+
+    same : marks′ ≡ marked n (c .rules) (c .marks) marks
+    same = sym (marked-end (c .rules) k marks′ none-left) ∙ rest

@@ -1,0 +1,64 @@
+-- `levels::drop_rules` meets its contract. The loop's invariant: the chains are those of the first i rules. The measure is the number of rules that are
+-- still to be taken off.
+use Prim.Native.Nat.{_-_, _≤_}
+use mathlib.Core.Path.{_≡_, refl, _∙_}
+use lib.ListN.{length}
+use Rattle.newrule.specs.Lending.{LentChains}
+use Rattle.levels.proofs.Dropping.{linkable, one-fewer}
+use native.Mathlib.Omega.{arith}
+use borrow.Author.Needs.{needs}
+use Rattle.levels.proofs.drop_rules.Statement.{statement}
+use Rattle.levels.proofs.drop_rules.Tie as tie
+
+abbrev Inv-loop : tie.InvT-loop
+Inv-loop k m n xs heads₀ nexts i₀ heads i = (k ≤ i) × (i ≤ m) × LentChains n i xs heads nexts × (length heads ≡ length heads₀)
+
+abbrev μ-loop : tie.MeasureT-loop
+μ-loop k m n xs heads₀ nexts i₀ heads i = i - k
+
+loop-holds : tie.Need-loop-holds Inv-loop μ-loop
+loop-holds c =
+    let start = c .before .before .before in
+    (start .pre .0, omega arith, start .pre .1 .0, refl)
+
+sub-i : tie.Need-sub-i Inv-loop μ-loop
+sub-i c = search needs
+
+drop-last-requires : tie.Need-drop-last-requires Inv-loop μ-loop
+drop-last-requires c κs =
+    let start = c .before .before .before .before .before .before in
+    linkable (omega (arith, c .before .loop-test .taken)) (c .before .before .loop .inv .2) (start .pre .1 .1 .0 _ (omega (arith, c .before .before .loop .inv .1, c .before .loop-test .taken)))
+    (omega (arith, start .pre .1 .1 .1 .0, c .before .before .loop .inv .1, c .before .loop-test .taken)) (omega (arith, start .pre .1 .1 .1 .1, c .before .before .loop .inv .1, c .before .loop-test .taken))
+
+loop-less : tie.Need-loop-less Inv-loop μ-loop
+loop-less c = search needs
+
+loop-again : tie.Need-loop-again Inv-loop μ-loop
+loop-again c = (
+  omega (arith, c .before .before .before .before .loop-test .taken),
+  omega (arith, c .before .before .before .before .before .loop .inv .1),
+  one-fewer (omega (arith, c .before .before .before .before .loop-test .taken)) (c .before .before .before .before .before .loop .inv .2) (c .before .before .before .before .before .before .before .before .before .pre .1 .1 .0 _ (omega (arith, c .before .before .before .before .before .loop .inv .1, c .before .before .before .before .loop-test .taken))) (c .before .before .drop-last .kept .1 .0) (c .before .before .drop-last .ensures),
+  c .before .before .drop-last .kept .1 .0 ∙ c .before .before .before .before .before .loop .inv .3,
+)
+
+same-length : tie.Need-same-length Inv-loop μ-loop
+same-length c = c .before .loop .inv .3
+
+returns : tie.Need-returns Inv-loop μ-loop
+returns c =
+    let all : c .before .loop .i ≡ c .before .before .before .before .before .args .k = omega (arith, c .before .loop .inv .0, c .loop-test .left) in
+    rw all at (c .before .loop .inv .2)
+
+pub drop-rules-spec : {M : Type 1} → statement M
+drop-rules-spec =
+    tie.close
+    (tie.spec
+    Inv-loop
+    μ-loop
+    loop-holds
+    sub-i
+    drop-last-requires
+    loop-less
+    loop-again
+    same-length
+    returns)

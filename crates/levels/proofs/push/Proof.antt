@@ -1,0 +1,111 @@
+-- `levels::push` meets its contract. The loop's invariant: the marks that are left to be set make the marks as they should be, and the days of the
+-- marks passed are kept. The measure is the number of marks left.
+use Prim.Native.Nat.{suc, _+_, _-_, _≤_}
+use mathlib.Core.Path.{_≡_, refl, sym, _∙_}
+use mathlib.Core.Logic.{⊎-elim}
+use lib.ListN.{length, length-set}
+use Rattle.levels.specs.Levels.{marked}
+use Rattle.levels.proofs.Pushing.{KeptFrom, marked-next, marked-start, kept-none, kept-skip, kept-more, pushed}
+use native.Mathlib.Omega.{arith}
+use borrow.Author.Needs.{needs}
+use Rattle.levels.proofs.push.Statement.{statement}
+use Rattle.levels.proofs.push.Tie as tie
+
+abbrev Inv-loop : tie.InvT-loop
+Inv-loop counts days marks₀ kept₀ base n first steps k₀ k-end marks kept k =
+    (counts .marks ≤ k) × (k ≤ counts .marks + n) × (length marks ≡ length marks₀)
+    × (marked (counts .marks + n - k) (counts .rules) k marks ≡ marked n (counts .rules) (counts .marks) marks₀)
+    × KeptFrom (counts .steps) base (counts .marks) k days kept₀ kept
+
+abbrev μ-loop : tie.MeasureT-loop
+μ-loop counts days marks₀ kept₀ base n first steps k₀ k-end marks kept k = counts .marks + n - k
+
+cast-first : tie.Need-cast-first Inv-loop μ-loop
+cast-first c = search needs
+
+cast-steps : tie.Need-cast-steps Inv-loop μ-loop
+cast-steps c = search needs
+
+add-k-end : tie.Need-add-k-end Inv-loop μ-loop
+add-k-end c = search needs
+
+loop-holds : tie.Need-loop-holds Inv-loop μ-loop
+loop-holds c =
+    let start = c .before .before .before .before .before in
+    (omega arith, omega arith, refl, marked-start (start .args .n) (start .args .counts .rules) (start .args .counts .marks) (start .args .marks .now), kept-none (start .args .counts .steps) (start .args .base) (start .args .counts .marks) (start .args .days .now) (start .args .kept .now))
+
+mul-marks : tie.Need-mul-marks Inv-loop μ-loop
+mul-marks c = search needs
+
+slice-write-marks : tie.Need-slice-write-marks Inv-loop μ-loop
+slice-write-marks c = omega (arith, c .before .loop .inv .2)
+
+mul-copy-days : tie.Need-mul-copy-days Inv-loop μ-loop
+mul-copy-days c = search needs
+
+copy-days-requires : tie.Need-copy-days-requires Inv-loop μ-loop
+copy-days-requires c κs =
+    let start = c .before .before .before .before .before .before .before .before .before in (
+      omega (arith, start .pre .0, start .pre .1 .0),
+      omega (arith, start .pre .0, start .pre .1 .1 .1 .1 (c .before .before .before .loop .k) (c .before .if1 .taken) (omega (arith, start .pre .1 .1 .1 .0, c .before .before .loop-test .taken)), c .before .before .before .loop .inv .4 .same-length),
+    )
+
+add-k : tie.Need-add-k Inv-loop μ-loop
+add-k c = search needs
+
+loop-less : tie.Need-loop-less Inv-loop μ-loop
+loop-less c = search needs
+
+loop-again : tie.Need-loop-again Inv-loop μ-loop
+loop-again c =
+    let start = c .before .before .before .before .before .before .before .before in
+    let turn = c .before .before .loop in
+    let next : start .args .counts .marks + start .args .n - turn .k ≡ suc (start .args .counts .marks + start .args .n - (turn .k + 1)) = omega (arith, c .before .loop-test .taken) in (
+      omega (arith, turn .inv .0),
+      omega (arith, c .before .loop-test .taken),
+      length-set (turn .marks) (turn .k) (start .args .counts .rules) ∙ turn .inv .2,
+      sym (marked-next (start .args .counts .rules) (turn .k) (turn .marks) next) ∙ turn .inv .3,
+      ⊎-elim (λ w. rw (w .5) (kept-more (turn .inv .4) (turn .inv .0) (start .pre .0) (w .2 .ensures))) (λ w. rw (w .1) (kept-skip (turn .inv .4) (omega (arith, w .0 .left)))) (c .if1 .came),
+    )
+
+add-t18 : tie.Need-add-t18 Inv-loop μ-loop
+add-t18 c = search needs
+
+cast-t19 : tie.Need-cast-t19 Inv-loop μ-loop
+cast-t19 c = search needs
+
+same-length : tie.Need-same-length Inv-loop μ-loop
+same-length c = c .before .loop .inv .2
+
+same-length-2 : tie.Need-same-length-2 Inv-loop μ-loop
+same-length-2 c = c .before .loop .inv .4 .same-length
+
+returns : tie.Need-returns Inv-loop μ-loop
+returns c =
+    let start = c .before .before .before .before .before .before .before in
+    let turn = c .before .loop in
+    let told = pushed (start .args .n) {c = start .args .counts} (start .pre .1 .1 .0) (start .pre .1 .1 .1 .0) (omega (arith, turn .inv .1, c .loop-test .left)) (turn .inv .3) (turn .inv .4) in
+    (refl, (told .0, told .1))
+
+pub push-spec : {M : Type 1} → statement M
+push-spec =
+    tie.close
+    (tie.spec
+    Inv-loop
+    μ-loop
+    cast-first
+    cast-steps
+    add-k-end
+    loop-holds
+    mul-marks
+    slice-write-marks
+    mul-copy-days
+    copy-days-requires
+    add-k
+    loop-less
+    loop-again
+    add-t18
+    cast-t19
+    same-length
+    same-length-2
+    returns)

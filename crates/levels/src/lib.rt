@@ -1,0 +1,156 @@
+// Levels of a script: setting and dropping several marks at once. Where the days of an open mark are kept a pop copies them, else it plans afresh.
+ghost use mathlib.Core.Path.{_≡_};
+ghost use Prim.Native.Nat.{ℕ, _+_, _-_, _*_, _≤_, _<_};
+ghost use lib.ListN.{length};
+ghost use Rattle.meaning.specs.Bounds.{STEPS, MARKS};
+ghost use Rattle.meaning.specs.Tables.{at, rule-at};
+ghost use Rattle.meaning.specs.Promise.{Planned};
+ghost use Rattle.leaf.specs.Lent.{columns, tables};
+ghost use Rattle.leaf.specs.Promises.{Border};
+ghost use Rattle.newrule.specs.Lending.{LentChains};
+ghost use Rattle.levels.specs.Levels.{marked, more-marks, Popped, KeptDays, KeepsDays, Copied};
+use meaning::Counts;
+
+// Copies n days, from place a of one list on to place b of the other on.
+fn copy_days(n: usize, from: &[u32], a: usize, to: &mut [u32], b: usize)
+    requires { ⌜ a + n ≤ length (now from) ⌝ }
+    requires { ⌜ b + n ≤ length (now to) ⌝ }
+    ensures { λ _. ⌜ Copied n (now (from .entry)) a (now (to .entry)) b (now (to .exit)) ⌝ }
+{
+    for v in 0..n {
+        to[b + v] = from[a + v];
+    }
+}
+
+// Sets n marks. The days of the marks from place base on are kept.
+pub fn push(
+    counts: Counts,
+    days: &[u32],
+    marks: &mut [u32],
+    kept: &mut [u32],
+    base: usize,
+    n: usize,
+) -> Counts
+    requires { ⌜ counts .steps ≤ STEPS ⌝ }
+    requires { ⌜ STEPS ≤ length (now days) ⌝ }
+    requires { ⌜ MARKS ≤ length (now marks) ⌝ }
+    requires { ⌜ counts .marks + n ≤ MARKS ⌝ }
+    requires { ⌜ ((k : ℕ) → base ≤ k → k < MARKS → STEPS * k + STEPS ≤ length (now kept)) ⌝ }
+    ensures { λ r. ⌜ r ≡ more-marks n counts ⌝ }
+    ensures { λ r. ⌜ now (marks .exit) ≡ marked n (counts .rules) (counts .marks) (now (marks .entry)) ⌝ }
+    ensures { λ r. ⌜ KeepsDays counts base (now (days .entry)) (now (marks .entry)) (now (kept .entry)) r (now (marks .exit)) (now (kept .exit)) ⌝ }
+{
+    let first = counts.marks as usize;
+    let steps = counts.steps as usize;
+    for k in first..first + n {
+        marks[k] = counts.rules;
+        if base <= k {
+            copy_days(steps, days, 0, kept, meaning::STEPS * k);
+        }
+    }
+    Counts {
+        steps: counts.steps,
+        rules: counts.rules,
+        marks: (first + n) as u32,
+        watched: counts.watched,
+    }
+}
+
+// Takes the rules from number k up to m off their chains, newest first.
+fn drop_rules(k: usize, m: usize, n: usize, xs: &[u16], heads: &mut [u16], nexts: &[u16])
+    requires { ⌜ k ≤ m ⌝ }
+    requires { ⌜ LentChains n m (now xs) (now heads) (now nexts) ⌝ }
+    requires { ⌜ ((i : ℕ) → i < m → at (now xs) i < n) ⌝ }
+    requires { ⌜ m ≤ length (now xs) ⌝ }
+    requires { ⌜ m ≤ 65535 ⌝ }
+    ensures { λ _. ⌜ LentChains n k (now (xs .entry)) (now (heads .exit)) (now (nexts .entry)) ⌝ }
+{
+    let mut i = m;
+    while k < i {
+        i -= 1;
+        chains::drop_last(xs, heads, nexts, i);
+    }
+}
+
+// Drops the newest n marks and every rule added after the oldest of them.
+pub fn pop(
+    counts: Counts,
+    xs: &[u16],
+    ys: &[u16],
+    cs: &[i32],
+    days: &mut [u32],
+    marks: &[u32],
+    wxs: &[u16],
+    wys: &[u16],
+    wcs: &[i32],
+    heads: &mut [u16],
+    nexts: &[u16],
+    kept: &[u32],
+    base: usize,
+    n: usize,
+) -> Counts
+    requires { ⌜ Border (tables counts (now xs) (now ys) (now cs) (now days) (now marks) (now wxs) (now wys) (now wcs)) ⌝ }
+    requires { ⌜ n ≤ counts .marks ⌝ }
+    requires { ⌜ LentChains (counts .steps) (counts .rules) (now xs) (now heads) (now nexts) ⌝ }
+    requires { ⌜ KeptDays (rule-at (columns (now xs) (now ys) (now cs))) (counts .steps) base (counts .marks) (now marks) (now kept) ⌝ }
+    ensures { λ r. ⌜
+        Popped n (tables counts (now (xs .entry)) (now (ys .entry)) (now (cs .entry)) (now (days .entry)) (now (marks .entry)) (now (wxs .entry)) (now (wys .entry)) (now (wcs .entry)))
+        (tables r (now (xs .entry)) (now (ys .entry)) (now (cs .entry)) (now (days .exit)) (now (marks .entry)) (now (wxs .entry)) (now (wys .entry)) (now (wcs .entry))) ⌝ }
+    ensures { λ r. ⌜ LentChains (r .steps) (r .rules) (now (xs .entry)) (now (heads .exit)) (now (nexts .entry)) ⌝ }
+{
+    if n == 0 {
+        return counts;
+    }
+    let k = counts.marks as usize - n;
+    let m = marks[k];
+    drop_rules(
+        m as usize,
+        counts.rules as usize,
+        counts.steps as usize,
+        xs,
+        heads,
+        nexts,
+    );
+    let fewer = Counts {
+        steps: counts.steps,
+        rules: counts.rules,
+        marks: (k + 1) as u32,
+        watched: counts.watched,
+    };
+    days_at_mark(fewer, xs, ys, cs, days, marks, wxs, wys, wcs, kept, base);
+    Counts {
+        steps: counts.steps,
+        rules: m,
+        marks: k as u32,
+        watched: counts.watched,
+    }
+}
+
+// Brings the days to the earliest plan of the rules held at the newest mark: a copy where they are kept.
+fn days_at_mark(
+    counts: Counts,
+    xs: &[u16],
+    ys: &[u16],
+    cs: &[i32],
+    days: &mut [u32],
+    marks: &[u32],
+    wxs: &[u16],
+    wys: &[u16],
+    wcs: &[i32],
+    kept: &[u32],
+    base: usize,
+)
+    requires { ⌜ Border (tables counts (now xs) (now ys) (now cs) (now days) (now marks) (now wxs) (now wys) (now wcs)) ⌝ }
+    requires { ⌜ 1 ≤ counts .marks ⌝ }
+    requires { ⌜ KeptDays (rule-at (columns (now xs) (now ys) (now cs))) (counts .steps) base (counts .marks) (now marks) (now kept) ⌝ }
+    ensures { λ _. ⌜
+        Planned (counts .steps) (rule-at (columns (now (xs .entry)) (now (ys .entry)) (now (cs .entry)))) (λ i. i < at (now (marks .entry)) (counts .marks - 1))
+        (now (days .entry)) (now (days .exit)) ⌝ }
+{
+    let k = counts.marks as usize - 1;
+    if base <= k {
+        copy_days(counts.steps as usize, kept, meaning::STEPS * k, days, 0);
+        return;
+    }
+    goback::back(counts, xs, ys, cs, days, marks, wxs, wys, wcs);
+}

@@ -1,0 +1,2 @@
+-- What the contracts of the names cite.
+pub mod Names
