@@ -1,0 +1,20 @@
+-- What follows from the definitions of the script calls.
+pub mod Seeking
+pub mod Asking
+pub mod Needed
+pub mod Lengths
+pub mod Granted
+pub mod Adding
+pub mod Keeping
+pub mod Passed
+pub mod Cutting
+pub mod Naming
+pub mod Truth
+pub mod Balance
+pub mod Exact
+pub mod Linking
+pub mod Owning
+pub mod Asserted
+pub mod Fixing
+pub mod Mixing
+pub mod Adjoining
