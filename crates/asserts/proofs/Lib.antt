@@ -1,0 +1,4 @@
+-- What the proofs of the adder share.
+pub mod Linking
+pub mod Answering
+pub mod Going

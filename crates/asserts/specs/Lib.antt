@@ -1,0 +1,2 @@
+-- What the contracts of the adder cite.
+pub mod One

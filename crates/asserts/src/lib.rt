@@ -1,0 +1,195 @@
+// Adding the rules of an asserted term, from left to right, up to the first conflict.
+ghost use mathlib.Core.Path.{_≡_};
+ghost use mathlib.Core.List.{[], map};
+ghost use Prim.Native.Nat.{_+_, _≤_, _<_};
+ghost use lib.ListN.{length};
+ghost use Rattle.meaning.specs.Bounds.{STEPS, RULES, DONE};
+ghost use Rattle.meaning.specs.Rules.{InBounds};
+ghost use Rattle.meaning.specs.Promise.{First, given};
+ghost use Rattle.leaf.specs.Decides.{Decides};
+ghost use Rattle.text.specs.Table.{TABLE};
+ghost use Rattle.leaf.specs.Lent.{tables};
+ghost use Rattle.leaf.specs.Promises.{Border, rule};
+ghost use Rattle.newrule.specs.Lending.{LentChains};
+ghost use Rattle.names.specs.Names.{Shelved, Indexed, AllDifferent};
+ghost use Rattle.atoms.specs.Atoms.{rules-at};
+ghost use Rattle.script.specs.Record.{KnownIn, step-in};
+ghost use Rattle.script.specs.Effect.{resolved, AddsAll};
+ghost use Rattle.script.specs.Commands.{rule-needs};
+ghost use Rattle.asserts.specs.One.{AddsOne};
+use meaning::Answer;
+use meaning::Counts;
+
+// What adding rules came to: the counts after it, and whether one of the rules did not fit.
+pub struct Added {
+    pub counts: Counts,
+    pub clash: bool,
+}
+
+// Whether the answer is that the rule was added.
+fn is_done(a: Answer) -> bool
+    ensures { λ r. ⌜ Decides r (given a .number ≡ DONE) ⌝ }
+{
+    match a {
+        Answer::Done(_, _) => true,
+        Answer::Short => false,
+        Answer::Damaged => false,
+        Answer::Step => false,
+        Answer::Amount => false,
+        Answer::Full => false,
+        Answer::Conflict(_) => false,
+        Answer::NoMark => false,
+        Answer::Syntax => false,
+        Answer::Mode => false,
+        Answer::Name => false,
+        Answer::Size => false,
+    }
+}
+
+// Adds one rule and puts it on its chain; where it does not fit nothing changes.
+fn add_one(
+    counts: Counts,
+    xs: &mut [u16],
+    ys: &mut [u16],
+    cs: &mut [i32],
+    days: &mut [u32],
+    marks: &[u32],
+    wxs: &[u16],
+    wys: &[u16],
+    wcs: &[i32],
+    heads: &mut [u16],
+    nexts: &mut [u16],
+    ring: &mut [u32],
+    x: u16,
+    y: u16,
+    c: i32,
+) -> Added
+    requires { ⌜ Border (tables counts (now xs) (now ys) (now cs) (now days) (now marks) (now wxs) (now wys) (now wcs)) ⌝ }
+    requires { ⌜ LentChains (counts .steps) (counts .rules) (now xs) (now heads) (now nexts) ⌝ }
+    requires { ⌜ InBounds (counts .steps) (rule x y c) ⌝ }
+    requires { ⌜ counts .rules < RULES ⌝ }
+    requires { ⌜ RULES ≤ length (now nexts) ⌝ }
+    requires { ⌜ STEPS ≤ length (now ring) ⌝ }
+    ensures { λ r. ⌜
+        AddsOne (rule x y c)
+        (tables counts (now (xs .entry)) (now (ys .entry)) (now (cs .entry)) (now (days .entry)) (now (marks .entry)) (now (wxs .entry)) (now (wys .entry)) (now (wcs .entry)))
+        (r .clash)
+        (tables (r .counts) (now (xs .exit)) (now (ys .exit)) (now (cs .exit)) (now (days .exit)) (now (marks .entry)) (now (wxs .entry)) (now (wys .entry)) (now (wcs .entry))) ⌝ }
+    ensures { λ r. ⌜ LentChains (r .counts .steps) (r .counts .rules) (now (xs .exit)) (now (heads .exit)) (now (nexts .exit)) ⌝ }
+{
+    let m = counts.rules as usize;
+    let reply = newrule::add(
+        counts,
+        xs,
+        ys,
+        cs,
+        days,
+        marks,
+        wxs,
+        wys,
+        wcs,
+        heads,
+        nexts,
+        ring,
+        x,
+        y,
+        c,
+    );
+    let after = reply.counts;
+    let answer = reply.answer;
+    if is_done(answer) {
+        chains::push(xs, heads, nexts, m);
+        return Added {
+            counts: after,
+            clash: false,
+        };
+    }
+    Added {
+        counts: after,
+        clash: true,
+    }
+}
+
+// Adds the rules of the atoms from place at on, up to the first that does not fit.
+pub fn add_rules(
+    s: &[u8],
+    tab: &[u8; text::PLACES],
+    at: usize,
+    n: usize,
+    names: &[u8],
+    lens: &[u8],
+    hashes: &[u16],
+    name_heads: &[u16],
+    name_nexts: &[u16],
+    counts: Counts,
+    xs: &mut [u16],
+    ys: &mut [u16],
+    cs: &mut [i32],
+    days: &mut [u32],
+    marks: &[u32],
+    wxs: &[u16],
+    wys: &[u16],
+    wcs: &[i32],
+    heads: &mut [u16],
+    nexts: &mut [u16],
+    ring: &mut [u32],
+) -> Added
+    requires { ⌜ now tab ≡ TABLE ⌝ }
+    requires { ⌜ at ≤ length (now s) ⌝ }
+    requires { ⌜ Shelved n (now names) (now lens) ⌝ }
+    requires { ⌜ Indexed n (now names) (now lens) (now hashes) (now «name_heads») (now «name_nexts») ⌝ }
+    requires { ⌜ AllDifferent n (now names) (now lens) ⌝ }
+    requires { ⌜ n ≤ counts .steps ⌝ }
+    requires { ⌜ First (rule-needs (KnownIn n (now names) (now lens)) (rules-at (now s) at) []) DONE ⌝ }
+    requires { ⌜ counts .rules + length (rules-at (now s) at) ≤ RULES ⌝ }
+    requires { ⌜ Border (tables counts (now xs) (now ys) (now cs) (now days) (now marks) (now wxs) (now wys) (now wcs)) ⌝ }
+    requires { ⌜ LentChains (counts .steps) (counts .rules) (now xs) (now heads) (now nexts) ⌝ }
+    requires { ⌜ RULES ≤ length (now nexts) ⌝ }
+    requires { ⌜ STEPS ≤ length (now ring) ⌝ }
+    ensures { λ r. ⌜
+        AddsAll (map (resolved (step-in n (now (names .entry)) (now (lens .entry)))) (rules-at (now (s .entry)) at))
+        (tables counts (now (xs .entry)) (now (ys .entry)) (now (cs .entry)) (now (days .entry)) (now (marks .entry)) (now (wxs .entry)) (now (wys .entry)) (now (wcs .entry)))
+        (r .clash)
+        (tables (r .counts) (now (xs .exit)) (now (ys .exit)) (now (cs .exit)) (now (days .exit)) (now (marks .entry)) (now (wxs .entry)) (now (wys .entry)) (now (wcs .entry))) ⌝ }
+    ensures { λ r. ⌜ LentChains (r .counts .steps) (r .counts .rules) (now (xs .exit)) (now (heads .exit)) (now (nexts .exit)) ⌝ }
+{
+    let mut i = at;
+    let mut held = counts;
+    loop {
+        let a = atoms::next_atom(s, tab, i);
+        if !a.some {
+            return Added {
+                counts: held,
+                clash: false,
+            };
+        }
+        let xa = a.xa;
+        let xb = a.xb;
+        let ya = a.ya;
+        let yb = a.yb;
+        let x = names::find(names, lens, hashes, name_heads, name_nexts, n, s, xa, xb) as u16;
+        let y = names::find(names, lens, hashes, name_heads, name_nexts, n, s, ya, yb) as u16;
+        let added = add_one(
+            held,
+            xs,
+            ys,
+            cs,
+            days,
+            marks,
+            wxs,
+            wys,
+            wcs,
+            heads,
+            nexts,
+            ring,
+            x,
+            y,
+            a.amount,
+        );
+        if added.clash {
+            return added;
+        }
+        held = added.counts;
+        i = a.next;
+    }
+}

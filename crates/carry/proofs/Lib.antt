@@ -1,0 +1,3 @@
+-- What the proofs of the carrier share.
+pub mod Composing
+pub mod Moving

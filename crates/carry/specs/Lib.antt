@@ -1,0 +1,2 @@
+-- What the contracts of the carrier cite.
+pub mod Carrying

@@ -1,0 +1,4 @@
+-- What the proofs of judging share.
+pub mod Finding
+pub mod Passing
+pub mod Judging

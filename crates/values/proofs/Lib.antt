@@ -1,0 +1,3 @@
+-- What the proofs of the values share.
+pub mod Going
+pub mod Wrote

@@ -1,0 +1,2 @@
+-- What the contracts of the values cite.
+pub mod Pair
