@@ -1,0 +1,3 @@
+-- Laws that the proofs of the script calls share.
+pub mod Answers
+pub mod Commanding
