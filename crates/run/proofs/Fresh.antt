@@ -1,0 +1,56 @@
+-- Fresh tables are sound: no rule, mark or name is there that could be out of bounds, every chain is empty, and every day is 0.
+use Prim.Native.Nat.{ℕ, _+_, _*_, _≤_, _<_}
+use native.Mathlib.Omega.{arith}
+use mathlib.Core.Path.{_≡_, refl}
+use mathlib.Core.Bool.{false}
+use mathlib.Core.List.{List}
+use lib.ListN.{length}
+use Rattle.meaning.specs.Bounds.{STEPS, RULES, MARKS, NAME-BYTES}
+use Rattle.meaning.specs.Tables.{at}
+use Rattle.chains.specs.Chains.{Empty}
+use Rattle.chains.proofs.Laws.{chained-none}
+use Rattle.names.specs.Names.{BUCKETS, IndexRoom}
+use Rattle.script.specs.Record.{StartRoom}
+use lib.IntN.{ℤ}
+use Rattle.meaning.specs.declared.Counts.{Counts}
+use Rattle.script.specs.declared.Notes.{Notes}
+use Rattle.carry.specs.Carrying.{lent, Maintained}
+
+-- The counts and the record at the start.
+abbrev pub first-counts : Counts
+first-counts = record { steps = STEPS; rules = 0; marks = 0; watched = 0 }
+
+abbrev pub first-notes : Notes
+first-notes = record { names = 0; logic = false; broken = 0; sat = false }
+
+pub fresh-maintained :
+    (xs ys : List ℕ) (cs : List ℤ) (days marks wxs wys : List ℕ) (wcs : List ℤ) (names lens out heads nexts kept hashes name-heads name-nexts : List ℕ) →
+    StartRoom (lent first-counts xs ys cs days marks wxs wys wcs first-notes names lens out) →
+    ((v : ℕ) → v < STEPS → at days v ≡ 0) → Empty STEPS heads → STEPS ≤ length heads → RULES ≤ length nexts → STEPS * MARKS ≤ length kept →
+    IndexRoom hashes name-heads name-nexts → Empty BUCKETS name-heads →
+    Maintained 0 (lent first-counts xs ys cs days marks wxs wys wcs first-notes names lens out) heads nexts kept hashes name-heads name-nexts
+fresh-maintained xs ys cs days marks wxs wys wcs names lens out heads nexts kept hashes name-heads name-nexts room zeros none heads-room nexts-room kept-room index-room no-names =
+    record {
+      room = room;
+      sound = record {
+        tables-sound = record {
+          counts-in = record { some-step = omega arith; steps-in = omega arith; rules-in = omega arith; marks-in = omega arith; watched-in = omega arith };
+          rules-good = λ i h. absurd (omega arith);
+          watched-good = λ i h. absurd (omega arith);
+          marks-never-fall = λ i j h g. absurd (omega arith);
+          marks-held = λ i h. absurd (omega arith);
+          days-earliest = record { plan = λ i h. absurd (omega arith); no-later = λ q p v h. omega (arith, zeros v h) };
+        };
+        all-steps = refl;
+        names-in = omega arith;
+        names-short = λ k h. absurd (omega arith);
+        names-in-form = λ k h. absurd (omega arith);
+        names-different = λ j k h g. absurd (omega arith);
+        level-open = omega arith;
+        no-sat = λ d. refl;
+      };
+      chained = record { chained = chained-none STEPS xs heads nexts none; heads-room = heads-room; nexts-room = omega arith };
+      nexts-room = nexts-room;
+      days-kept = record { kept-room = λ k lo h. omega (arith, kept-room); kept-earliest = λ k lo h. absurd (omega arith) };
+      indexed = record { room = index-room; hashes-are = λ k h. absurd (omega arith); chained = chained-none BUCKETS hashes name-heads name-nexts no-names };
+    }

@@ -1,0 +1,5 @@
+-- What the proofs of the whole script share.
+pub mod Room
+pub mod Beginning
+pub mod Stepping
+pub mod Fresh

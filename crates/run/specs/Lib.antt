@@ -1,0 +1,2 @@
+-- What the contracts of the whole script cite.
+pub mod Stepping

@@ -1,0 +1,351 @@
+// A whole script: its commands one after the other, and the bytes that they print. Soundness is kept from command to command, so no command pays for a check.
+ghost use mathlib.Core.Path.{_≡_};
+ghost use Prim.Native.Nat.{ℕ, _+_, _≤_, _<_};
+ghost use lib.ListN.{length};
+ghost use mathlib.Core.Bool.{Bool, true, false};
+ghost use Rattle.meaning.specs.Bounds.{ROOM, DONE, SYNTAX};
+ghost use Rattle.text.specs.Table.{TABLE};
+ghost use Rattle.write.specs.Written.{over, decimal};
+ghost use Rattle.script.specs.Whole.{error-line, Plays, RunsScript};
+ghost use Rattle.carry.specs.Carrying.{lent, Maintained};
+ghost use Rattle.run.specs.Stepping.{Begins, Halted, Settled, GoesOn, Steps, PlaysFresh};
+use meaning::Counts;
+use script::Notes;
+
+// How a script ended: the refusal's number, 0 where there was none, and how many bytes were written.
+pub struct Ran {
+    pub number: u32,
+    pub written: usize,
+}
+
+// Whether a command can be carried out from a place on: where it begins and ends; where none can, the number with which the script ends.
+struct Begun {
+    ready: bool,
+    number: u32,
+    from: usize,
+    end: usize,
+}
+
+// How one command ended: the refusal's number; whether the script goes on, and from which place; how many bytes are written so far; the counts and the record.
+struct Step {
+    number: u32,
+    going: bool,
+    at: usize,
+    to: usize,
+    counts: Counts,
+    notes: Notes,
+}
+
+// Writes what a refusal prints, and gives back the place past it.
+fn put_error(out: &mut [u8], at: usize, number: u32) -> usize
+    requires { ⌜ at + 11 + length (decimal number) ≤ length (now out) ⌝ }
+    ensures { λ r. ⌜ (now (out .exit) ≡ over (now (out .entry)) at (error-line number)) × (r ≡ at + length (error-line number)) ⌝ }
+{
+    let e = write::word(out, at, b"(error \"");
+    let e = write::number(out, e, number);
+    write::word(out, e, b"\")\n")
+}
+
+// Whether a command can be carried out from place at on, where to of len bytes are written: not at the end of the text (0), not where fewer than ROOM bytes
+// are left (SHORT), not where no command stands (SYNTAX).
+fn begin(s: &[u8], tab: &[u8; text::PLACES], at: usize, len: usize, to: usize) -> Begun
+    requires { ⌜ now tab ≡ TABLE ⌝ }
+    ensures { λ r. ⌜ Begins (now (s .entry)) at len to r ⌝ }
+{
+    let t = text::token(s, tab, at);
+    let from = t.from;
+    if t.kind == text::END {
+        return Begun {
+            ready: false,
+            number: 0,
+            from: from,
+            end: from,
+        };
+    }
+    if len < to || len - to < meaning::ROOM {
+        return Begun {
+            ready: false,
+            number: 1,
+            from: from,
+            end: from,
+        };
+    }
+    let size = span::span_of(&s[from..], tab);
+    if size == 0 {
+        return Begun {
+            ready: false,
+            number: 8,
+            from: from,
+            end: from,
+        };
+    }
+    Begun {
+        ready: true,
+        number: 0,
+        from: from,
+        end: from + size,
+    }
+}
+
+// Ends a script where no command can be carried out: SYNTAX is printed, any other number is not. Gives back the place past what is written.
+fn halt(out: &mut [u8], to: usize, number: u32) -> usize
+    requires { ⌜ (number ≡ SYNTAX → to + ROOM ≤ length (now out)) ⌝ }
+    ensures { λ r. ⌜ Halted (now (out .entry)) to number (now (out .exit)) r ⌝ }
+{
+    if number == 8 {
+        return put_error(out, to, number);
+    }
+    to
+}
+
+// After a command: prints its refusal where there is one, and gives back the place past what is written.
+fn settle(out: &mut [u8], to: usize, number: u32, written: usize) -> usize
+    requires { ⌜ to + ROOM ≤ length (now out) ⌝ }
+    requires { ⌜ written ≤ ROOM ⌝ }
+    ensures { λ r. ⌜ Settled (now (out .entry)) to number written (now (out .exit)) r ⌝ }
+{
+    if 0 < number {
+        return put_error(out, to, number);
+    }
+    to + written
+}
+
+// Whether the script goes on after a command: it was carried out, and was not exit.
+fn goes_on(number: u32, ended: bool) -> bool
+    ensures { λ r. ⌜ GoesOn number ended r ⌝ }
+{
+    if 0 < number {
+        return false;
+    }
+    !ended
+}
+
+// One command of the script, from place at on, with to bytes written so far.
+fn one(
+    s: &[u8],
+    tab: &[u8; text::PLACES],
+    at: usize,
+    counts: Counts,
+    notes: Notes,
+    xs: &mut [u16],
+    ys: &mut [u16],
+    cs: &mut [i32],
+    days: &mut [u32],
+    marks: &mut [u32],
+    wxs: &[u16],
+    wys: &[u16],
+    wcs: &[i32],
+    heads: &mut [u16],
+    nexts: &mut [u16],
+    kept: &mut [u32],
+    names: &mut [u8],
+    lens: &mut [u8],
+    hashes: &mut [u16],
+    name_heads: &mut [u16],
+    name_nexts: &mut [u16],
+    out: &mut [u8],
+    to: usize,
+) -> Step
+    requires { ⌜ now tab ≡ TABLE ⌝ }
+    requires { ⌜ Maintained 0 (lent counts (now xs) (now ys) (now cs) (now days) (now marks) (now wxs) (now wys) (now wcs) notes (now names) (now lens) (now out)) (now heads) (now nexts) (now kept) (now hashes) (now «name_heads») (now «name_nexts») ⌝ }
+    ensures { λ r. ⌜ Steps (now (s .entry)) at (lent counts (now (xs .entry)) (now (ys .entry)) (now (cs .entry)) (now (days .entry)) (now (marks .entry)) (now (wxs .entry)) (now (wys .entry)) (now (wcs .entry)) notes (now (names .entry)) (now (lens .entry)) (now (out .entry))) to (r .number) (r .going) (r .at) (r .to) (lent (r .counts) (now (xs .exit)) (now (ys .exit)) (now (cs .exit)) (now (days .exit)) (now (marks .exit)) (now (wxs .entry)) (now (wys .entry)) (now (wcs .entry)) (r .notes) (now (names .exit)) (now (lens .exit)) (now (out .exit))) ⌝ }
+    ensures { λ r. ⌜ Maintained 0 (lent (r .counts) (now (xs .exit)) (now (ys .exit)) (now (cs .exit)) (now (days .exit)) (now (marks .exit)) (now (wxs .entry)) (now (wys .entry)) (now (wcs .entry)) (r .notes) (now (names .exit)) (now (lens .exit)) (now (out .exit))) (now (heads .exit)) (now (nexts .exit)) (now (kept .exit)) (now (hashes .exit)) (now («name_heads» .exit)) (now («name_nexts» .exit)) ⌝ }
+{
+    let b = begin(s, tab, at, out.len(), to);
+    if !b.ready {
+        let past = halt(out, to, b.number);
+        return Step {
+            number: b.number,
+            going: false,
+            at: at,
+            to: past,
+            counts: counts,
+            notes: notes,
+        };
+    }
+    let from = b.from;
+    let end = b.end;
+    let r = carry::carry(
+        &s[from..end],
+        tab,
+        counts,
+        notes,
+        xs,
+        ys,
+        cs,
+        days,
+        marks,
+        wxs,
+        wys,
+        wcs,
+        heads,
+        nexts,
+        kept,
+        0,
+        names,
+        lens,
+        hashes,
+        name_heads,
+        name_nexts,
+        out,
+        to,
+    );
+    let past = settle(out, to, r.number, r.written);
+    let held = r.counts;
+    let noted = r.notes;
+    Step {
+        number: r.number,
+        going: goes_on(r.number, r.ended),
+        at: end,
+        to: past,
+        counts: held,
+        notes: noted,
+    }
+}
+
+// The script's commands one after the other, from its start on, on tables and a record that are known to be sound.
+fn play(
+    s: &[u8],
+    tab: &[u8; text::PLACES],
+    counts: Counts,
+    notes: Notes,
+    xs: &mut [u16],
+    ys: &mut [u16],
+    cs: &mut [i32],
+    days: &mut [u32],
+    marks: &mut [u32],
+    wxs: &[u16],
+    wys: &[u16],
+    wcs: &[i32],
+    heads: &mut [u16],
+    nexts: &mut [u16],
+    kept: &mut [u32],
+    names: &mut [u8],
+    lens: &mut [u8],
+    hashes: &mut [u16],
+    name_heads: &mut [u16],
+    name_nexts: &mut [u16],
+    out: &mut [u8],
+) -> Ran
+    requires { ⌜ now tab ≡ TABLE ⌝ }
+    requires { ⌜ Maintained 0 (lent counts (now xs) (now ys) (now cs) (now days) (now marks) (now wxs) (now wys) (now wcs) notes (now names) (now lens) (now out)) (now heads) (now nexts) (now kept) (now hashes) (now «name_heads») (now «name_nexts») ⌝ }
+    ensures { λ r. ⌜ Plays (now (s .entry)) 0 (lent counts (now (xs .entry)) (now (ys .entry)) (now (cs .entry)) (now (days .entry)) (now (marks .entry)) (now (wxs .entry)) (now (wys .entry)) (now (wcs .entry)) notes (now (names .entry)) (now (lens .entry)) (now (out .entry))) 0 (r .number) (r .written) (now (out .exit)) ⌝ }
+{
+    let mut at = 0;
+    let mut to = 0;
+    let mut held = counts;
+    let mut noted = notes;
+    loop {
+        let step = one(
+            s,
+            tab,
+            at,
+            held,
+            noted,
+            xs,
+            ys,
+            cs,
+            days,
+            marks,
+            wxs,
+            wys,
+            wcs,
+            heads,
+            nexts,
+            kept,
+            names,
+            lens,
+            hashes,
+            name_heads,
+            name_nexts,
+            out,
+            to,
+        );
+        if !step.going {
+            return Ran {
+                number: step.number,
+                written: step.to,
+            };
+        }
+        at = step.at;
+        to = step.to;
+        held = step.counts;
+        noted = step.notes;
+    }
+}
+
+// The script on fresh tables of its own: STEPS steps on day 0, no rule and an empty record. 16384 is STEPS times MARKS, 8192 is NAME_BYTES times STEPS.
+fn play_fresh(s: &[u8], out: &mut [u8]) -> Ran
+    ensures { λ r. ⌜ PlaysFresh (now (s .entry)) (now (out .entry)) (r .number) (r .written) (now (out .exit)) ⌝ }
+{
+    let tab = text::TABLE;
+    let mut xs = [0u16; meaning::RULES];
+    let mut ys = [0u16; meaning::RULES];
+    let mut cs = [0i32; meaning::RULES];
+    let mut days = [0u32; meaning::STEPS];
+    let mut marks = [0u32; meaning::MARKS];
+    let wxs = [0u16; meaning::WATCHED];
+    let wys = [0u16; meaning::WATCHED];
+    let wcs = [0i32; meaning::WATCHED];
+    let mut heads = [0u16; meaning::STEPS];
+    let mut nexts = [0u16; meaning::RULES];
+    let mut kept = [0u32; 16384];
+    let mut names = [0u8; 8192];
+    let mut lens = [0u8; meaning::STEPS];
+    let mut hashes = [0u16; meaning::STEPS];
+    let mut name_heads = [0u16; names::BUCKETS];
+    let mut name_nexts = [0u16; meaning::STEPS];
+    play(
+        s,
+        &tab,
+        Counts {
+            steps: 256,
+            rules: 0,
+            marks: 0,
+            watched: 0,
+        },
+        Notes {
+            names: 0,
+            logic: false,
+            broken: 0,
+            sat: false,
+        },
+        &mut xs,
+        &mut ys,
+        &mut cs,
+        &mut days,
+        &mut marks,
+        &wxs,
+        &wys,
+        &wcs,
+        &mut heads,
+        &mut nexts,
+        &mut kept,
+        &mut names,
+        &mut lens,
+        &mut hashes,
+        &mut name_heads,
+        &mut name_nexts,
+        out,
+    )
+}
+
+// The whole script s, whose answers go into out: SIZE where it is too long, SHORT where fewer than ROOM bytes are left for a command or for SIZE.
+pub fn run_script(s: &[u8], out: &mut [u8]) -> Ran
+    ensures { λ r. ⌜ RunsScript (now (s .entry)) (now (out .entry)) (r .number) (r .written) (now (out .exit)) ⌝ }
+{
+    if s.len() <= meaning::TEXT {
+        return play_fresh(s, out);
+    }
+    if out.len() < meaning::ROOM {
+        return Ran {
+            number: 1,
+            written: 0,
+        };
+    }
+    let past = put_error(out, 0, 11);
+    Ran {
+        number: 11,
+        written: past,
+    }
+}
