@@ -444,3 +444,48 @@ fn command_by(
         written: carried.written,
     }
 }
+
+// Command: SHORT, DAMAGED, SYNTAX where the text begins with no command, and then the command's own refusals; else the command is carried out on the text from
+// its opening bracket on.
+pub fn command(
+    text: &[u8],
+    counts: Counts,
+    notes: Notes,
+    xs: &mut [u16],
+    ys: &mut [u16],
+    cs: &mut [i32],
+    days: &mut [u32],
+    marks: &mut [u32],
+    wxs: &[u16],
+    wys: &[u16],
+    wcs: &[i32],
+    names: &mut [u8],
+    lens: &mut [u8],
+    out: &mut [u8],
+) -> CommandReply
+    ensures { λ r. ⌜
+        Obeys
+        (command-meaning (now (text .entry)) (lent counts (now (xs .entry)) (now (ys .entry)) (now (cs .entry)) (now (days .entry)) (now (marks .entry)) (now (wxs .entry)) (now (wys .entry)) (now (wcs .entry)) notes (now (names .entry)) (now (lens .entry)) (now (out .entry))))
+        (lent counts (now (xs .entry)) (now (ys .entry)) (now (cs .entry)) (now (days .entry)) (now (marks .entry)) (now (wxs .entry)) (now (wys .entry)) (now (wcs .entry)) notes (now (names .entry)) (now (lens .entry)) (now (out .entry)))
+        (gave (r .number) (r .read) (r .written))
+        (lent (r .counts) (now (xs .exit)) (now (ys .exit)) (now (cs .exit)) (now (days .exit)) (now (marks .exit)) (now (wxs .entry)) (now (wys .entry)) (now (wcs .entry)) (r .notes) (now (names .exit)) (now (lens .exit)) (now (out .exit))) ⌝ }
+{
+    let tab = text::TABLE;
+    command_by(
+        text,
+        &tab,
+        counts,
+        notes,
+        xs,
+        ys,
+        cs,
+        days,
+        marks,
+        wxs,
+        wys,
+        wcs,
+        names,
+        lens,
+        out,
+    )
+}
