@@ -77,7 +77,7 @@ LETTER = 15
 abbrev pub hex-letter : ℕ → Bool
 hex-letter b = either (eqb b 97) (either (from-to 99 102 b) (from-to 65 70 b))
 
--- A letter, or one of ~ ! @ $ % ^ & * _ - + = < > ? /: with the digits and the point, what a simple symbol is made of.
+-- A letter, or one of the bytes ~ ! @ $ % ^ & * _ - + = < > / and the question mark: with the digits and the point, what a simple symbol is made of.
 abbrev pub letter : ℕ → Bool
 letter b =
     either (from-to 97 122 b) (either (from-to 65 90 b) (either (eqb b 126) (either (eqb b 33) (either (eqb b 64) (either (from-to 36 38 b)
