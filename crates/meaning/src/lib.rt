@@ -30,7 +30,33 @@ pub const ASKED: usize = 256;
 // A script command is lent at least so many bytes for its answer.
 pub const ROOM: usize = 16384;
 
-// How many of each thing the tables hold. The caller lends it; a call brings it up to date.
+// The numbers given back.
+pub const DONE: u32 = 0;
+
+pub const SHORT: u32 = 1;
+
+pub const DAMAGED: u32 = 2;
+
+pub const STEP: u32 = 3;
+
+pub const AMOUNT: u32 = 4;
+
+pub const FULL: u32 = 5;
+
+pub const CONFLICT: u32 = 6;
+
+pub const NOMARK: u32 = 7;
+
+pub const SYNTAX: u32 = 8;
+
+pub const MODE: u32 = 9;
+
+pub const NAME: u32 = 10;
+
+pub const SIZE: u32 = 11;
+
+// How many of each thing the tables hold. The caller lends it; a call brings it up to date. C callers lend it too, so its fields lie in this order.
+#[repr(C)]
 pub struct Counts {
     pub steps: u32,
     pub rules: u32,
