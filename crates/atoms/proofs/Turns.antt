@@ -4,10 +4,10 @@ use mathlib.Core.Path.{_≡_, refl, sym, subst, _∙_, ap}
 use mathlib.Core.Bool.{Bool, true, false, not, cond, Bool·beq}
 use mathlib.Core.List.{List, [], _∷_}
 use Prim.Native.Nat.{ℕ}
-use lib.Dec.{T, eqb}
+use lib.Dec.{T}
 use lib.IntN.{ℤ, pos, _-ℤ_}
-use borrow.Author.Tests.{eqb-true}
 use Rattle.text.specs.Lexicon.{either, same-bytes}
+use Rattle.text.proofs.Equal.{same-equal}
 use Rattle.words.specs.Words.{compares, W-at-most, W-below, W-at-least, W-above}
 use Rattle.atoms.specs.Atoms.{Named, named, either-rule, said, under}
 use Rattle.atoms.specs.Reading.{apart, final}
@@ -15,20 +15,6 @@ use Rattle.atoms.proofs.Signs.{not-less, not-not}
 
 pub false-true : false ≡ true → ⊥
 false-true e = subst T (sym e) tt
-
-both-true : (t r : Bool) → cond t r false ≡ true → (t ≡ true) × (r ≡ true)
-both-true true r e = (refl, e)
-both-true false r e = absurd (false-true e)
-
-same-is : (k l : List ℕ) → same-bytes k l ≡ true → k ≡ l
-unfolding same-bytes
-same-is [] [] e = refl
-same-is [] (y ∷ l) e = absurd (false-true e)
-same-is (x ∷ k) [] e = absurd (false-true e)
-same-is (x ∷ k) (y ∷ l) e =
-    let first : x ≡ y = eqb-true x y (both-true (eqb x y) (same-bytes k l) e .0) in
-    let rest : k ≡ l = same-is k l (both-true (eqb x y) (same-bytes k l) e .1) in
-    cc
 
 -- The test of the code: one of two answers, and whether it differs from `odd`.
 differs : (a odd : Bool) → not (Bool·beq a odd) ≡ apart a odd
@@ -89,8 +75,8 @@ module _ (x y : List ℕ) (c : ℤ) where
     where
       by-word : (m b l v : Bool) → same-bytes w W-at-most ≡ m → same-bytes w W-below ≡ b → same-bytes w W-at-least ≡ l → same-bytes w W-above ≡ v →
           either m (either b (either l v)) ≡ true → Says w odd
-      by-word true b l v em eb el ev h = subst (λ (k : List ℕ). Says k odd) (sym (same-is w W-at-most em)) (at-most odd)
-      by-word false true l v em eb el ev h = subst (λ (k : List ℕ). Says k odd) (sym (same-is w W-below eb)) (below odd)
-      by-word false false true v em eb el ev h = subst (λ (k : List ℕ). Says k odd) (sym (same-is w W-at-least el)) (at-least odd)
-      by-word false false false true em eb el ev h = subst (λ (k : List ℕ). Says k odd) (sym (same-is w W-above ev)) (above odd)
+      by-word true b l v em eb el ev h = subst (λ (k : List ℕ). Says k odd) (sym (same-equal w W-at-most em)) (at-most odd)
+      by-word false true l v em eb el ev h = subst (λ (k : List ℕ). Says k odd) (sym (same-equal w W-below eb)) (below odd)
+      by-word false false true v em eb el ev h = subst (λ (k : List ℕ). Says k odd) (sym (same-equal w W-at-least el)) (at-least odd)
+      by-word false false false true em eb el ev h = subst (λ (k : List ℕ). Says k odd) (sym (same-equal w W-above ev)) (above odd)
       by-word false false false false em eb el ev h = absurd (false-true h)

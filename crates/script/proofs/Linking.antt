@@ -11,7 +11,7 @@ use lib.ListN.{length}
 use borrow.Author.Tests.{eqb-true, eq-eqb, leb-true}
 use Rattle.text.specs.Lexicon.{OPEN, CLOSE, NUMERAL, SYMBOL, both, token-at, same-bytes}
 use Rattle.words.specs.Words.{compares, operates, W-not, W-and, W-minus}
-use Rattle.names.proofs.Equal.{same-equal}
+use Rattle.text.proofs.Equal.{same-equal}
 use Rattle.form.specs.declared.Read.{Read}
 use Rattle.form.specs.declared.Read.the-variants.{At, Other, Wrong, Size}
 use Rattle.form.specs.Form.{lexeme, then, pick, expect, expect-word, expect-name, expect-amount, comparison, terms-from, inside, term}

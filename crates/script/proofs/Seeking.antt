@@ -11,7 +11,7 @@ use Rattle.meaning.specs.Bounds.{NAME-BYTES}
 use Rattle.meaning.specs.Tables.{at}
 use Rattle.text.specs.Lexicon.{same-bytes}
 use Rattle.names.specs.Names.{name-at, Shelved, Unknown, Found, AllDifferent}
-use Rattle.names.proofs.Equal.{same-equal, equal-same}
+use Rattle.text.proofs.Equal.{same-equal, equal-same}
 use Rattle.names.proofs.Unique.{found-unique}
 use Rattle.script.specs.Record.{seek, step-in, KnownIn}
 

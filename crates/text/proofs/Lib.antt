@@ -5,6 +5,7 @@ pub mod Runs
 pub mod Standing
 pub mod Words
 pub mod Numbers
+pub mod Equal
 pub mod Extents
 pub mod Pieces
 pub mod Tokens

@@ -5,7 +5,7 @@ use Prim.Native.Nat.{ℕ, zero, suc, _+_, _*_, _<_}
 use native.Mathlib.Nat.{not-suc-le-zero}
 use native.Mathlib.Decide.{ℕ-discrete}
 use native.Mathlib.Omega.{arith}
-use lib.Dec.{T, eqb, ltb, eqb→eq, ltb→lt}
+use lib.Dec.{T, eqb, ltb, eqb→eq, ltb→lt, lt→ltb}
 use lib.ListN.{getD}
 use Rattle.text.specs.Lexicon.{both, class, grown, kind}
 use Rattle.text.specs.Table.{TABLE}
@@ -17,6 +17,15 @@ both-left false b t = t
 pub both-right : (a b : Bool) → T (both a b) → T b
 both-right true b t = t
 both-right false b t = absurd t
+
+-- Where a holds, b does.
+abbrev implied : Bool → Bool → Bool
+implied true b = b
+implied false b = true
+
+so : (a b : Bool) → T (implied a b) → T a → T b
+so true b h t = h
+so false b h t = absurd t
 
 -- The test f passes at every number below n.
 abbrev pub below : ℕ → (ℕ → Bool) → Bool
@@ -52,6 +61,14 @@ grown-is p k h g = eqb→eq (getD TABLE (256 + 16 * p + k) 0) (grown p k) (both-
 pub grown-small : (p k : ℕ) → p < 16 → k < 16 → grown p k < 16
 unfolding grown-right
 grown-small p k h g = ltb→lt (grown p k) 16 (both-right (eqb (getD TABLE (256 + 16 * p + k) 0) (grown p k)) (ltb (grown p k) 16) (grown-all p k h g))
+
+-- A symbol that goes on with a letter, of a class from 12 to 15, stays one.
+stays : ℕ → Bool
+stays k = implied (ltb 11 k) (eqb (grown 10 k) 10)
+
+pub symbol-stays : (k : ℕ) → k < 16 → 11 < k → grown 10 k ≡ 10
+unfolding stays
+symbol-stays k h g = eqb→eq (grown 10 k) 10 (so (ltb 11 k) (eqb (grown 10 k) 10) (at 16 stays tt k h) (lt→ltb 11 k g))
 
 kind-right : ℕ → Bool
 kind-right p = eqb (getD TABLE (512 + p) 0) (kind p)

@@ -1,8 +1,17 @@
--- `text::grow` meets its contract: the table says what each piece grows to, and that is below 16.
-use Rattle.text.proofs.Reading.{grown-is, grown-small}
+-- `text::grow` meets its contract: a symbol stays one with a letter more; else the table says what each piece grows to, and that is below 16.
+use Prim.Native.Nat.{ℕ, _<_}
+use mathlib.Core.Path.{_≡_, sym, subst}
+use native.Mathlib.Omega.{arith}
+use Rattle.text.specs.Lexicon.{grown}
+use Rattle.text.proofs.Reading.{grown-is, grown-small, symbol-stays}
 use borrow.Author.Needs.{needs}
 use Rattle.text.proofs.grow.Statement.{statement}
 use Rattle.text.proofs.grow.Tie as tie
+
+returns : tie.Need-returns
+returns c =
+    let is = symbol-stays (c .before .before .args .k) (c .before .before .pre .1 .1) (c .if2 .taken) in
+    (subst (λ (p : ℕ). 10 ≡ grown p (c .before .before .args .k)) (sym (c .before .if1 .taken)) (sym is), omega arith)
 
 mul-result : tie.Need-mul-result
 mul-result c = search needs
@@ -16,10 +25,12 @@ add-result-2 c = search needs
 element-copy-out-result : tie.Need-element-copy-out-result
 element-copy-out-result c = search needs
 
-returns : tie.Need-returns
-returns c =
-    let is = grown-is (c .before .args .p) (c .before .args .k) (c .before .pre .1 .0) (c .before .pre .1 .1) in
-    rw (c .before .pre .0) (is, rw is (grown-small (c .before .args .p) (c .before .args .k) (c .before .pre .1 .0) (c .before .pre .1 .1)))
+returns-2 : tie.Need-returns-2
+returns-2 c =
+    let p = c .before .before .args .p in
+    let k = c .before .before .args .k in
+    let is = grown-is p k (c .before .before .pre .1 .0) (c .before .before .pre .1 .1) in
+    rw (c .before .before .pre .0) (is, rw is (grown-small p k (c .before .before .pre .1 .0) (c .before .before .pre .1 .1)))
 
 pub grow-spec : {M : Type 1} → statement M
-grow-spec = tie.close (tie.spec mul-result add-result add-result-2 element-copy-out-result returns)
+grow-spec = tie.close (tie.spec returns mul-result add-result add-result-2 element-copy-out-result returns-2)
