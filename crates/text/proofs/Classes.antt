@@ -6,7 +6,7 @@ use native.Mathlib.Omega.{arith}
 use lib.Dec.{T, eqb, leb, ltb, ltb→lt, eqb→eq, leb→le, le→leb}
 use borrow.Author.Tests.{eq-eqb}
 use Rattle.text.specs.Lexicon.{both, either, from-to, white, hex-letter, letter, class, digit}
-use Rattle.text.proofs.Reading.{both-left, both-right}
+use Rattle.text.proofs.Reading.{both-left, both-right, both-of, implies, given}
 
 pub true-of : (t : Bool) → T t → t ≡ true
 true-of true h = refl
@@ -15,17 +15,6 @@ true-of false h = absurd h
 pub false-of : (t : Bool) → (T t → ⊥) → t ≡ false
 false-of true h = absurd (h tt)
 false-of false h = refl
-
-pub both-of : (a b : Bool) → T a → T b → T (both a b)
-both-of true b s t = t
-both-of false b s t = s
-
-abbrev pub implies : Bool → Bool → Bool
-implies a b = cond a b true
-
-pub given : (a b : Bool) → T (implies a b) → T a → T b
-given true b h t = h
-given false b h t = absurd t
 
 pick : (P : ℕ → Type 0) (t : Bool) (x y : ℕ) → (T t → P x) → P y → P (cond t x y)
 pick P true x y yes-case no-case = yes-case tt

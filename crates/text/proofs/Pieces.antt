@@ -9,8 +9,8 @@ use lib.Dec.{T, eqb, leb, ltb, leb→le, ltb→lt}
 use lib.ListN.{getD}
 use borrow.Author.Tests.{eq-eqb}
 use Rattle.text.specs.Lexicon.{both, class, digit, grown, kind, whole, extent}
-use Rattle.text.proofs.Reading.{below, at, both-left, both-right, grown-small}
-use Rattle.text.proofs.Classes.{implies, given, class-small}
+use Rattle.text.proofs.Reading.{below, at, both-left, both-right, grown-small, implies, given}
+use Rattle.text.proofs.Classes.{class-small}
 use Rattle.text.proofs.Runs.{whole-stop, whole-on, extent-stop, extent-on}
 
 kind-test : ℕ → Bool

@@ -1,6 +1,6 @@
 -- The table says what the lexicon says: tests that antt computes over all its places, and the law that turns such a test into a fact at each place.
 use mathlib.Core.Path.{_≡_, subst, sym}
-use mathlib.Core.Bool.{Bool, true, false}
+use mathlib.Core.Bool.{Bool, true, false, cond}
 use Prim.Native.Nat.{ℕ, zero, suc, _+_, _*_, _<_}
 use native.Mathlib.Nat.{not-suc-le-zero}
 use native.Mathlib.Decide.{ℕ-discrete}
@@ -19,13 +19,16 @@ both-right true b t = t
 both-right false b t = absurd t
 
 -- Where a holds, b does.
-abbrev implied : Bool → Bool → Bool
-implied true b = b
-implied false b = true
+abbrev pub implies : Bool → Bool → Bool
+implies a b = cond a b true
 
-so : (a b : Bool) → T (implied a b) → T a → T b
-so true b h t = h
-so false b h t = absurd t
+pub given : (a b : Bool) → T (implies a b) → T a → T b
+given true b h t = h
+given false b h t = absurd t
+
+pub both-of : (a b : Bool) → T a → T b → T (both a b)
+both-of true b s t = t
+both-of false b s t = s
 
 -- The test f passes at every number below n.
 abbrev pub below : ℕ → (ℕ → Bool) → Bool
@@ -64,11 +67,11 @@ grown-small p k h g = ltb→lt (grown p k) 16 (both-right (eqb (getD TABLE (256 
 
 -- A symbol that goes on with a letter, of a class from 12 to 15, stays one.
 stays : ℕ → Bool
-stays k = implied (ltb 11 k) (eqb (grown 10 k) 10)
+stays k = implies (ltb 11 k) (eqb (grown 10 k) 10)
 
 pub symbol-stays : (k : ℕ) → k < 16 → 11 < k → grown 10 k ≡ 10
 unfolding stays
-symbol-stays k h g = eqb→eq (grown 10 k) 10 (so (ltb 11 k) (eqb (grown 10 k) 10) (at 16 stays tt k h) (lt→ltb 11 k g))
+symbol-stays k h g = eqb→eq (grown 10 k) 10 (given (ltb 11 k) (eqb (grown 10 k) 10) (at 16 stays tt k h) (lt→ltb 11 k g))
 
 kind-right : ℕ → Bool
 kind-right p = eqb (getD TABLE (512 + p) 0) (kind p)

@@ -11,7 +11,8 @@ use Rattle.text.specs.Lexicon.{from-to, bytes, same-bytes}
 use Rattle.words.specs.ByLength.{WORDS-TO-3, WORDS-TO-5, WORDS-OF-6, WORDS-TO-9, WORDS-TO-13, WORDS-FROM-14}
 use Rattle.words.specs.Words.{among, reserved}
 use Rattle.text.proofs.Words.{length-bytes}
-use Rattle.words.proofs.Groups.{by-length, has-those, both-of}
+use Rattle.text.proofs.Reading.{both-of}
+use Rattle.words.proofs.Groups.{by-length, has-those}
 use Rattle.words.proofs.is_reserved.Statement.{statement}
 use Rattle.words.proofs.is_reserved.Tie as tie
 
