@@ -9,7 +9,7 @@ use Rattle.text.specs.Lexicon.{END, token-at}
 use Rattle.span.specs.Span.{span}
 use Rattle.write.specs.Written.{over}
 use Rattle.script.specs.Record.{Lent}
-use Rattle.script.specs.Whole.{error-line, rest, after-command, Plays, Fresh}
+use Rattle.script.specs.Whole.{error-line, rest, after-command, Plays, blank}
 use Rattle.run.specs.declared.Begun.{Begun}
 
 -- A command begins at place `from`, after place i, and ends before place `end`; n bytes are lent, and k of them written.
@@ -53,6 +53,6 @@ pub record Steps (s : List ℕ) (i : ℕ) (l : Lent) (k g : ℕ) (going : Bool) 
   pub on : going ≡ true → (h w : ℕ) (out : List ℕ) → Plays s j l′ e h w out → Plays s i l k h w out
   pub onward : going ≡ true → (i < j) × (j ≤ length s)
 
--- The script plays from its start on fresh tables, with no byte written.
+-- The script plays from its start on tables of zeros, with no byte written.
 abbrev pub PlaysFresh : List ℕ → List ℕ → (g w : ℕ) → List ℕ → Type 0
-PlaysFresh s out g w out′ = (l : Lent) × (Fresh l × ((l .out ≡ out) × Plays s 0 l 0 g w out′))
+PlaysFresh s out g w out′ = Plays s 0 (blank out) 0 g w out′

@@ -18,3 +18,17 @@ pub mod Asserted
 pub mod Fixing
 pub mod Mixing
 pub mod Adjoining
+pub mod OneTerm
+pub mod OneHistory
+pub mod Named
+pub mod InForce
+pub mod Stacking
+pub mod Commanding
+pub mod Quieting
+pub mod Planning
+pub mod Tracing
+pub mod Printing
+pub mod Answering
+pub mod Calling
+pub mod Playing
+pub mod Ending

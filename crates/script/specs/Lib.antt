@@ -5,3 +5,5 @@ pub mod Commands
 pub mod Terms
 pub mod Whole
 pub mod Mixed
+pub mod Traces
+pub mod Told

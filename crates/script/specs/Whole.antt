@@ -1,10 +1,11 @@
 -- A whole script: its commands one after the other, and the bytes that they print.
-use Prim.Native.Nat.{ℕ, _+_, _≤_, _<_}
+use Prim.Native.Nat.{ℕ, _+_, _*_, _≤_, _<_}
 use mathlib.Core.Path.{_≡_}
 use mathlib.Core.Bool.{Bool, true, false}
 use mathlib.Core.List.{List, [], _∷_, _++_}
-use lib.ListN.{length, take, drop}
-use Rattle.meaning.specs.Bounds.{STEPS, ROOM, TEXT, DONE, SHORT, SYNTAX, SIZE}
+use lib.ListN.{length, take, drop, replicate}
+use lib.IntN.{pos}
+use Rattle.meaning.specs.Bounds.{STEPS, RULES, MARKS, WATCHED, NAME-BYTES, ROOM, TEXT, DONE, SHORT, SYNTAX, SIZE}
 use Rattle.meaning.specs.Tables.{at}
 use Rattle.meaning.specs.Promise.{First}
 use Rattle.text.specs.Lexicon.{END, token-at}
@@ -74,9 +75,25 @@ pub record Fresh (l : Lent) : Type 0 where
   pub notes-are : l .notes ≡ record { names = 0; logic = false; broken = 0; sat = false }
   pub day-0 : (v : ℕ) → v < STEPS → at (l .tables .days) v ≡ 0
 
+-- The tables of a script's own: zeros, each table exactly as long as its bound says.
+abbrev pub blank : List ℕ → Lent
+blank out = record {
+  tables = record {
+    counts = record { steps = STEPS; rules = 0; marks = 0; watched = 0 };
+    rules = record { firsts = replicate {A = ℕ} RULES 0; seconds = replicate {A = ℕ} RULES 0; amounts = replicate RULES (pos 0) };
+    days = replicate {A = ℕ} STEPS 0;
+    marks = replicate {A = ℕ} MARKS 0;
+    watched = record { firsts = replicate {A = ℕ} WATCHED 0; seconds = replicate {A = ℕ} WATCHED 0; amounts = replicate WATCHED (pos 0) };
+  };
+  notes = record { names = 0; logic = false; broken = 0; sat = false };
+  names = replicate {A = ℕ} (NAME-BYTES * STEPS) 0;
+  lens = replicate {A = ℕ} STEPS 0;
+  out = out;
+}
+
 -- **The whole script** s, whose answers go into `out`: it ends with the number g, w bytes are written, and `out′` is left. Where fewer than ROOM bytes are lent
 -- and there is a command or too long a script, SHORT; a script of more than TEXT bytes is SIZE, before its first command.
 pub record RunsScript (s out : List ℕ) (g w : ℕ) (out′ : List ℕ) : Type 0 where
   pub too-long : TEXT < length s → ROOM ≤ length out → (g ≡ SIZE) × ((w ≡ length (error-line SIZE)) × (out′ ≡ over out 0 (error-line SIZE)))
   pub too-long-short : TEXT < length s → length out < ROOM → (g ≡ SHORT) × ((w ≡ 0) × (out′ ≡ out))
-  pub played : length s ≤ TEXT → (l : Lent) × (Fresh l × ((l .out ≡ out) × Plays s 0 l 0 g w out′))
+  pub played : length s ≤ TEXT → Plays s 0 (blank out) 0 g w out′

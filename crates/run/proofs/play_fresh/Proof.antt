@@ -6,8 +6,7 @@ use lib.IntN.{pos}
 use lib.ListN.{replicate, length-replicate, getD-replicate}
 use borrow.Author.Needs.{needs}
 use Rattle.text.specs.Table.{TABLE}
-use Rattle.carry.specs.Carrying.{lent}
-use Rattle.run.proofs.Fresh.{first-counts, first-notes, fresh-maintained}
+use Rattle.run.proofs.Fresh.{fresh-maintained}
 use Rattle.run.proofs.play_fresh.Statement.{statement}
 use Rattle.run.proofs.play_fresh.Tie as tie
 
@@ -67,7 +66,7 @@ same-length : tie.Need-same-length
 same-length c = c .before .before .before .before .before .before .before .before .before .before .before .before .before .before .before .play .kept .1 .1 .1 .1 .1 .1 .1 .1 .1 .1 .1 .1 .1 .1 .1 .1 .1 .1 .1 .1 .0
 
 returns : tie.Need-returns
-returns c = ((lent first-counts (replicate {A = ℕ} 4096 0) (replicate {A = ℕ} 4096 0) (replicate 4096 (pos 0)) (replicate {A = ℕ} 256 0) (replicate {A = ℕ} 64 0) (replicate {A = ℕ} 1024 0) (replicate {A = ℕ} 1024 0) (replicate 1024 (pos 0)) first-notes (replicate {A = ℕ} 8192 0) (replicate {A = ℕ} 256 0) (c .before .before .before .before .before .before .before .before .before .before .before .before .before .before .before .before .before .before .before .before .before .before .before .before .before .before .before .before .before .before .before .before .before .before .before .before .args .out .now)), (record { room = (record { tables-room = record { rules-room = record { firsts-room = (omega (arith, length-replicate {A = ℕ} 4096 0)); seconds-room = (omega (arith, length-replicate {A = ℕ} 4096 0)); amounts-room = (omega (arith, length-replicate 4096 (pos 0))) }; days-room = (omega (arith, length-replicate {A = ℕ} 256 0)); marks-room = (omega (arith, length-replicate {A = ℕ} 64 0)); watched-room = record { firsts-room = (omega (arith, length-replicate {A = ℕ} 1024 0)); seconds-room = (omega (arith, length-replicate {A = ℕ} 1024 0)); amounts-room = (omega (arith, length-replicate 1024 (pos 0))) } }; names-room = (omega (arith, length-replicate {A = ℕ} 8192 0)); lens-room = (omega (arith, length-replicate {A = ℕ} 256 0)) }); counts-are = refl; notes-are = refl; day-0 = (λ v h. getD-replicate {A = ℕ} 256 v 0 0 h) }, (refl, c .before .before .before .before .before .before .before .before .before .before .before .before .before .before .before .play .ensures)))
+returns c = c .before .before .before .before .before .before .before .before .before .before .before .before .before .before .before .play .ensures
 
 pub play-fresh-spec : {M : Type 1} → statement M
 play-fresh-spec =
