@@ -1,17 +1,157 @@
-// Reads a script from standard input, whole, and writes its answers. No script of at most 65,536 bytes prints as much as the bytes for the answers hold: a name in a
-// get-value takes two bytes of the script at least, and prints fourteen at most where it has one byte; nothing else prints as much for its length.
+// Reads a script from standard input, whole, and writes its answers. The bytes for them are written out whenever fewer than ROOM of them are left, and at the end; so the
+// answers may be as long as they like.
+ghost use mathlib.Core.Path.{_≡_};
+ghost use Prim.Native.Nat.{_≤_, _<_};
+ghost use lib.ListN.{length};
+ghost use Rattle.meaning.specs.Bounds.{ROOM, TEXT};
+ghost use Rattle.text.specs.Table.{TABLE};
+ghost use Rattle.carry.specs.Carrying.{lent, Maintained};
+use meaning::Counts;
+use script::Notes;
 
 // Writes the first w bytes to standard output.
-fn show(out: &[u8], w: usize) {
-    if w <= out.len() {
-        io::write_all(1, &out[0..w]);
+fn show(out: &[u8], w: usize)
+    requires { ⌜ w ≤ length (now out) ⌝ }
+{
+    io::write_all(1, &out[0..w]);
+}
+
+// The script part after part, from its start on, on tables and a record that are known to be sound: what a part wrote is written out before the next.
+fn answer(
+    s: &[u8],
+    tab: &[u8; text::PLACES],
+    counts: Counts,
+    notes: Notes,
+    xs: &mut [u16],
+    ys: &mut [u16],
+    cs: &mut [i32],
+    days: &mut [u32],
+    marks: &mut [u32],
+    wxs: &[u16],
+    wys: &[u16],
+    wcs: &[i32],
+    heads: &mut [u16],
+    nexts: &mut [u16],
+    kept: &mut [u32],
+    names: &mut [u8],
+    lens: &mut [u8],
+    hashes: &mut [u16],
+    name_heads: &mut [u16],
+    name_nexts: &mut [u16],
+    out: &mut [u8],
+)
+    requires { ⌜ now tab ≡ TABLE ⌝ }
+    requires { ⌜ Maintained 0 (lent counts (now xs) (now ys) (now cs) (now days) (now marks) (now wxs) (now wys) (now wcs) notes (now names) (now lens) (now out)) (now heads) (now nexts) (now kept) (now hashes) (now «name_heads») (now «name_nexts») ⌝ }
+    requires { ⌜ ROOM ≤ length (now out) ⌝ }
+{
+    let mut at = 0;
+    let mut held = counts;
+    let mut noted = notes;
+    loop {
+        let part = run::advance(
+            s,
+            tab,
+            at,
+            held,
+            noted,
+            xs,
+            ys,
+            cs,
+            days,
+            marks,
+            wxs,
+            wys,
+            wcs,
+            heads,
+            nexts,
+            kept,
+            names,
+            lens,
+            hashes,
+            name_heads,
+            name_nexts,
+            out,
+        );
+        show(out, part.written);
+        if !part.paused {
+            return;
+        }
+        at = part.at;
+        held = part.counts;
+        noted = part.notes;
     }
+}
+
+// The script on fresh tables: STEPS steps on day 0, no rule and an empty record. 16384 is STEPS times MARKS, 8192 is NAME_BYTES times STEPS, 32768 is ROOM twice.
+fn play(s: &[u8]) {
+    let tab = text::TABLE;
+    let mut xs = [0u16; meaning::RULES];
+    let mut ys = [0u16; meaning::RULES];
+    let mut cs = [0i32; meaning::RULES];
+    let mut days = [0u32; meaning::STEPS];
+    let mut marks = [0u32; meaning::MARKS];
+    let wxs = [0u16; meaning::WATCHED];
+    let wys = [0u16; meaning::WATCHED];
+    let wcs = [0i32; meaning::WATCHED];
+    let mut heads = [0u16; meaning::STEPS];
+    let mut nexts = [0u16; meaning::RULES];
+    let mut kept = [0u32; 16384];
+    let mut names = [0u8; 8192];
+    let mut lens = [0u8; meaning::STEPS];
+    let mut hashes = [0u16; meaning::STEPS];
+    let mut name_heads = [0u16; names::BUCKETS];
+    let mut name_nexts = [0u16; meaning::STEPS];
+    let mut out = [0u8; 32768];
+    answer(
+        s,
+        &tab,
+        Counts {
+            steps: 256,
+            rules: 0,
+            marks: 0,
+            watched: 0,
+        },
+        Notes {
+            names: 0,
+            logic: false,
+            broken: 0,
+            sat: false,
+        },
+        &mut xs,
+        &mut ys,
+        &mut cs,
+        &mut days,
+        &mut marks,
+        &wxs,
+        &wys,
+        &wcs,
+        &mut heads,
+        &mut nexts,
+        &mut kept,
+        &mut names,
+        &mut lens,
+        &mut hashes,
+        &mut name_heads,
+        &mut name_nexts,
+        &mut out,
+    );
+}
+
+// A script that is too long: its only answer is the refusal.
+fn refuse(s: &[u8])
+    requires { ⌜ TEXT < length (now s) ⌝ }
+{
+    let mut out = [0u8; meaning::ROOM];
+    let ran = run::run_script(s, &mut out);
+    show(&out, ran.written);
 }
 
 fn main() {
     let mut text = [0u8; 65537];
     let n = io::read_full(0, &mut text);
-    let mut out = [0u8; 524288];
-    let ran = run::run_script(&text[0..n], &mut out);
-    show(&out, ran.written);
+    if n <= meaning::TEXT {
+        play(&text[0..n]);
+    } else {
+        refuse(&text[0..n]);
+    }
 }

@@ -4,13 +4,15 @@ use native.Mathlib.Omega.{arith}
 use mathlib.Core.Path.{_≡_, refl}
 use mathlib.Core.Bool.{false}
 use mathlib.Core.List.{List}
-use lib.ListN.{length}
+use lib.ListN.{length, replicate, length-replicate, getD-replicate}
 use Rattle.meaning.specs.Bounds.{STEPS, RULES, MARKS, NAME-BYTES}
 use Rattle.meaning.specs.Tables.{at}
 use Rattle.chains.specs.Chains.{Empty}
 use Rattle.chains.proofs.Laws.{chained-none}
 use Rattle.names.specs.Names.{BUCKETS, IndexRoom}
 use Rattle.script.specs.Record.{StartRoom}
+use Rattle.script.specs.Whole.{blank}
+use Rattle.script.proofs.Playing.{blank-fresh}
 use lib.IntN.{ℤ}
 use Rattle.meaning.specs.declared.Counts.{Counts}
 use Rattle.script.specs.declared.Notes.{Notes}
@@ -54,3 +56,21 @@ fresh-maintained xs ys cs days marks wxs wys wcs names lens out heads nexts kept
       days-kept = record { kept-room = λ k lo h. omega (arith, kept-room); kept-earliest = λ k lo h. absurd (omega arith) };
       indexed = record { room = index-room; hashes-are = λ k h. absurd (omega arith); chained = chained-none BUCKETS hashes name-heads name-nexts no-names };
     }
+
+-- A table of n zeros.
+abbrev pub zeros : ℕ → List ℕ
+zeros n = replicate {A = ℕ} n 0
+
+long : (n : ℕ) → n ≤ length (zeros n)
+long n = omega (arith, length-replicate {A = ℕ} n 0)
+
+none-set : (v : ℕ) → v < 256 → at (zeros 256) v ≡ 0
+none-set v h = getD-replicate {A = ℕ} 256 v 0 0 h
+
+-- Tables of zeros are sound, with the links, the kept days and the index of the names that are lent beside them.
+pub fresh-tables : (out : List ℕ) → Maintained 0 (blank out) (zeros 256) (zeros 4096) (zeros 16384) (zeros 256) (zeros 256) (zeros 256)
+fresh-tables out =
+    let l = blank out in
+    let t = l .tables in
+    fresh-maintained (t .rules .firsts) (t .rules .seconds) (t .rules .amounts) (t .days) (t .marks) (t .watched .firsts) (t .watched .seconds) (t .watched .amounts) (l .names) (l .lens) out (zeros 256) (zeros 4096) (zeros 16384) (zeros 256) (zeros 256) (zeros 256)
+    (blank-fresh out .room) (blank-fresh out .day-0) none-set (long 256) (long 4096) (long 16384) (record { hashes-room = long 256; heads-room = long 256; nexts-room = long 256 }) none-set

@@ -1,5 +1,9 @@
 -- What the proofs of the whole script share.
 pub mod Room
+pub mod Refusing
 pub mod Beginning
 pub mod Stepping
+pub mod Reaching
+pub mod Printing
 pub mod Fresh
+pub mod Parts

@@ -1,11 +1,11 @@
--- A command prints at most ROOM bytes: nothing, a fixed word, or the values asked for, of which there are at most ASKED.
+-- A command prints at most ROOM bytes: nothing, a fixed word, or the values asked for, of which there are at most ASKED. So does a refusal.
 use Prim.Native.Nat.{ℕ, _+_, _*_, _≤_, _<_}
 use native.Mathlib.Omega.{arith}
 use mathlib.Core.Path.{_≡_, refl, subst, sym}
 use mathlib.Core.Bool.{Bool, true, false}
-use mathlib.Core.List.{List}
+use mathlib.Core.List.{List, [], _∷_, _++_}
 use lib.Dec.{eqb}
-use lib.ListN.{length}
+use lib.ListN.{length, length-append}
 use Rattle.meaning.specs.Bounds.{ROOM, NAME-BYTES, DONE}
 use Rattle.meaning.specs.Tables.{at}
 use Rattle.meaning.specs.Promise.{First}
@@ -15,6 +15,9 @@ use Rattle.form.specs.Form.{form}
 use Rattle.script.specs.Record.{Lent, Known, step-of}
 use Rattle.script.specs.Effect.{Does, either-answer, SAT, UNSAT, asked, values}
 use Rattle.script.specs.Commands.{command-needs}
+use Rattle.script.specs.Whole.{error-line}
+use Rattle.write.specs.Written.{decimal}
+use Rattle.write.proofs.Decimal.{decimal-ten}
 use Rattle.script.proofs.Keeping.{Fine, shelved-of}
 use Rattle.script.proofs.Granted.{value-met}
 use Rattle.script.proofs.Needed.{names-met}
@@ -45,3 +48,10 @@ module _ (s : List ℕ) (k : ℕ) (l l′ : Lent) (w : ℕ) (fine : Fine l) (sma
 
   pub written-short : First (command-needs (form s) s l) DONE → Does (form s) s k l w l′ → w ≤ ROOM
   written-short met does = by-command (form s) refl met does
+
+pub error-short : (g : ℕ) → g < 4294967296 → length (error-line g) ≤ ROOM
+error-short g h =
+    let parts : length (decimal g ++ (34 ∷ 41 ∷ 10 ∷ [])) ≡ length (decimal g) + 3 = length-append (decimal g) (34 ∷ 41 ∷ 10 ∷ []) in
+    let whole : length (error-line g) ≡ 8 + length (decimal g ++ (34 ∷ 41 ∷ 10 ∷ [])) =
+    length-append (40 ∷ 101 ∷ 114 ∷ 114 ∷ 111 ∷ 114 ∷ 32 ∷ 34 ∷ []) (decimal g ++ (34 ∷ 41 ∷ 10 ∷ [])) in
+    omega (arith, whole, parts, decimal-ten g (omega (arith, h)))

@@ -17,14 +17,13 @@ use Rattle.write.specs.Written.{over}
 use Rattle.script.specs.Record.{Lent}
 use Rattle.script.specs.Whole.{error-line, rest, command-at, after-command, exits, Plays}
 use Rattle.script.proofs.Keeping.{Fine}
+use Rattle.script.specs.Traces.{with-out}
 use Rattle.carry.specs.declared.Carried.{Carried}
 use Rattle.carry.specs.Carrying.{Carries, Maintained}
-use Rattle.run.specs.Stepping.{Ready, Halts, Halted, Settled, GoesOn, Steps}
-use Rattle.run.proofs.Room.{written-short}
-
--- What is lent with other bytes for the answers.
-abbrev pub with-out : List ℕ → Lent → Lent
-with-out o l = record { tables = l .tables; notes = l .notes; names = l .names; lens = l .lens; out = o }
+use Rattle.run.specs.Reaching.{Reaches}
+use Rattle.run.specs.Stepping.{Ready, Halts, Halted, Settled, GoesOn, Waits, Steps}
+use Rattle.run.proofs.Room.{written-short, error-short}
+use Rattle.run.proofs.Refusing.{never-short}
 
 pub maintained-out :
     (l : Lent) (o heads nexts kept hashes name-heads name-nexts : List ℕ) → Maintained 0 l heads nexts kept hashes name-heads name-nexts →
@@ -72,12 +71,29 @@ module _ (s : List ℕ) (i : ℕ) (l : Lent) (k : ℕ) where
   halts-room n g (Halts.short-there h short) e = absurd (omega arith)
   halts-room n g (Halts.none-there h room none) e = room
 
+  halted-in : (g : ℕ) (out′ : List ℕ) (e : ℕ) → Halts s i (length (l .out)) k g → Halted (l .out) k g out′ e → k ≤ length (l .out) → e ≤ length (l .out)
+  halted-in g out′ e (Halts.over-there h) x inside = omega (arith, x .quiet (λ z. omega arith) .1, inside)
+  halted-in g out′ e (Halts.short-there h short) x inside = omega (arith, x .quiet (λ z. omega arith) .1, inside)
+  halted-in g out′ e (Halts.none-there h room none) x inside = omega (arith, x .syntax refl .1, error-short SYNTAX (omega arith), room)
+
+  -- SHORT: there was no room, and nothing was done.
+  halted-waits : (g : ℕ) (out′ : List ℕ) (e : ℕ) → Halts s i (length (l .out)) k g → Halted (l .out) k g out′ e → g ≡ SHORT → Waits i l k i e (with-out out′ l)
+  halted-waits g out′ e (Halts.over-there h) x is = absurd (omega (arith, is))
+  halted-waits g out′ e (Halts.short-there h short) x is =
+      let q = x .quiet (λ z. omega arith) in
+      record { same-place = refl; same-written = q .1; same-lent = ap (λ (o : List ℕ). with-out o l) (q .0); no-room = short }
+  halted-waits g out′ e (Halts.none-there h room none) x is = absurd (omega (arith, is))
+
   pub halted-steps :
-      (g j e : ℕ) (out′ : List ℕ) → Halts s i (length (l .out)) k g → Halted (l .out) k g out′ e → Steps s i l k g false j e (with-out out′ l)
-  halted-steps g j e out′ h x = record {
+      (g e : ℕ) (out′ : List ℕ) (paused : Bool) → (paused ≡ true → g ≡ SHORT) → (paused ≡ false → g ≡ SHORT → ⊥) → Halts s i (length (l .out)) k g → Halted (l .out) k g out′ e →
+      Steps s i l k g false paused i e (with-out out′ l)
+  halted-steps g e out′ paused when when-not h x = record {
     ends = λ z. halted g out′ e h x;
     on = λ z. absurd (true≢false (sym z));
     onward = λ z. absurd (true≢false (sym z));
+    waits = λ z. halted-waits g out′ e h x (when z);
+    not-short = when-not;
+    written-in = halted-in g out′ e h x;
   }
 
   module _ (from end : ℕ) (ready : Ready s i (length (l .out)) k from end) (r : Carried) (l₁ : Lent) (carries : Carries (command-at s i) k l r l₁) where
@@ -105,19 +121,24 @@ module _ (s : List ℕ) (i : ℕ) (l : Lent) (k : ℕ) where
           (subst (λ (v : ℕ). Plays s i l k (r .number) v (over (l .out) k (error-line (r .number)))) (sym (q .1))
           (Plays.refused i l k (r .number) (ready .not-over) (ready .room) (ready .some) (carries .first-unmet) refused))
 
-      goes-on : going ≡ true → (h w : ℕ) (out : List ℕ) → Plays s end (with-out out′ l₁) e h w out → Plays s i l k h w out
-      goes-on on h w out then =
+      goes-on : going ≡ true → Reaches s i l k end (with-out out′ l₁) e
+      goes-on on =
           let done = goes .on on .0 in
           let q = settled .done done in
           let met = subst (First (command-needs (form (command-at s i)) (command-at s i) l)) done (carries .first-unmet) in
-          let there : Plays s (after-command s i) l₁ (k + r .written) h w out =
-          subst (λ (j : ℕ). Plays s j l₁ (k + r .written) h w out) (ready .end-is)
-          (subst (λ (v : ℕ). Plays s end l₁ v h w out) (q .1) (subst (λ (o : List ℕ). Plays s end (with-out o l₁) e h w out) (q .0) then)) in
-          Plays.goes-on i l l₁ k (r .written) h w out (ready .not-over) (ready .room) (ready .some) met (carries .when-done done) (sym (carries .ends done) ∙ goes .on on .1) there
+          let there : Reaches s (after-command s i) l₁ (k + r .written) end (with-out out′ l₁) e =
+          subst (λ (j : ℕ). Reaches s (after-command s i) l₁ (k + r .written) j (with-out out′ l₁) e) (sym (ready .end-is))
+          (subst (λ (v : ℕ). Reaches s (after-command s i) l₁ (k + r .written) (after-command s i) (with-out out′ l₁) v) (sym (q .1))
+          (subst (λ (o : List ℕ). Reaches s (after-command s i) l₁ (k + r .written) (after-command s i) (with-out o l₁) (k + r .written)) (sym (q .0))
+          (Reaches.there (after-command s i) l₁ (k + r .written)))) in
+          Reaches.carried i l l₁ k (r .written) end (with-out out′ l₁) e (ready .not-over) (ready .room) (ready .some) met (carries .when-done done) (sym (carries .ends done) ∙ goes .on on .1) there
 
-      pub carried-steps : Steps s i l k (r .number) going end e (with-out out′ l₁)
+      pub carried-steps : Steps s i l k (r .number) going false end e (with-out out′ l₁)
       carried-steps = record {
         ends = λ z. stops z (ℕ-discrete (r .number) DONE);
         on = goes-on;
         onward = λ z. (ready .onward, ready .within);
+        waits = λ z. absurd (true≢false (sym z));
+        not-short = λ z. never-short (form (command-at s i)) (command-at s i) l (r .number) (carries .first-unmet);
+        written-in = λ h. omega (arith, settled .short, ready .room);
       }

@@ -1,2 +1,3 @@
 -- What the contracts of the whole script cite.
+pub mod Reaching
 pub mod Stepping

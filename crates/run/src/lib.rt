@@ -6,8 +6,9 @@ ghost use mathlib.Core.Bool.{Bool, true, false};
 ghost use Rattle.meaning.specs.Bounds.{ROOM, DONE, SYNTAX};
 ghost use Rattle.text.specs.Table.{TABLE};
 ghost use Rattle.write.specs.Written.{over, decimal};
-ghost use Rattle.script.specs.Whole.{error-line, Plays, RunsScript};
+ghost use Rattle.script.specs.Whole.{error-line, RunsScript};
 ghost use Rattle.carry.specs.Carrying.{lent, Maintained};
+ghost use Rattle.run.specs.Reaching.{Advances};
 ghost use Rattle.run.specs.Stepping.{Begins, Halted, Settled, GoesOn, Steps, PlaysFresh};
 use meaning::Counts;
 use script::Notes;
@@ -18,6 +19,17 @@ pub struct Ran {
     pub written: usize,
 }
 
+// How far a script was carried out: the refusal's number; the place reached; how many bytes are written; whether it only pauses there, for want of room; the counts
+// and the record.
+pub struct Played {
+    pub number: u32,
+    pub at: usize,
+    pub written: usize,
+    pub paused: bool,
+    pub counts: Counts,
+    pub notes: Notes,
+}
+
 // Whether a command can be carried out from a place on: where it begins and ends; where none can, the number with which the script ends.
 struct Begun {
     ready: bool,
@@ -26,10 +38,12 @@ struct Begun {
     end: usize,
 }
 
-// How one command ended: the refusal's number; whether the script goes on, and from which place; how many bytes are written so far; the counts and the record.
+// How one command ended: the refusal's number; whether the script goes on, or pauses for want of room, and from which place; how many bytes are written so far; the
+// counts and the record.
 struct Step {
     number: u32,
     going: bool,
+    paused: bool,
     at: usize,
     to: usize,
     counts: Counts,
@@ -65,7 +79,7 @@ fn begin(s: &[u8], tab: &[u8; text::PLACES], at: usize, len: usize, to: usize) -
     if len < to || len - to < meaning::ROOM {
         return Begun {
             ready: false,
-            number: 1,
+            number: meaning::SHORT,
             from: from,
             end: from,
         };
@@ -74,7 +88,7 @@ fn begin(s: &[u8], tab: &[u8; text::PLACES], at: usize, len: usize, to: usize) -
     if size == 0 {
         return Begun {
             ready: false,
-            number: 8,
+            number: meaning::SYNTAX,
             from: from,
             end: from,
         };
@@ -92,7 +106,7 @@ fn halt(out: &mut [u8], to: usize, number: u32) -> usize
     requires { ⌜ (number ≡ SYNTAX → to + ROOM ≤ length (now out)) ⌝ }
     ensures { λ r. ⌜ Halted (now (out .entry)) to number (now (out .exit)) r ⌝ }
 {
-    if number == 8 {
+    if number == meaning::SYNTAX {
         return put_error(out, to, number);
     }
     to
@@ -148,7 +162,7 @@ fn one(
 ) -> Step
     requires { ⌜ now tab ≡ TABLE ⌝ }
     requires { ⌜ Maintained 0 (lent counts (now xs) (now ys) (now cs) (now days) (now marks) (now wxs) (now wys) (now wcs) notes (now names) (now lens) (now out)) (now heads) (now nexts) (now kept) (now hashes) (now «name_heads») (now «name_nexts») ⌝ }
-    ensures { λ r. ⌜ Steps (now (s .entry)) at (lent counts (now (xs .entry)) (now (ys .entry)) (now (cs .entry)) (now (days .entry)) (now (marks .entry)) (now (wxs .entry)) (now (wys .entry)) (now (wcs .entry)) notes (now (names .entry)) (now (lens .entry)) (now (out .entry))) to (r .number) (r .going) (r .at) (r .to) (lent (r .counts) (now (xs .exit)) (now (ys .exit)) (now (cs .exit)) (now (days .exit)) (now (marks .exit)) (now (wxs .entry)) (now (wys .entry)) (now (wcs .entry)) (r .notes) (now (names .exit)) (now (lens .exit)) (now (out .exit))) ⌝ }
+    ensures { λ r. ⌜ Steps (now (s .entry)) at (lent counts (now (xs .entry)) (now (ys .entry)) (now (cs .entry)) (now (days .entry)) (now (marks .entry)) (now (wxs .entry)) (now (wys .entry)) (now (wcs .entry)) notes (now (names .entry)) (now (lens .entry)) (now (out .entry))) to (r .number) (r .going) (r .paused) (r .at) (r .to) (lent (r .counts) (now (xs .exit)) (now (ys .exit)) (now (cs .exit)) (now (days .exit)) (now (marks .exit)) (now (wxs .entry)) (now (wys .entry)) (now (wcs .entry)) (r .notes) (now (names .exit)) (now (lens .exit)) (now (out .exit))) ⌝ }
     ensures { λ r. ⌜ Maintained 0 (lent (r .counts) (now (xs .exit)) (now (ys .exit)) (now (cs .exit)) (now (days .exit)) (now (marks .exit)) (now (wxs .entry)) (now (wys .entry)) (now (wcs .entry)) (r .notes) (now (names .exit)) (now (lens .exit)) (now (out .exit))) (now (heads .exit)) (now (nexts .exit)) (now (kept .exit)) (now (hashes .exit)) (now («name_heads» .exit)) (now («name_nexts» .exit)) ⌝ }
 {
     let b = begin(s, tab, at, out.len(), to);
@@ -157,6 +171,7 @@ fn one(
         return Step {
             number: b.number,
             going: false,
+            paused: b.number == meaning::SHORT,
             at: at,
             to: past,
             counts: counts,
@@ -196,6 +211,7 @@ fn one(
     Step {
         number: r.number,
         going: goes_on(r.number, r.ended),
+        paused: false,
         at: end,
         to: past,
         counts: held,
@@ -203,10 +219,12 @@ fn one(
     }
 }
 
-// The script's commands one after the other, from its start on, on tables and a record that are known to be sound.
-fn play(
+// No public call: for `run_script` and for the program, which keep the tables and the record sound. The script's commands one after the other, from place start on, as
+// far as the bytes for the answers go. Where it pauses, whoever called writes the bytes out and goes on from the place reached, with all that was lent as it was left.
+pub fn advance(
     s: &[u8],
     tab: &[u8; text::PLACES],
+    start: usize,
     counts: Counts,
     notes: Notes,
     xs: &mut [u16],
@@ -226,12 +244,13 @@ fn play(
     name_heads: &mut [u16],
     name_nexts: &mut [u16],
     out: &mut [u8],
-) -> Ran
+) -> Played
     requires { ⌜ now tab ≡ TABLE ⌝ }
     requires { ⌜ Maintained 0 (lent counts (now xs) (now ys) (now cs) (now days) (now marks) (now wxs) (now wys) (now wcs) notes (now names) (now lens) (now out)) (now heads) (now nexts) (now kept) (now hashes) (now «name_heads») (now «name_nexts») ⌝ }
-    ensures { λ r. ⌜ Plays (now (s .entry)) 0 (lent counts (now (xs .entry)) (now (ys .entry)) (now (cs .entry)) (now (days .entry)) (now (marks .entry)) (now (wxs .entry)) (now (wys .entry)) (now (wcs .entry)) notes (now (names .entry)) (now (lens .entry)) (now (out .entry))) 0 (r .number) (r .written) (now (out .exit)) ⌝ }
+    ensures { λ r. ⌜ Advances (now (s .entry)) start (lent counts (now (xs .entry)) (now (ys .entry)) (now (cs .entry)) (now (days .entry)) (now (marks .entry)) (now (wxs .entry)) (now (wys .entry)) (now (wcs .entry)) notes (now (names .entry)) (now (lens .entry)) (now (out .entry))) (r .number) (r .paused) (r .at) (r .written) (lent (r .counts) (now (xs .exit)) (now (ys .exit)) (now (cs .exit)) (now (days .exit)) (now (marks .exit)) (now (wxs .entry)) (now (wys .entry)) (now (wcs .entry)) (r .notes) (now (names .exit)) (now (lens .exit)) (now (out .exit))) ⌝ }
+    ensures { λ r. ⌜ Maintained 0 (lent (r .counts) (now (xs .exit)) (now (ys .exit)) (now (cs .exit)) (now (days .exit)) (now (marks .exit)) (now (wxs .entry)) (now (wys .entry)) (now (wcs .entry)) (r .notes) (now (names .exit)) (now (lens .exit)) (now (out .exit))) (now (heads .exit)) (now (nexts .exit)) (now (kept .exit)) (now (hashes .exit)) (now («name_heads» .exit)) (now («name_nexts» .exit)) ⌝ }
 {
-    let mut at = 0;
+    let mut at = start;
     let mut to = 0;
     let mut held = counts;
     let mut noted = notes;
@@ -262,9 +281,15 @@ fn play(
             to,
         );
         if !step.going {
-            return Ran {
+            let now_held = step.counts;
+            let now_noted = step.notes;
+            return Played {
                 number: step.number,
+                at: step.at,
                 written: step.to,
+                paused: step.paused,
+                counts: now_held,
+                notes: now_noted,
             };
         }
         at = step.at;
@@ -295,9 +320,10 @@ fn play_fresh(s: &[u8], out: &mut [u8]) -> Ran
     let mut hashes = [0u16; meaning::STEPS];
     let mut name_heads = [0u16; names::BUCKETS];
     let mut name_nexts = [0u16; meaning::STEPS];
-    play(
+    let played = advance(
         s,
         &tab,
+        0,
         Counts {
             steps: 256,
             rules: 0,
@@ -327,7 +353,11 @@ fn play_fresh(s: &[u8], out: &mut [u8]) -> Ran
         &mut name_heads,
         &mut name_nexts,
         out,
-    )
+    );
+    Ran {
+        number: played.number,
+        written: played.written,
+    }
 }
 
 // The whole script s, whose answers go into out: SIZE where it is too long, SHORT where fewer than ROOM bytes are left for a command or for SIZE.
@@ -339,13 +369,13 @@ pub fn run_script(s: &[u8], out: &mut [u8]) -> Ran
     }
     if out.len() < meaning::ROOM {
         return Ran {
-            number: 1,
+            number: meaning::SHORT,
             written: 0,
         };
     }
-    let past = put_error(out, 0, 11);
+    let past = put_error(out, 0, meaning::SIZE);
     Ran {
-        number: 11,
+        number: meaning::SIZE,
         written: past,
     }
 }

@@ -61,7 +61,7 @@ does-same Unsupported s k l w v a b (w-is, a-is) (v-is, b-is) = (w-is ∙ sym v-
 does-same Syntax s k l w v a b impossible other = absurd impossible
 does-same Oversize s k l w v a b impossible other = absurd impossible
 
-command-fixed : (text : List ℕ) (l : Lent) → Fixed (command-meaning text l)
+pub command-fixed : (text : List ℕ) (l : Lent) → Fixed (command-meaning text l)
 command-fixed text l a b c d after other x y =
     let same = does-same (form (own text)) (own text) 0 l b d after other (x .done) (y .done) in
     (x .bytes-read ∙ sym (y .bytes-read), same .0, same .1)
@@ -71,7 +71,7 @@ pub command-determined :
     (text : List ℕ) (l : Lent) (g h : Given) (after other : Lent) → Obeys (command-meaning text l) l g after → Obeys (command-meaning text l) l h other → Same g h after other
 command-determined text l g h after other x y = determined (command-meaning text l) l g h after other x y (command-fixed text l) (λ a s none. none)
 
-start-fixed : (l : Lent) → Fixed (start-meaning l)
+pub start-fixed : (l : Lent) → Fixed (start-meaning l)
 start-fixed l a b c d after other x y = (
   x .opened .no-values .0 ∙ sym (y .opened .no-values .0),
   x .opened .no-values .1 ∙ sym (y .opened .no-values .1),
