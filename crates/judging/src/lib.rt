@@ -54,7 +54,7 @@ fn judge_rules(
         let xb = a.xb;
         if n <= names::find(names, lens, hashes, heads, nexts, n, s, xa, xb) {
             return Judged {
-                number: 10,
+                number: meaning::NAME,
                 rules: 0,
             };
         }
@@ -62,13 +62,13 @@ fn judge_rules(
         let yb = a.yb;
         if n <= names::find(names, lens, hashes, heads, nexts, n, s, ya, yb) {
             return Judged {
-                number: 10,
+                number: meaning::NAME,
                 rules: 0,
             };
         }
         if !leaf::amount_fits(a.amount) {
             return Judged {
-                number: 4,
+                number: meaning::AMOUNT,
                 rules: 0,
             };
         }
@@ -107,7 +107,7 @@ fn judge_names(
         let a = t.from;
         let b = t.to;
         if n <= names::find(names, lens, hashes, heads, nexts, n, s, a, b) {
-            return 10;
+            return meaning::NAME;
         }
         i = b;
     }
@@ -133,10 +133,10 @@ fn judge_declare(
     ensures { λ r. ⌜ JudgedName n (now (names .entry)) (now (lens .entry)) (bytes (now (s .entry)) a b) r ⌝ }
 {
     if names::find(names, lens, hashes, heads, nexts, n, s, a, b) < n {
-        return 10;
+        return meaning::NAME;
     }
     if meaning::STEPS <= n {
-        return 5;
+        return meaning::FULL;
     }
     0
 }
@@ -166,66 +166,66 @@ pub fn judge(
     match c {
         Command::SetLogic => {
             if notes.logic {
-                return 9;
+                return meaning::MODE;
             }
             0
         }
         Command::Declare(a, b) => {
             if !notes.logic {
-                return 9;
+                return meaning::MODE;
             }
             judge_declare(s, a, b, n, names, lens, hashes, heads, nexts)
         }
         Command::Assert(at) => {
             if !notes.logic {
-                return 9;
+                return meaning::MODE;
             }
             let j = judge_rules(s, tab, at, n, names, lens, hashes, heads, nexts);
             if 0 < j.number {
                 return j.number;
             }
             if notes.broken == 0 && meaning::RULES - (counts.rules as usize) < j.rules {
-                return 5;
+                return meaning::FULL;
             }
             0
         }
         Command::Push(k) => {
             if !notes.logic {
-                return 9;
+                return meaning::MODE;
             }
             let left = meaning::MARKS - (counts.marks as usize);
             if (left as u64) < k {
-                return 5;
+                return meaning::FULL;
             }
             0
         }
         Command::Pop(k) => {
             if !notes.logic {
-                return 9;
+                return meaning::MODE;
             }
             if (counts.marks as u64) < k {
-                return 7;
+                return meaning::NOMARK;
             }
             0
         }
         Command::CheckSat => {
             if !notes.logic {
-                return 9;
+                return meaning::MODE;
             }
             0
         }
         Command::GetValue(at) => {
             if !notes.logic {
-                return 9;
+                return meaning::MODE;
             }
             if !notes.sat {
-                return 9;
+                return meaning::MODE;
             }
             judge_names(s, tab, at, n, names, lens, hashes, heads, nexts)
         }
         Command::Exit => 0,
         Command::Unsupported => 0,
-        Command::Syntax => 8,
-        Command::Oversize => 11,
+        Command::Syntax => meaning::SYNTAX,
+        Command::Oversize => meaning::SIZE,
     }
 }

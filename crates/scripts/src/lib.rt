@@ -295,7 +295,7 @@ fn verdict(
     ensures { λ r. ⌜ Entered (now (text .entry)) (lent counts (now (xs .entry)) (now (ys .entry)) (now (cs .entry)) (now (days .entry)) (now (marks .entry)) (now (wxs .entry)) (now (wys .entry)) (now (wcs .entry)) notes (now (names .entry)) (now (lens .entry)) (now (out .entry))) r (now (heads .exit)) (now (nexts .exit)) (now (hashes .exit)) (now («name_heads» .exit)) (now («name_nexts» .exit)) ⌝ }
 {
     if !command_room(xs, ys, cs, days, marks, wxs, wys, wcs, names, lens, out) {
-        return 1;
+        return meaning::SHORT;
     }
     if !stands(
         tab,
@@ -317,10 +317,10 @@ fn verdict(
         name_heads,
         name_nexts,
     ) {
-        return 2;
+        return meaning::DAMAGED;
     }
     if span::span_of(text, tab) == 0 {
-        return 8;
+        return meaning::SYNTAX;
     }
     0
 }
