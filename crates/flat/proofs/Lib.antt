@@ -1,0 +1,4 @@
+-- What the proofs share.
+pub mod Telling
+pub mod Keeping
+pub mod Determined

@@ -1,0 +1,69 @@
+-- An answer told as numbers: a promise kept with an answer is kept with its number and values, and where a call has no second value, or none, with 0 for it.
+use Prim.Native.Nat.{ℕ}
+use native.Mathlib.Decide.{ℕ-discrete}
+use mathlib.Core.Path.{_≡_, sym, subst, ap}
+use Rattle.meaning.specs.Bounds.{DONE, CONFLICT}
+use Rattle.meaning.specs.declared.Counts.{Counts}
+use Rattle.meaning.specs.Promise.{Given, Meaning, Obeys, bare}
+use Rattle.meaning.specs.Tables.{Tables}
+use Rattle.meaning.specs.Calls.{WithList, WithLists}
+use Rattle.scripts.specs.Testing.{gave}
+
+-- By the number: carried out, on conflict, or refused.
+by-number : {X : Type 0} (k : ℕ) → (k ≡ DONE → X) → (k ≡ CONFLICT → X) → ((k ≡ DONE → ⊥) → (k ≡ CONFLICT → ⊥) → X) → X
+by-number {X} k done conflict refused = at-done (ℕ-discrete k DONE)
+  where
+    at-conflict : (k ≡ DONE → ⊥) → Dec (k ≡ CONFLICT) → X
+    at-conflict u (yes e) = conflict e
+    at-conflict u (no v) = refused u v
+
+    at-done : Dec (k ≡ DONE) → X
+    at-done (yes e) = done e
+    at-done (no u) = at-conflict u (ℕ-discrete k CONFLICT)
+
+same-given : (g : Given) (k v w : ℕ) → k ≡ g .number → v ≡ g .one → w ≡ g .two → g ≡ gave k v w
+same-given g k v w e f h i = record { number = sym e i; one = sym f i; two = sym h i }
+
+module _ {S : Type 0} (m : Meaning S) (before : S) (g : Given) (after : S) (o : Obeys m before g after) where
+  -- The number, and both values.
+  pub tell : (k v w : ℕ) → k ≡ g .number → v ≡ g .one → w ≡ g .two → Obeys m before (gave k v w) after
+  tell k v w e f h = subst (λ (z : Given). Obeys m before z after) (same-given g k v w e f h) o
+
+  -- A call that has no second value gives 0 for it.
+  no-second : ((a b : ℕ) (s : S) → m .done a b s → b ≡ 0) → g .two ≡ 0
+  no-second none = by-number (g .number) (λ e. none _ _ _ (o .when-done e)) (λ e. o .on-conflict e .1) (λ u v. ap (λ (z : Given). z .two) (o .when-refused u v .0))
+
+  pub tell-one : ((a b : ℕ) (s : S) → m .done a b s → b ≡ 0) → (k v : ℕ) → k ≡ g .number → v ≡ g .one → Obeys m before (gave k v 0) after
+  tell-one none k v e f = tell k v 0 e f (sym (no-second none))
+
+  -- A call that has no values gives 0 for both.
+  no-first : ((a b : ℕ) (s : S) → m .done a b s → (a ≡ 0) × (b ≡ 0)) → ((a : ℕ) (s : S) → m .conflict a s → ⊥) → g .one ≡ 0
+  no-first none never = by-number (g .number) (λ e. none _ _ _ (o .when-done e) .0) (λ e. absurd (never _ _ (o .on-conflict e .0))) (λ u v. ap (λ (z : Given). z .one) (o .when-refused u v .0))
+
+  pub tell-none : ((a b : ℕ) (s : S) → m .done a b s → (a ≡ 0) × (b ≡ 0)) → ((a : ℕ) (s : S) → m .conflict a s → ⊥) → (k : ℕ) → k ≡ g .number → Obeys m before (bare k) after
+  tell-none none never k e = tell k 0 0 e (sym (no-first none never)) (sym (no-second (λ a b s d. none a b s d .1)))
+
+  -- What the call leaves as it was, read off any part of what is lent.
+  pub stays : {P : Type 0} (part : S → P) → ((a b : ℕ) (s : S) → m .done a b s → part s ≡ part before) → ((a : ℕ) (s : S) → m .conflict a s → part s ≡ part before) → part after ≡ part before
+  stays part done conflict = by-number (g .number) (λ e. done _ _ _ (o .when-done e)) (λ e. conflict _ _ (o .on-conflict e .0)) (λ u v. ap part (o .when-refused u v .1))
+
+-- A call that leaves the counts as they were keeps its promise with the counts that were lent.
+module _ (s : WithLists) where
+  abbrev recounted : Counts → WithLists
+  recounted k = record { tables = record { counts = k; rules = s .tables .rules; days = s .tables .days; marks = s .tables .marks; watched = s .tables .watched }; one = s .one; two = s .two }
+
+  pub at-counts : (m : Meaning WithLists) (before : WithLists) (g : Given) → Obeys m before g s
+      → ((a b : ℕ) (t : WithLists) → m .done a b t → t .tables ≡ before .tables) → ((a : ℕ) (t : WithLists) → m .conflict a t → t .tables ≡ before .tables) → Obeys m before g (recounted (before .tables .counts))
+  at-counts m before g o done conflict =
+      subst (λ (k : Counts). Obeys m before g (recounted k))
+      (stays m before g s o (λ t. t .tables .counts) (λ a b t d. ap (λ (u : Tables). u .counts) (done a b t d)) (λ a t d. ap (λ (u : Tables). u .counts) (conflict a t d))) o
+
+module _ (s : WithList) where
+  abbrev recounted-1 : Counts → WithList
+  recounted-1 k = record { tables = record { counts = k; rules = s .tables .rules; days = s .tables .days; marks = s .tables .marks; watched = s .tables .watched }; list = s .list }
+
+  pub at-counts-1 : (m : Meaning WithList) (before : WithList) (g : Given) → Obeys m before g s
+      → ((a b : ℕ) (t : WithList) → m .done a b t → t .tables ≡ before .tables) → ((a : ℕ) (t : WithList) → m .conflict a t → t .tables ≡ before .tables) → Obeys m before g (recounted-1 (before .tables .counts))
+  at-counts-1 m before g o done conflict =
+      subst (λ (k : Counts). Obeys m before g (recounted-1 k))
+      (stays m before g s o (λ t. t .tables .counts) (λ a b t d. ap (λ (u : Tables). u .counts) (done a b t d)) (λ a t d. ap (λ (u : Tables). u .counts) (conflict a t d))) o

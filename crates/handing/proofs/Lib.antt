@@ -1,0 +1,2 @@
+-- Laws for walks by hand of thin calls.
+pub mod Lasts

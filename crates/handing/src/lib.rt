@@ -1,0 +1,1 @@
+// No code: laws for proofs by hand, which stand in proofs/.
