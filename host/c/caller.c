@@ -1,0 +1,188 @@
+/*
+ * A caller of the library over include/dates.h, valid as C99 and as C++: worked cases, the refusals of short tables, and a script command by command and as a whole.
+ * It checks all that it gets; the last line is `N passed, M failed`.
+ */
+#include "dates.h"
+
+#include <stdio.h>
+#include <string.h>
+
+/* The layout that the library was built for. A size below 0 stops the compiler. */
+#define LAYOUT(name, holds) typedef char layout_##name[(holds) ? 1 : -1]
+LAYOUT(counts, sizeof(dates_counts) == 16);
+LAYOUT(counts_steps, offsetof(dates_counts, steps) == 0);
+LAYOUT(counts_rules, offsetof(dates_counts, rules) == 4);
+LAYOUT(counts_marks, offsetof(dates_counts, marks) == 8);
+LAYOUT(counts_watched, offsetof(dates_counts, watched) == 12);
+LAYOUT(record, sizeof(dates_record) == 16);
+LAYOUT(record_names, offsetof(dates_record, names) == 0);
+LAYOUT(record_logic, offsetof(dates_record, logic) == 4);
+LAYOUT(record_broken, offsetof(dates_record, broken) == 8);
+LAYOUT(record_sat, offsetof(dates_record, sat) == 12);
+LAYOUT(lengths, sizeof(size_t) == 8);
+
+static int passed = 0;
+static int failed = 0;
+
+static void count(int good, const char *what)
+{
+    if (good) {
+        passed++;
+    } else {
+        failed++;
+        printf("FAILED: %s\n", what);
+    }
+}
+
+static dates_tables t;
+
+/* Whether the days of four steps are these. */
+static int days_are(uint32_t a, uint32_t b, uint32_t c, uint32_t d)
+{
+    return t.counts.steps == 4 && t.days[0] == a && t.days[1] == b && t.days[2] == c && t.days[3] == d;
+}
+
+/* Fresh tables of four steps with the rules of case 3. */
+static void case_3(void)
+{
+    uint32_t moved;
+    dates_t_open(&t, 4);
+    dates_t_add(&t, 0, 1, -2, &moved);
+    dates_t_add(&t, 1, 2, -3, &moved);
+}
+
+static void worked_cases(void)
+{
+    uint32_t value = 9;
+    uint32_t verdict = 9;
+    uint32_t held = 9;
+    uint32_t excluded = 9;
+
+    count(dates_t_open(&t, 4) == DATES_DONE && days_are(0, 0, 0, 0), "case 1: no rule");
+    count(dates_t_add(&t, 0, 1, -2, &value) == DATES_DONE && value == 1 && days_are(0, 2, 0, 0), "case 2: 0,1,-2");
+    count(dates_t_add(&t, 1, 2, -3, &value) == DATES_DONE && value == 1 && days_are(0, 2, 5, 0), "case 3: then 1,2,-3");
+    count(t.counts.rules == 2 && t.xs[1] == 1 && t.ys[1] == 2 && t.cs[1] == -3, "case 3: the rules held");
+
+    count(dates_t_trial(&t, 2, 0, 5, &value) == DATES_DONE && value == 0 && t.tried[2] == 5, "case 4, by Trial");
+    count(dates_t_trial(&t, 2, 3, -1, &value) == DATES_DONE && value == 1 && t.tried[3] == 6 && t.days[3] == 0, "Trial writes no table");
+    count(dates_t_trial(&t, 2, 0, 4, &value) == DATES_CONFLICT && value == 3, "case 5, by Trial");
+    memset(t.ring, 0, sizeof t.ring);
+    count(dates_t_add(&t, 2, 0, 4, &value) == DATES_CONFLICT && value == 3, "case 5: 2,0,4 is a conflict");
+    count(t.ring[0] == 2 && t.ring[1] == 0 && t.ring[2] == 1 && t.ring[3] == 0, "case 5: the ring is 2 0 1");
+    count(t.cs[0] + t.cs[1] + 4 == -1 && t.counts.rules == 2 && days_are(0, 2, 5, 0), "case 5: the sum is -1, and nothing else changed");
+    count(dates_t_ring_check(&t, t.ring, 3, 2, 0, 4, &verdict) == DATES_DONE && verdict == 1, "case 5: Ring check says yes");
+    count(dates_t_ring_check(&t, t.ring, 2, 2, 0, 4, &verdict) == DATES_DONE && verdict == 0, "Ring check says no to a part of it");
+
+    dates_t_open(&t, 4);
+    dates_t_add(&t, 0, 1, -2, &value);
+    count(dates_t_mark(&t) == DATES_DONE && t.counts.marks == 1 && t.marks[0] == 1, "case 9: Mark");
+    count(dates_t_add(&t, 1, 2, -3, &value) == DATES_DONE && days_are(0, 2, 5, 0), "case 9: 1,2,-3");
+    count(dates_t_back(&t) == DATES_DONE && days_are(0, 2, 0, 0) && t.counts.rules == 1 && t.counts.marks == 0, "case 9: Back");
+    count(dates_t_back(&t) == DATES_NOMARK, "Back with no mark open");
+
+    case_3();
+    count(dates_t_watch(&t, 0, 2, -5) == DATES_DONE && dates_t_watch(&t, 0, 2, -6) == DATES_DONE && dates_t_watch(&t, 2, 0, 4) == DATES_DONE, "case 10: three rules watched");
+    count(dates_t_watch(&t, 2, 0, 5) == DATES_DONE && dates_t_watch(&t, 3, 3, 0) == DATES_DONE && dates_t_watch(&t, 3, 3, -1) == DATES_DONE, "case 10: three more");
+    count(t.counts.watched == 6 && t.wxs[2] == 2 && t.wys[2] == 0 && t.wcs[2] == 4, "case 10: the watched rules");
+    count(dates_t_consequences(&t, &held, &excluded) == DATES_DONE && held == 2 && excluded == 2, "case 10: Consequences");
+    count(t.always[0] == 0 && t.always[1] == 4 && t.never[0] == 2 && t.never[1] == 5, "case 10: 0 4 and 2 5");
+}
+
+static void refusals(void)
+{
+    uint32_t value = 9;
+    uint32_t last;
+
+    case_3();
+    count(dates_t_open(&t, 0) == DATES_STEP && dates_t_open(&t, DATES_STEPS + 1) == DATES_STEP && days_are(0, 2, 5, 0), "Open with 0 and 257 steps");
+    count(dates_t_add(&t, 4, 0, 0, &value) == DATES_STEP && value == 0, "a step number not below the count");
+    value = 9;
+    count(dates_t_add(&t, 0, 1, DATES_LARGEST + 1, &value) == DATES_AMOUNT && value == 0, "an amount over its bound");
+    count(dates_t_add(&t, 0, 1, -DATES_LARGEST - 1, &value) == DATES_AMOUNT, "an amount under its bound");
+    t.days[3] = 1;
+    count(dates_t_mark(&t) == DATES_DAMAGED && t.counts.marks == 0, "days that are not the earliest plan");
+    t.days[3] = 0;
+    count(dates_t_mark(&t) == DATES_DONE, "and are it again");
+
+    /* A chain over all steps: the latest day there is. */
+    dates_t_open(&t, DATES_STEPS);
+    for (last = 0; last + 1 < DATES_STEPS; last++)
+        dates_t_add(&t, (uint16_t)last, (uint16_t)(last + 1), -DATES_LARGEST, &value);
+    count(value == 1 && t.days[DATES_STEPS - 1] == DATES_LATEST, "case 13: the last day of a chain");
+}
+
+/* Open, with one table a place short; which is 0 to 7 in the order in which they are lent, 8 for none. */
+static uint32_t open_short(int which)
+{
+    size_t len[8] = {DATES_RULES, DATES_RULES, DATES_RULES, DATES_STEPS, DATES_MARKS, DATES_WATCHED, DATES_WATCHED, DATES_WATCHED};
+    if (which < 8)
+        len[which]--;
+    return dates_open(&t.counts, t.xs, len[0], t.ys, len[1], t.cs, len[2], t.days, len[3], t.marks, len[4], t.wxs, len[5], t.wys, len[6], t.wcs, len[7], 7);
+}
+
+static void short_tables(void)
+{
+    int which;
+
+    case_3();
+    for (which = 0; which < 8; which++)
+        count(open_short(which) == DATES_SHORT && days_are(0, 2, 5, 0), "Open with a table one place short");
+    count(open_short(8) == DATES_DONE && t.counts.steps == 7, "Open with every table at its bound");
+}
+
+static const char script[] =
+    "(set-logic QF_IDL)\n"
+    "(declare-fun cut () Int)\n"
+    "(declare-fun dry () Int)\n"
+    "(assert (<= (- cut dry) (- 2))) ; drying takes two days\n"
+    "(check-sat)\n"
+    "(get-value (cut dry))\n"
+    "(push 1)\n"
+    "(assert (<= (- dry cut) 1))\n"
+    "(check-sat)\n"
+    "(pop 1)\n"
+    "(check-sat)\n";
+
+static const char answers[] = "sat\n((cut 0) (dry 2))\nunsat\nsat\n";
+
+static void scripts(void)
+{
+    static uint8_t out[8 * sizeof script + 2 * DATES_ROOM];
+    const uint8_t *text = (const uint8_t *)script;
+    const size_t len = sizeof script - 1;
+    size_t at;
+    size_t read = 0;
+    size_t written = 0;
+    size_t printed = 0;
+    int commands = 0;
+
+    count(dates_t_start(&t) == DATES_DONE && t.counts.steps == DATES_STEPS && t.record.names == 0, "the start of a script");
+    for (at = dates_skip(text, len); at < len; at += dates_skip(text + at, len - at)) {
+        if (dates_t_command(&t, text + at, len - at, &read, &written) != DATES_DONE)
+            break;
+        memcpy(out + printed, t.out, written);
+        printed += written;
+        at += read;
+        commands++;
+    }
+    count(commands == 11 && at == len, "eleven commands, one at a time");
+    count(printed == sizeof answers - 1 && memcmp(out, answers, printed) == 0, "what they print");
+    count(t.record.names == 2 && t.lens[1] == 3 && memcmp(t.names + DATES_NAME_BYTES, "dry", 3) == 0 && t.days[1] == 2, "the record and the days after them");
+    count(dates_t_command(&t, text, len, &read, &written) == DATES_MODE && read == 0 && written == 0, "a second set-logic");
+
+    memset(out, 0, sizeof out);
+    count(dates_run_script(text, len, out, sizeof out, &written) == DATES_DONE, "the whole script");
+    count(written == sizeof answers - 1 && memcmp(out, answers, written) == 0, "what it prints");
+    count(dates_run_script(text + 1, len - 1, out, sizeof out, &written) == DATES_SYNTAX && written == 12 && memcmp(out, "(error \"8\")\n", 12) == 0, "a script that is refused");
+    count(dates_run_script(text, len, out, DATES_ROOM - 1, &written) == DATES_SHORT && written == 0, "a script with little room");
+}
+
+int main(void)
+{
+    worked_cases();
+    refusals();
+    short_tables();
+    scripts();
+    printf("%d passed, %d failed\n", passed, failed);
+    return failed > 0;
+}

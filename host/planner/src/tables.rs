@@ -1,0 +1,64 @@
+//! The tables that a planner owns, each with room for its bound.
+
+use crate::bounds::{MARKS, NAME_BYTES, RULES, STEPS, WATCHED};
+use crate::calls::{Names, Tables, View};
+
+#[derive(Clone, Debug)]
+pub(crate) struct Owned {
+    pub xs: Vec<u16>,
+    pub ys: Vec<u16>,
+    pub cs: Vec<i32>,
+    pub days: Vec<u32>,
+    pub marks: Vec<u32>,
+    pub wxs: Vec<u16>,
+    pub wys: Vec<u16>,
+    pub wcs: Vec<i32>,
+    pub names: Vec<u8>,
+    pub lens: Vec<u8>,
+}
+
+impl Owned {
+    pub fn new() -> Owned {
+        Owned {
+            xs: vec![0; RULES],
+            ys: vec![0; RULES],
+            cs: vec![0; RULES],
+            days: vec![0; STEPS],
+            marks: vec![0; MARKS],
+            wxs: vec![0; WATCHED],
+            wys: vec![0; WATCHED],
+            wcs: vec![0; WATCHED],
+            names: vec![0; STEPS * NAME_BYTES],
+            lens: vec![0; STEPS],
+        }
+    }
+
+    /// The tables and the names, lent to a call that may write them.
+    pub fn lend(&mut self) -> (Tables<'_>, Names<'_>) {
+        let tables = Tables {
+            xs: &mut self.xs,
+            ys: &mut self.ys,
+            cs: &mut self.cs,
+            days: &mut self.days,
+            marks: &mut self.marks,
+            wxs: &mut self.wxs,
+            wys: &mut self.wys,
+            wcs: &mut self.wcs,
+        };
+        (tables, Names { bytes: &mut self.names, lens: &mut self.lens })
+    }
+
+    /// The tables, lent to a call that only reads them.
+    pub fn view(&self) -> View<'_> {
+        View {
+            xs: &self.xs,
+            ys: &self.ys,
+            cs: &self.cs,
+            days: &self.days,
+            marks: &self.marks,
+            wxs: &self.wxs,
+            wys: &self.wys,
+            wcs: &self.wcs,
+        }
+    }
+}

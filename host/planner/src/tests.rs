@@ -1,0 +1,278 @@
+//! The worked cases and the refusals, through the planner; scripts by commands and as a whole.
+
+use crate::bounds::{LARGEST, LATEST, MARKS, RULES, STEPS, WATCHED};
+use crate::{next_command, run_script, Moved, Planner, Refusal, Ring, Rule};
+
+fn rule(first: u16, second: u16, amount: i32) -> Rule {
+    Rule::new(first, second, amount)
+}
+
+/// Four steps with these rules.
+fn holding(rules: &[Rule]) -> Planner {
+    let mut planner = Planner::open(4).unwrap();
+    for rule in rules {
+        planner.add(*rule).unwrap();
+    }
+    planner
+}
+
+fn ring_of(refused: Result<Moved, Refusal>) -> Ring {
+    match refused {
+        Err(Refusal::Conflict(ring)) => ring,
+        other => panic!("no conflict: {:?}", other),
+    }
+}
+
+const CASE_3: [Rule; 2] = [Rule { first: 0, second: 1, amount: -2 }, Rule { first: 1, second: 2, amount: -3 }];
+
+#[test]
+fn cases_1_to_4_and_7() {
+    let mut planner = holding(&[]);
+    assert_eq!(planner.days(), [0, 0, 0, 0]);
+    assert_eq!((planner.add(CASE_3[0]), planner.days()), (Ok(Moved(1)), &[0, 2, 0, 0][..]));
+    assert_eq!((planner.add(CASE_3[1]), planner.days()), (Ok(Moved(1)), &[0, 2, 5, 0][..]));
+    assert_eq!((planner.add(rule(2, 0, 5)), planner.days()), (Ok(Moved(0)), &[0, 2, 5, 0][..]));
+    assert_eq!(planner.rules().collect::<Vec<_>>(), [CASE_3[0], CASE_3[1], rule(2, 0, 5)]);
+    assert_eq!(holding(&[rule(2, 0, -7)]).days(), [7, 0, 0, 0]);
+}
+
+#[test]
+fn cases_5_and_6() {
+    let mut planner = holding(&CASE_3);
+    let ring = ring_of(planner.add(rule(2, 0, 4)));
+    assert_eq!((ring.numbers(), ring.sum()), (&[2, 0, 1][..], -1));
+    assert_eq!(ring.rules(), [rule(2, 0, 4), CASE_3[0], CASE_3[1]]);
+    assert_eq!(planner.trial(rule(2, 0, 4)), Err(Refusal::Conflict(ring.clone())));
+    assert_eq!(planner.ring_check(rule(2, 0, 4), ring.numbers()), Ok(true));
+    assert_eq!(planner.ring_check(rule(2, 0, 5), ring.numbers()), Ok(false));
+    assert_eq!(planner.ring_check(rule(2, 0, 4), &[2, 0, u32::MAX]), Ok(false));
+    assert_eq!(planner.ring_check(rule(2, 0, 4), &[]), Ok(false));
+    assert_eq!((planner.days(), planner.counts().rules), (&[0, 2, 5, 0][..], 2));
+    let mut planner = holding(&[rule(3, 3, 0)]);
+    assert_eq!(ring_of(planner.add(rule(3, 3, -1))).numbers(), [1]);
+}
+
+#[test]
+fn case_8() {
+    assert_eq!(holding(&[rule(0, 1, 0), rule(1, 0, 0)]).days(), [0, 0, 0, 0]);
+}
+
+#[test]
+fn case_9() {
+    let mut planner = holding(&CASE_3[..1]);
+    planner.mark().unwrap();
+    assert_eq!(planner.marks(), [1]);
+    planner.add(CASE_3[1]).unwrap();
+    planner.back().unwrap();
+    assert_eq!((planner.days(), planner.rules().len(), planner.marks().len()), (&[0, 2, 0, 0][..], 1, 0));
+    assert_eq!(planner.back(), Err(Refusal::NoMark));
+}
+
+#[test]
+fn case_10() {
+    let mut planner = holding(&CASE_3);
+    let watched = [rule(0, 2, -5), rule(0, 2, -6), rule(2, 0, 4), rule(2, 0, 5), rule(3, 3, 0), rule(3, 3, -1)];
+    for (number, rule) in watched.iter().enumerate() {
+        assert_eq!(planner.watch(*rule), Ok(number as u32));
+    }
+    let told = planner.consequences().unwrap();
+    assert_eq!((told.always, told.never), (vec![0, 4], vec![2, 5]));
+    assert_eq!(planner.watched().collect::<Vec<_>>(), watched);
+}
+
+#[test]
+fn cases_11_and_12() {
+    assert_eq!(rule(0, 1, -2).negation(), rule(1, 0, 1));
+    assert_eq!(rule(0, 1, i32::MIN).negation().negation(), rule(0, 1, i32::MIN));
+    let mut planner = holding(&[rule(0, 1, LARGEST), rule(1, 2, -LARGEST)]);
+    for amount in [LARGEST + 1, -LARGEST - 1, i32::MAX, i32::MIN] {
+        assert_eq!(planner.add(rule(0, 1, amount)), Err(Refusal::Amount));
+        assert_eq!(planner.trial(rule(0, 1, amount)), Err(Refusal::Amount));
+        assert_eq!(planner.watch(rule(0, 1, amount)), Err(Refusal::Amount));
+        assert_eq!(planner.ring_check(rule(0, 1, amount), &[]), Err(Refusal::Amount));
+    }
+    assert_eq!(planner.add(Rule::at_least(i32::MIN, 0, 1)), Err(Refusal::Amount));
+}
+
+#[test]
+fn case_13() {
+    let mut planner = Planner::open(STEPS as u32).unwrap();
+    for step in 0..STEPS as u16 - 1 {
+        planner.add(rule(step, step + 1, -LARGEST)).unwrap();
+    }
+    assert_eq!(planner.days()[STEPS - 1], LATEST);
+    for steps in [0, 257, u32::MAX] {
+        assert_eq!(Planner::open(steps).unwrap_err(), Refusal::Step);
+    }
+}
+
+#[test]
+fn step_numbers_below_the_count() {
+    let mut planner = holding(&CASE_3);
+    for rule in [rule(4, 0, 0), rule(0, 4, 0), rule(u16::MAX, u16::MAX, LARGEST + 1)] {
+        assert_eq!(planner.add(rule), Err(Refusal::Step));
+        assert_eq!(planner.trial(rule), Err(Refusal::Step));
+        assert_eq!(planner.watch(rule), Err(Refusal::Step));
+        assert_eq!(planner.ring_check(rule, &[]), Err(Refusal::Step));
+    }
+}
+
+#[test]
+fn full_tables() {
+    let mut planner = holding(&[]);
+    for _ in 0..MARKS {
+        planner.mark().unwrap();
+    }
+    assert_eq!(planner.mark(), Err(Refusal::Full));
+    for _ in 0..RULES {
+        planner.add(rule(0, 1, -2)).unwrap();
+    }
+    assert_eq!(planner.add(rule(0, 1, -2)), Err(Refusal::Full));
+    assert_eq!(planner.trial(rule(0, 1, -2)), Err(Refusal::Full));
+    assert_eq!(planner.ring_check(rule(1, 0, 1), &[4096, 7]), Ok(true));
+    for _ in 0..WATCHED {
+        planner.watch(rule(0, 1, -2)).unwrap();
+    }
+    assert_eq!(planner.watch(rule(0, 1, -2)), Err(Refusal::Full));
+    assert_eq!(planner.consequences().unwrap().always.len(), WATCHED);
+    planner.back().unwrap();
+    assert_eq!((planner.rules().len(), planner.days()), (0, &[0, 0, 0, 0][..]));
+}
+
+#[test]
+fn names_and_numbers_of_refusals() {
+    let ring = ring_of(holding(&[]).add(rule(0, 0, -1)));
+    let all = [
+        (Refusal::Short, "SHORT"),
+        (Refusal::Damaged, "DAMAGED"),
+        (Refusal::Step, "STEP"),
+        (Refusal::Amount, "AMOUNT"),
+        (Refusal::Full, "FULL"),
+        (Refusal::Conflict(ring.clone()), "CONFLICT"),
+        (Refusal::NoMark, "NOMARK"),
+        (Refusal::Syntax, "SYNTAX"),
+        (Refusal::Mode, "MODE"),
+        (Refusal::Name, "NAME"),
+        (Refusal::Size, "SIZE"),
+    ];
+    for (at, (refusal, name)) in all.iter().enumerate() {
+        let number = at as u32 + 1;
+        assert_eq!((refusal.number(), refusal.name()), (number, *name));
+        assert_eq!(Refusal::judge(number, || ring.clone()).as_ref(), Err(refusal));
+        assert!(refusal.to_string().starts_with(&format!("{} ({}): ", name, number)));
+    }
+    assert_eq!(Refusal::judge(0, || ring.clone()), Ok(()));
+}
+
+const SCRIPT: &[u8] = b"(set-logic QF_IDL)
+(declare-fun cut () Int)
+(declare-fun dry () Int)
+(assert (<= (- cut dry) (- 2)))
+(check-sat)
+(get-value (cut dry))
+(push 1)
+(assert (<= (- dry cut) 1))
+(check-sat)
+(pop 1)
+(check-sat)
+";
+
+/// All that the commands of a text print, one after the other.
+fn by_commands(text: &[u8]) -> Result<Vec<u8>, Refusal> {
+    let (mut planner, mut printed, mut rest) = (Planner::start()?, Vec::new(), next_command(text));
+    while !rest.is_empty() {
+        let answer = planner.command(rest)?;
+        printed.extend(answer.printed);
+        rest = next_command(&rest[answer.read..]);
+    }
+    Ok(printed)
+}
+
+#[test]
+fn a_script_by_commands_and_as_a_whole() {
+    let wanted = b"sat\n((cut 0) (dry 2))\nunsat\nsat\n";
+    assert_eq!(by_commands(SCRIPT), Ok(wanted.to_vec()));
+    assert_eq!(run_script(SCRIPT), (wanted.to_vec(), None));
+    let examples: [(&[u8], &[u8]); 3] = [
+        (include_bytes!("../../../examples/season.smt2"), include_bytes!("../../../examples/season.out")),
+        (include_bytes!("../../../examples/deadline.smt2"), include_bytes!("../../../examples/deadline.out")),
+        (include_bytes!("../../../examples/contradiction.smt2"), include_bytes!("../../../examples/contradiction.out")),
+    ];
+    for (text, wanted) in examples {
+        assert_eq!(run_script(text), (wanted.to_vec(), None));
+        assert_eq!(by_commands(text), Ok(wanted.to_vec()));
+    }
+}
+
+#[test]
+fn refused_commands() {
+    let mut planner = Planner::start().unwrap();
+    assert_eq!(planner.command(b"(check-sat)"), Err(Refusal::Mode));
+    planner.command(b"(set-logic QF_IDL)").unwrap();
+    planner.command(b"(declare-fun x () Int)").unwrap();
+    let long_name = format!("(declare-fun {} () Int)", "x".repeat(33));
+    let some: [(&[u8], Refusal); 10] = [
+        (b"(set-logic QF_IDL)", Refusal::Mode),
+        (b" (check-sat)", Refusal::Syntax),
+        (b"(check-sat", Refusal::Syntax),
+        (b"", Refusal::Syntax),
+        (b"(pop 1)", Refusal::NoMark),
+        (b"(push 65)", Refusal::Full),
+        (b"(assert (<= (- x y) 1))", Refusal::Name),
+        (b"(declare-fun x () Int)", Refusal::Name),
+        (b"(assert (<= (- x x) 1000001))", Refusal::Amount),
+        (long_name.as_bytes(), Refusal::Size),
+    ];
+    for (text, refusal) in some {
+        assert_eq!(planner.command(text), Err(refusal));
+    }
+    assert_eq!(run_script(&vec![b' '; 65_537]), (b"(error \"11\")\n".to_vec(), Some(Refusal::Size)));
+    assert_eq!(run_script(&vec![b' '; 65_536]), (Vec::new(), None));
+    assert_eq!(holding(&[]).command(b"(exit)"), Err(Refusal::Damaged));
+}
+
+#[test]
+fn commands_and_the_other_calls_on_the_same_tables() {
+    let mut planner = Planner::open(256).unwrap();
+    for text in [&b"(set-logic QF_IDL)"[..], b"(declare-fun cut () Int)", b"(declare-fun dry () Int)", b"(push 1)", b"(assert (>= (- dry cut) 2))"] {
+        assert_eq!(planner.command(text).unwrap().read, text.len());
+    }
+    assert_eq!((planner.marks(), planner.rules().collect::<Vec<_>>()), (&[0][..], vec![rule(0, 1, -2)]));
+    planner.add(rule(0, 1, -3)).unwrap();
+    planner.command(b"(check-sat)").unwrap();
+    assert_eq!(planner.command(b"(get-value (dry))").unwrap().printed, b"((dry 3))\n");
+    planner.command(b"(assert (< (- dry cut) 3))").unwrap();
+    assert_eq!(planner.record().broken, 2);
+    assert_eq!(planner.command(b"(check-sat)").unwrap().printed, b"unsat\n");
+    // Back knows nothing of the record.
+    let mut other = planner.clone();
+    other.back().unwrap();
+    assert_eq!(other.command(b"(check-sat)"), Err(Refusal::Damaged));
+    planner.command(b"(pop 1)").unwrap();
+    assert_eq!(planner.command(b"(check-sat)").unwrap().printed, b"sat\n");
+    assert_eq!(planner.days()[1], 0);
+}
+
+/// The longest answer that a text can have: a name of one byte on the latest day, as often as a script has room for.
+#[test]
+fn room_for_any_answer() {
+    let mut text = b"(set-logic QF_IDL)".to_vec();
+    let name = |k: usize| if k == 255 { "x".to_string() } else { format!("y{}", k) };
+    (0..256).for_each(|k| text.extend(format!("(declare-fun {} () Int)", name(k)).bytes()));
+    (0..255).for_each(|k| text.extend(format!("(assert (<= (- {} {}) (- 1000000)))", name(k), name(k + 1)).bytes()));
+    text.extend(b"(check-sat)");
+    let asked = format!("(get-value ({}x))", "x ".repeat(255));
+    let times = (65_536 - text.len()) / asked.len();
+    text.extend(asked.repeat(times).bytes());
+    let (printed, refusal) = run_script(&text);
+    assert_eq!((printed.len(), refusal), (4 + times * (256 * 14 + 2), None));
+}
+
+#[test]
+fn the_text_of_the_next_command() {
+    let some: [(&[u8], &[u8]); 6] =
+        [(b"", b""), (b"(a)(b)", b"(a)(b)"), (b" \t\r\n(a)", b"(a)"), (b";(x)\r(a)", b"(a)"), (b"; ; x\n;;\n  x", b"x"), (b";", b"")];
+    for (text, wanted) in some {
+        assert_eq!(next_command(text), wanted);
+    }
+}

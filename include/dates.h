@@ -1,0 +1,396 @@
+/*
+ * The date engine's calls, for C (C99 and later) and C++ (C++11 and later). The library is target/staticlib/libentry.a, for x86-64 System V; `rt staticlib entry` makes it.
+ *
+ * A rule is three numbers: first step x, second step y, amount c. It says day(x) - day(y) <= c. "Drying (1) at least two days after cutting (0)" is the rule 0, 1, -2.
+ * An arrangement gives every step a whole number so that every rule held holds; a plan is one with no day below 0; the earliest plan is the plan in which no
+ * step is later than in any other. A ring is a list of rules where each rule's second step is the next rule's first step, the last one's second step is the first
+ * one's first step, and no step is a first step twice; it is negative when its amounts add up below 0.
+ *
+ * The caller lends all tables to every call. `dates_tables` below holds one set of them, and the dates_t_ helpers lend it, so that each call is one line:
+ *
+ *     static dates_tables t;
+ *     uint32_t value;
+ *     dates_t_open(&t, 4);
+ *     if (dates_t_add(&t, 0, 1, -2, &value) == DATES_CONFLICT) { .. t.ring[0 .. value - 1] .. }
+ *
+ * What every call takes for granted: no pointer is null, each is aligned and leads to as many elements as the length after it says, what a call may write overlaps
+ * nothing else that is lent to it, and no other thread touches any of it during the call. Beyond that there is no condition: any lengths, counts and cells may be
+ * lent, and every call returns. Nothing is kept after the call.
+ */
+#ifndef DATES_H
+#define DATES_H
+
+#include <stddef.h>
+#include <stdint.h>
+
+#ifdef __cplusplus
+extern "C" {
+#endif
+
+/* The bounds. */
+#define DATES_STEPS 256         /* there are 1 to so many steps, numbered from 0; a list lent for days or for a ring has at least so many places */
+#define DATES_RULES 4096        /* at most so many rules are held, numbered from 0 in order of adding */
+#define DATES_LARGEST 1000000   /* the largest amount; the smallest is -DATES_LARGEST */
+#define DATES_MARKS 64          /* at most so many marks are open */
+#define DATES_WATCHED 1024      /* at most so many rules are watched, numbered from 0 */
+#define DATES_LATEST 255000000  /* no day of an earliest plan is later */
+#define DATES_TEXT 65536        /* a script has at most so many bytes, where it is run as a whole */
+#define DATES_NAME_BYTES 32     /* a name has at most so many bytes, and so many places in the table of names */
+#define DATES_DEPTH 16          /* terms are at most so deep, the asserted term itself being depth 1 */
+#define DATES_ASKED 256         /* one get-value has at most so many names */
+#define DATES_ROOM 16384        /* at least so many bytes are lent for a command's answer */
+
+/* The numbers given back. The comment at each call says which it can give, in the order in which they are judged: the first that applies is given. A refusal (any
+ * number but DATES_DONE) gives values 0 and changes nothing else that is lent; DATES_CONFLICT alone writes its ring and gives its length. */
+#define DATES_DONE 0      /* the call was carried out */
+#define DATES_SHORT 1     /* a lent table or list has too few places */
+#define DATES_DAMAGED 2   /* the tables are not sound */
+#define DATES_STEP 3      /* Open with a count outside 1 to DATES_STEPS; a step number not below the count */
+#define DATES_AMOUNT 4    /* an amount outside -DATES_LARGEST to DATES_LARGEST */
+#define DATES_FULL 5      /* no place for one more rule, mark, watched rule or declared name */
+#define DATES_CONFLICT 6  /* with the new rule no arrangement exists */
+#define DATES_NOMARK 7    /* Back with no mark open */
+#define DATES_SYNTAX 8    /* script text outside its form */
+#define DATES_MODE 9      /* a command at a place where it may not stand */
+#define DATES_NAME 10     /* a name unknown, or declared while it stands */
+#define DATES_SIZE 11     /* script over DATES_TEXT bytes, name over DATES_NAME_BYTES, terms over DATES_DEPTH deep, over DATES_ASKED names in one get-value */
+
+/* How many of each thing the tables hold. Each call brings it up to date. */
+typedef struct dates_counts {
+    uint32_t steps;    /* steps, numbered from 0 */
+    uint32_t rules;    /* rules held; the next one gets this number */
+    uint32_t marks;    /* marks open */
+    uint32_t watched;  /* watched rules */
+} dates_counts;
+
+/* The script's record. */
+typedef struct dates_record {
+    uint32_t names;   /* names declared; name number k is step k */
+    uint32_t logic;   /* 1 where set-logic has come, else 0 */
+    uint32_t broken;  /* the contradictory level, counted from 1: the marks that were open when the conflict came, and 1; 0 where there is none */
+    uint32_t sat;     /* 1 where the last check-sat printed sat and only get-value and unsupported commands came since, else 0 */
+} dates_record;
+
+/*
+ * The tables, the same for every call. Each length counts elements and must be at least the bound, else the call is DATES_SHORT; room beyond is never touched.
+ *
+ *     counts            how many of each thing the tables hold
+ *     xs, xs_len        the first steps of the rules held, for at least DATES_RULES
+ *     ys, ys_len        their second steps, for at least DATES_RULES
+ *     cs, cs_len        their amounts, for at least DATES_RULES
+ *     days, days_len    the day of each step, for at least DATES_STEPS
+ *     marks, marks_len  for each open mark the number of rules held when it was set, the oldest first, for at least DATES_MARKS
+ *     wxs, wxs_len      the first steps of the watched rules, for at least DATES_WATCHED
+ *     wys, wys_len      their second steps, for at least DATES_WATCHED
+ *     wcs, wcs_len      their amounts, for at least DATES_WATCHED
+ *
+ * They are sound when the counts are within bounds, every rule held or watched is within bounds, marks never fall and none exceeds the rule count, and the days equal
+ * the earliest plan of the rules held. dates_open and dates_start make them so, and every call leaves sound tables sound. Cells past the counts may hold anything, and past the
+ * counts after a call they are as before it. What a call may write is a pointer without const.
+ */
+
+/*
+ * Open: sets that many steps, no rules, marks or watched rules, and day 0 for every step. What the tables held before does not matter.
+ *     steps   how many steps there are to be
+ * Writes counts, and the days of these steps.
+ *     DATES_SHORT   a table has too few places
+ *     DATES_STEP    steps is not 1 to DATES_STEPS
+ */
+uint32_t dates_open(
+    dates_counts *counts,
+    const uint16_t *xs, size_t xs_len, const uint16_t *ys, size_t ys_len, const int32_t *cs, size_t cs_len,
+    uint32_t *days, size_t days_len, const uint32_t *marks, size_t marks_len,
+    const uint16_t *wxs, size_t wxs_len, const uint16_t *wys, size_t wys_len, const int32_t *wcs, size_t wcs_len,
+    uint32_t steps);
+
+/*
+ * Watch: puts one rule at the end of the watched list.
+ *     x, y, c   the rule: its first step, its second step, its amount
+ * Writes counts, and the new rule's place in wxs, wys and wcs.
+ *     DATES_SHORT     a table has too few places
+ *     DATES_DAMAGED   the tables are not sound
+ *     DATES_STEP      x or y is not below the step count
+ *     DATES_AMOUNT    c is outside its bound
+ *     DATES_FULL      DATES_WATCHED rules are watched
+ */
+uint32_t dates_watch(
+    dates_counts *counts,
+    const uint16_t *xs, size_t xs_len, const uint16_t *ys, size_t ys_len, const int32_t *cs, size_t cs_len,
+    const uint32_t *days, size_t days_len, const uint32_t *marks, size_t marks_len,
+    uint16_t *wxs, size_t wxs_len, uint16_t *wys, size_t wys_len, int32_t *wcs, size_t wcs_len,
+    uint16_t x, uint16_t y, int32_t c);
+
+/*
+ * Mark: the number of rules held is the newest mark.
+ * Writes counts, and the new mark's place in marks.
+ *     DATES_SHORT     a table has too few places
+ *     DATES_DAMAGED   the tables are not sound
+ *     DATES_FULL      DATES_MARKS marks are open
+ */
+uint32_t dates_mark(
+    dates_counts *counts,
+    const uint16_t *xs, size_t xs_len, const uint16_t *ys, size_t ys_len, const int32_t *cs, size_t cs_len,
+    const uint32_t *days, size_t days_len, uint32_t *marks, size_t marks_len,
+    const uint16_t *wxs, size_t wxs_len, const uint16_t *wys, size_t wys_len, const int32_t *wcs, size_t wcs_len);
+
+/*
+ * Back: drops the newest mark and every rule added after it, and brings the days to the earliest plan of the rules left. The watched list stays.
+ * Writes counts, and the days of all steps.
+ *     DATES_SHORT     a table has too few places
+ *     DATES_DAMAGED   the tables are not sound
+ *     DATES_NOMARK    no mark is open
+ */
+uint32_t dates_back(
+    dates_counts *counts,
+    const uint16_t *xs, size_t xs_len, const uint16_t *ys, size_t ys_len, const int32_t *cs, size_t cs_len,
+    uint32_t *days, size_t days_len, const uint32_t *marks, size_t marks_len,
+    const uint16_t *wxs, size_t wxs_len, const uint16_t *wys, size_t wys_len, const int32_t *wcs, size_t wcs_len);
+
+/*
+ * Add: holds one more rule and brings the days to the earliest plan.
+ *     list, list_len   gets the ring on DATES_CONFLICT; at least DATES_STEPS places, and places past the ring's length keep what they had
+ *     x, y, c          the rule: its first step, its second step, its amount
+ *     value            gets how many steps have a day different from before; on DATES_CONFLICT the ring's length; on any other refusal 0
+ * The ring is a negative one: first the refused rule, under the number it would have had (counts->rules), then rules held.
+ * Writes counts, the new rule's place in xs, ys and cs, the days of all steps, and value; on DATES_CONFLICT list and value alone.
+ *     DATES_SHORT      a table or the list has too few places
+ *     DATES_DAMAGED    the tables are not sound
+ *     DATES_STEP       x or y is not below the step count
+ *     DATES_AMOUNT     c is outside its bound
+ *     DATES_FULL       DATES_RULES rules are held
+ *     DATES_CONFLICT   no arrangement keeps the rule along with those held
+ */
+uint32_t dates_add(
+    dates_counts *counts,
+    uint16_t *xs, size_t xs_len, uint16_t *ys, size_t ys_len, int32_t *cs, size_t cs_len,
+    uint32_t *days, size_t days_len, const uint32_t *marks, size_t marks_len,
+    const uint16_t *wxs, size_t wxs_len, const uint16_t *wys, size_t wys_len, const int32_t *wcs, size_t wcs_len,
+    uint32_t *list, size_t list_len, uint16_t x, uint16_t y, int32_t c, uint32_t *value);
+
+/*
+ * Trial: answers as Add would and writes to no table.
+ *     one, one_len   gets the days of all steps if the rule fits, else is not written; at least DATES_STEPS places
+ *     two, two_len   gets the ring on DATES_CONFLICT, else is not written; at least DATES_STEPS places
+ *     x, y, c        the rule: its first step, its second step, its amount
+ *     value          gets how many steps would move; on DATES_CONFLICT the ring's length; on any other refusal 0
+ * Writes one or two, and value.
+ *     DATES_SHORT      a table or one of the lists has too few places
+ *     DATES_DAMAGED    the tables are not sound
+ *     DATES_STEP       x or y is not below the step count
+ *     DATES_AMOUNT     c is outside its bound
+ *     DATES_FULL       DATES_RULES rules are held
+ *     DATES_CONFLICT   no arrangement keeps the rule along with those held
+ */
+uint32_t dates_trial(
+    const dates_counts *counts,
+    const uint16_t *xs, size_t xs_len, const uint16_t *ys, size_t ys_len, const int32_t *cs, size_t cs_len,
+    const uint32_t *days, size_t days_len, const uint32_t *marks, size_t marks_len,
+    const uint16_t *wxs, size_t wxs_len, const uint16_t *wys, size_t wys_len, const int32_t *wcs, size_t wcs_len,
+    uint32_t *one, size_t one_len, uint32_t *two, size_t two_len, uint16_t x, uint16_t y, int32_t c, uint32_t *value);
+
+/*
+ * Consequences: which watched rules follow from the rules held, and which contradict them.
+ *     one, one_len   gets the numbers of the watched rules that hold in every arrangement, rising; at least as many places as counts->watched
+ *     two, two_len   gets those that hold in none, rising; at least as many places as counts->watched
+ *     held           gets how many are in one; on a refusal 0
+ *     excluded       gets how many are in two; on a refusal 0
+ * Writes one, two, held and excluded.
+ *     DATES_SHORT     a table or one of the lists has too few places
+ *     DATES_DAMAGED   the tables are not sound
+ */
+uint32_t dates_consequences(
+    const dates_counts *counts,
+    const uint16_t *xs, size_t xs_len, const uint16_t *ys, size_t ys_len, const int32_t *cs, size_t cs_len,
+    const uint32_t *days, size_t days_len, const uint32_t *marks, size_t marks_len,
+    const uint16_t *wxs, size_t wxs_len, const uint16_t *wys, size_t wys_len, const int32_t *wcs, size_t wcs_len,
+    uint32_t *one, size_t one_len, uint32_t *two, size_t two_len, uint32_t *held, uint32_t *excluded);
+
+/*
+ * Ring check: whether a list is a negative ring that starts with the rule under its would-be number and goes on over rules held.
+ *     list, list_len   any list of any numbers
+ *     x, y, c          the rule: its first step, its second step, its amount
+ *     verdict          gets 1 where the list is such a ring, else 0; on a refusal 0
+ * Writes verdict.
+ *     DATES_SHORT     a table has too few places
+ *     DATES_DAMAGED   the tables are not sound
+ *     DATES_STEP      x or y is not below the step count
+ *     DATES_AMOUNT    c is outside its bound
+ */
+uint32_t dates_ring_check(
+    const dates_counts *counts,
+    const uint16_t *xs, size_t xs_len, const uint16_t *ys, size_t ys_len, const int32_t *cs, size_t cs_len,
+    const uint32_t *days, size_t days_len, const uint32_t *marks, size_t marks_len,
+    const uint16_t *wxs, size_t wxs_len, const uint16_t *wys, size_t wys_len, const int32_t *wcs, size_t wcs_len,
+    const uint32_t *list, size_t list_len, uint16_t x, uint16_t y, int32_t c, uint32_t *verdict);
+
+/*
+ * Start: opens the tables with DATES_STEPS steps and empties the script's record. What they held before does not matter.
+ *     record             the script's record
+ *     names, names_len   the declared names, DATES_NAME_BYTES bytes for each; at least DATES_STEPS * DATES_NAME_BYTES
+ *     lens, lens_len     how many bytes each name has; at least DATES_STEPS places
+ * Writes counts, record, and the days of all steps.
+ *     DATES_SHORT   a table has too few places
+ */
+uint32_t dates_start(
+    dates_counts *counts, dates_record *record,
+    const uint16_t *xs, size_t xs_len, const uint16_t *ys, size_t ys_len, const int32_t *cs, size_t cs_len,
+    uint32_t *days, size_t days_len, const uint32_t *marks, size_t marks_len,
+    const uint16_t *wxs, size_t wxs_len, const uint16_t *wys, size_t wys_len, const int32_t *wcs, size_t wcs_len,
+    const uint8_t *names, size_t names_len, const uint8_t *lens, size_t lens_len);
+
+/*
+ * Command: carries out the one script command that the text begins with, from its opening bracket on.
+ *     text, text_len     the text; what follows the command's closing bracket is not looked at
+ *     record             the script's record; it is sound with tables of DATES_STEPS steps, at most as many names, all different and in form, a contradictory level
+ *                        no deeper than the marks open, and with one no sat; logic and sat are 0 or 1
+ *     names, names_len   the declared names, DATES_NAME_BYTES bytes for each; at least DATES_STEPS * DATES_NAME_BYTES
+ *     lens, lens_len     how many bytes each name has; at least DATES_STEPS places
+ *     out, out_len       gets what the command prints, each line ended by a line feed; at least DATES_ROOM bytes
+ *     read               gets how many bytes of the text the command has; on a refusal 0
+ *     written            gets how many bytes it printed; on a refusal 0
+ * A conflict at assert is DATES_DONE and marks the level as contradictory. A refusal prints nothing here, and whether to go on after one, or after exit, is the caller's
+ * choice. Writes all but the text and the watched rules.
+ *     DATES_SHORT     a table or out has too few places
+ *     DATES_DAMAGED   the tables or the record are not sound
+ * and then, in the order in which the command is judged (docs/SCRIPTS.md), one of
+ *     DATES_SYNTAX    the text does not begin with a command in form
+ *     DATES_SIZE      a name, a term's depth or a get-value is over its size
+ *     DATES_MODE      the command may not stand here
+ *     DATES_NAME      a name is unknown, or declared while it stands
+ *     DATES_AMOUNT    the amount of a rule of the term is outside its bound
+ *     DATES_FULL      no place for the term's rules, the marks of a push, or one more name
+ *     DATES_NOMARK    pop of more levels than are open
+ */
+uint32_t dates_command(
+    const uint8_t *text, size_t text_len, dates_counts *counts, dates_record *record,
+    uint16_t *xs, size_t xs_len, uint16_t *ys, size_t ys_len, int32_t *cs, size_t cs_len,
+    uint32_t *days, size_t days_len, uint32_t *marks, size_t marks_len,
+    const uint16_t *wxs, size_t wxs_len, const uint16_t *wys, size_t wys_len, const int32_t *wcs, size_t wcs_len,
+    uint8_t *names, size_t names_len, uint8_t *lens, size_t lens_len, uint8_t *out, size_t out_len, size_t *read, size_t *written);
+
+/*
+ * A whole script, over tables of its own on the stack: its commands one after the other, up to its end, exit or a refusal, which prints (error "N").
+ *     script, script_len   the text
+ *     out, out_len         gets all that the script prints; each command needs DATES_ROOM bytes after what is printed so far. 8 * script_len + 2 * DATES_ROOM are always enough
+ *     written              gets how many bytes were printed, those of the error too
+ * Writes out and written. Gives the number of the refusal that ended the script, DATES_DONE where there was none:
+ *     DATES_SHORT   a command finds fewer than DATES_ROOM bytes left, or a script that is too long fewer in all; nothing more is printed, not even the error
+ *     DATES_SIZE    the script has more than DATES_TEXT bytes, which is tested before its first command
+ * and then at each command one of the numbers from DATES_SYNTAX on that stand at dates_command.
+ */
+uint32_t dates_run_script(const uint8_t *script, size_t script_len, uint8_t *out, size_t out_len, size_t *written);
+
+/*
+ * One set of all that is lent, each table at its bound. It is large (some 80,000 bytes): make it static or take it from the heap. It needs no setting up but
+ * dates_t_open or dates_t_start.
+ */
+typedef struct dates_tables {
+    dates_counts counts;
+    dates_record record;
+    uint16_t xs[DATES_RULES];
+    uint16_t ys[DATES_RULES];
+    int32_t cs[DATES_RULES];
+    uint32_t days[DATES_STEPS];
+    uint32_t marks[DATES_MARKS];
+    uint16_t wxs[DATES_WATCHED];
+    uint16_t wys[DATES_WATCHED];
+    int32_t wcs[DATES_WATCHED];
+    uint8_t names[DATES_STEPS * DATES_NAME_BYTES];
+    uint8_t lens[DATES_STEPS];
+    uint32_t ring[DATES_STEPS];        /* the ring of the newest conflict, at Add or Trial */
+    uint32_t tried[DATES_STEPS];       /* the days of the newest Trial that fits */
+    uint32_t always[DATES_WATCHED];    /* the newest Consequences: the watched rules that hold in every arrangement */
+    uint32_t never[DATES_WATCHED];     /* the newest Consequences: those that hold in none */
+    uint8_t out[DATES_ROOM];           /* what the newest command printed */
+} dates_tables;
+
+#define DATES_LENT_(t) \
+    (t)->xs, DATES_RULES, (t)->ys, DATES_RULES, (t)->cs, DATES_RULES, (t)->days, DATES_STEPS, (t)->marks, DATES_MARKS, \
+    (t)->wxs, DATES_WATCHED, (t)->wys, DATES_WATCHED, (t)->wcs, DATES_WATCHED
+#define DATES_NAMES_(t) (t)->names, DATES_STEPS * DATES_NAME_BYTES, (t)->lens, DATES_STEPS
+
+/* Open with so many steps: dates_open. */
+static inline uint32_t dates_t_open(dates_tables *t, uint32_t steps)
+{
+    return dates_open(&t->counts, DATES_LENT_(t), steps);
+}
+
+/* Watch the rule x, y, c: dates_watch. */
+static inline uint32_t dates_t_watch(dates_tables *t, uint16_t x, uint16_t y, int32_t c)
+{
+    return dates_watch(&t->counts, DATES_LENT_(t), x, y, c);
+}
+
+/* Mark: dates_mark. */
+static inline uint32_t dates_t_mark(dates_tables *t)
+{
+    return dates_mark(&t->counts, DATES_LENT_(t));
+}
+
+/* Back: dates_back. */
+static inline uint32_t dates_t_back(dates_tables *t)
+{
+    return dates_back(&t->counts, DATES_LENT_(t));
+}
+
+/* Add the rule x, y, c: dates_add. The value is how many steps moved; on DATES_CONFLICT the ring is in t->ring, and the value is its length. */
+static inline uint32_t dates_t_add(dates_tables *t, uint16_t x, uint16_t y, int32_t c, uint32_t *value)
+{
+    return dates_add(&t->counts, DATES_LENT_(t), t->ring, DATES_STEPS, x, y, c, value);
+}
+
+/* Try the rule x, y, c: dates_trial. The days are in t->tried; on DATES_CONFLICT the ring is in t->ring, and the value is its length. */
+static inline uint32_t dates_t_trial(dates_tables *t, uint16_t x, uint16_t y, int32_t c, uint32_t *value)
+{
+    return dates_trial(&t->counts, DATES_LENT_(t), t->tried, DATES_STEPS, t->ring, DATES_STEPS, x, y, c, value);
+}
+
+/* Consequences: dates_consequences. The numbers are in t->always, as many as held says, and in t->never, as many as excluded says. */
+static inline uint32_t dates_t_consequences(dates_tables *t, uint32_t *held, uint32_t *excluded)
+{
+    return dates_consequences(&t->counts, DATES_LENT_(t), t->always, DATES_WATCHED, t->never, DATES_WATCHED, held, excluded);
+}
+
+/* Whether the list is a ring for the rule x, y, c: dates_ring_check. The list may be t->ring. */
+static inline uint32_t dates_t_ring_check(const dates_tables *t, const uint32_t *list, size_t list_len, uint16_t x, uint16_t y, int32_t c, uint32_t *verdict)
+{
+    return dates_ring_check(&t->counts, DATES_LENT_(t), list, list_len, x, y, c, verdict);
+}
+
+/* Start a script: dates_start. */
+static inline uint32_t dates_t_start(dates_tables *t)
+{
+    return dates_start(&t->counts, &t->record, DATES_LENT_(t), DATES_NAMES_(t));
+}
+
+/* Carry out the command that the text begins with: dates_command. What it prints is in t->out, as many bytes as written says. */
+static inline uint32_t dates_t_command(dates_tables *t, const uint8_t *text, size_t text_len, size_t *read, size_t *written)
+{
+    return dates_command(text, text_len, &t->counts, &t->record, DATES_LENT_(t), DATES_NAMES_(t), t->out, DATES_ROOM, read, written);
+}
+
+#undef DATES_LENT_
+#undef DATES_NAMES_
+
+/* How many bytes of white space and comments the text begins with. What is handed to dates_command begins past them, at an opening bracket. */
+static inline size_t dates_skip(const uint8_t *text, size_t text_len)
+{
+    size_t at = 0;
+    int comment = 0;
+    for (; at < text_len; at++) {
+        uint8_t byte = text[at];
+        if (comment)
+            comment = byte != '\n' && byte != '\r';
+        else if (byte == ';')
+            comment = 1;
+        else if (byte != ' ' && byte != '\t' && byte != '\n' && byte != '\r')
+            break;
+    }
+    return at;
+}
+
+#ifdef __cplusplus
+}
+#endif
+
+#endif
