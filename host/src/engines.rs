@@ -1,5 +1,7 @@
 //! What is compared: the exported entry, in this process, and the program, as a process.
 
+#[cfg(entry)]
+use crate::calls;
 use crate::script::Answer;
 use std::io::Write;
 use std::process::{Command, Stdio};
@@ -15,11 +17,6 @@ pub trait Engine {
 pub struct Entry;
 
 #[cfg(entry)]
-extern "C" {
-    fn dates_run_script(script: *const u8, script_len: usize, out: *mut u8, out_len: usize, written: *mut usize) -> u32;
-}
-
-#[cfg(entry)]
 impl Entry {
     /// Runs a script with `room` bytes for its answers. An error where it wrote past what it says.
     pub fn run_within(&self, script: &[u8], room: usize) -> Result<Answer, String> {
@@ -28,7 +25,7 @@ impl Entry {
         const KEPT: u8 = 0xA5;
         let mut out = vec![KEPT; room + 2 * BESIDE];
         let mut written = usize::MAX;
-        let end = unsafe { dates_run_script(script.as_ptr(), script.len(), out[BESIDE..].as_mut_ptr(), room, &mut written) };
+        let end = calls::run_script(script, &mut out[BESIDE..BESIDE + room], &mut written);
         if written > room {
             return Err(format!("it says {} bytes written, of {} lent", written, room));
         }

@@ -10,12 +10,19 @@
 //!
 //! The last line is `N passed, M failed`.
 
+// The one module with `unsafe`; of it, the whole script alone is used here.
+#[cfg(entry)]
+#[allow(dead_code)]
+#[path = "../planner/src/calls.rs"]
+mod calls;
 mod cases;
 mod engines;
 mod generate;
 mod peers;
 mod random;
 mod report;
+// The tests of the calls use parts of it that are not used here.
+#[allow(dead_code, unused_imports)]
 mod script;
 mod shorten;
 mod tests;

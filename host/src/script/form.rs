@@ -1,6 +1,6 @@
 //! From trees to commands. Trees are read from left to right, and the first departure stops the reading: it is the leftmost.
 
-use super::text::{Kind, Tree};
+use super::text::{kind, Kind, Tree};
 use super::{DEPTH, NAMES, NAME_BYTES, SIZE, SYNTAX};
 
 pub type Name = Vec<u8>;
@@ -63,6 +63,11 @@ pub fn read(tree: &Tree) -> Read<Command> {
     };
     parts.end()?;
     Ok(command)
+}
+
+/// Whether a word is a name in form.
+pub fn is_name(word: &[u8]) -> bool {
+    kind(word) == Some(Kind::Symbol) && word.len() <= NAME_BYTES
 }
 
 /// One name or more, 256 at most.

@@ -6,9 +6,9 @@ mod plan;
 mod state;
 mod text;
 
-pub use form::{read, Command};
-
-pub use state::State;
+pub use form::{is_name, read, Command, Stop};
+pub use plan::{earliest, Rule};
+pub use state::{rules_of, State};
 pub use text::{next_command, skip_blank, words, Next};
 
 /// The numbers given back.

@@ -52,7 +52,7 @@ impl State {
     }
 
     fn find(&self, name: &Name) -> Result<usize, u32> {
-        self.names.iter().position(|known| known == name).ok_or(NAME)
+        find(&self.names, name)
     }
 
     fn declare(&mut self, name: &Name) -> Result<String, u32> {
@@ -68,37 +68,13 @@ impl State {
 
     fn assert(&mut self, term: &Term) -> Result<String, u32> {
         let mut rules = Vec::new();
-        self.rules_of(term, false, &mut rules)?;
+        rules_of(&self.names, term, false, &mut rules)?;
         if self.rules.len() + rules.len() > RULES && self.plan().is_some() {
             return Err(FULL);
         }
         let level = self.level;
         self.rules.extend(rules.into_iter().map(|rule| (level, rule)));
         Ok(String::new())
-    }
-
-    /// The term's rules, left to right; NAME or AMOUNT, whichever comes first.
-    fn rules_of(&self, term: &Term, negated: bool, into: &mut Vec<Rule>) -> Result<(), u32> {
-        match term {
-            Term::And(terms) => terms.iter().try_for_each(|part| self.rules_of(part, negated, into)),
-            Term::Not(part) => self.rules_of(part, !negated, into),
-            Term::Atom(operator, first, second, amount) => {
-                let at_most = Rule { x: self.find(first)?, y: self.find(second)?, c: *amount };
-                let below = Rule { c: amount - 1, ..at_most };
-                let said = match &operator[..] {
-                    "<=" => at_most,
-                    "<" => below,
-                    ">=" => below.negated(),
-                    _ => at_most.negated(),
-                };
-                let rule = if negated { said.negated() } else { said };
-                if rule.c.abs() > LARGEST {
-                    return Err(AMOUNT);
-                }
-                into.push(rule);
-                Ok(())
-            }
-        }
     }
 
     fn push(&mut self, count: u64) -> Result<String, u32> {
@@ -126,5 +102,34 @@ impl State {
             pairs.push(format!("({} {})", String::from_utf8_lossy(name), days[self.find(name)?]));
         }
         Ok(format!("({})\n", pairs.join(" ")))
+    }
+}
+
+/// The step that a name stands for: steps are numbered as declared.
+fn find(names: &[Name], name: &Name) -> Result<usize, u32> {
+    names.iter().position(|known| known == name).ok_or(NAME)
+}
+
+/// The rules of a term over the declared names, left to right; NAME or AMOUNT, whichever comes first.
+pub fn rules_of(names: &[Name], term: &Term, negated: bool, into: &mut Vec<Rule>) -> Result<(), u32> {
+    match term {
+        Term::And(terms) => terms.iter().try_for_each(|part| rules_of(names, part, negated, into)),
+        Term::Not(part) => rules_of(names, part, !negated, into),
+        Term::Atom(operator, first, second, amount) => {
+            let at_most = Rule { x: find(names, first)?, y: find(names, second)?, c: *amount };
+            let below = Rule { c: amount - 1, ..at_most };
+            let said = match &operator[..] {
+                "<=" => at_most,
+                "<" => below,
+                ">=" => below.negated(),
+                _ => at_most.negated(),
+            };
+            let rule = if negated { said.negated() } else { said };
+            if rule.c.abs() > LARGEST {
+                return Err(AMOUNT);
+            }
+            into.push(rule);
+            Ok(())
+        }
     }
 }

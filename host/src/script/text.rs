@@ -100,7 +100,7 @@ fn list(text: &[u8], mut at: usize) -> Option<(Tree, usize)> {
 }
 
 /// What a piece is, or nothing where it is no token.
-fn kind(piece: &[u8]) -> Option<Kind> {
+pub fn kind(piece: &[u8]) -> Option<Kind> {
     let piece = std::str::from_utf8(piece).ok()?;
     if let Some(digits) = piece.strip_prefix("#x") {
         return some_of(digits, |c| c.is_ascii_hexdigit()).then(|| Kind::Other);

@@ -1,0 +1,179 @@
+//! Sound states of several shapes, for damage to begin from, and the calls that are made after it.
+
+use crate::acts::Act;
+use crate::office::{Field, Place};
+use crate::sequences::rule;
+
+pub struct Shape {
+    pub name: &'static str,
+    /// How it is reached.
+    pub acts: Vec<Act>,
+    /// What is called after a change. A refused call changes nothing, so all are made in a row.
+    pub calls: Vec<Act>,
+    /// Changes that it alone has.
+    pub changes: Vec<Vec<Act>>,
+}
+
+pub fn all() -> Vec<Shape> {
+    vec![one_step(), rings_of_zero(), chain(), declared(), contradictory(), many_names()]
+}
+
+fn add(x: usize, y: usize, c: i64) -> Act {
+    Act::Add(rule(x, y, c))
+}
+
+fn watch(x: usize, y: usize, c: i64) -> Act {
+    Act::Watch(rule(x, y, c))
+}
+
+fn say(text: &str) -> Act {
+    Act::Command(text.into())
+}
+
+/// Every call, those first that write to no table.
+fn every_call() -> Vec<Act> {
+    vec![
+        Act::Trial(rule(0, 0, 0)),
+        Act::Trial(rule(0, 0, -1)),
+        Act::Consequences,
+        Act::RingCheck(rule(0, 0, -1), vec![0]),
+        Act::Watch(rule(0, 0, 1)),
+        Act::Mark,
+        add(0, 0, -1),
+        add(0, 0, 2),
+        Act::Back,
+        Act::Back,
+        say("(check-sat)"),
+        Act::Start,
+        Act::Open(2),
+    ]
+}
+
+fn one_step() -> Shape {
+    Shape { name: "one step", acts: vec![Act::SetField(Field::Names, 0), Act::Open(1)], calls: every_call(), changes: Vec::new() }
+}
+
+/// Two zero rings, one above day 0, self rules, equal rules and equal marks.
+fn rings_of_zero() -> Shape {
+    let acts = vec![
+        Act::SetField(Field::Names, 0),
+        Act::Open(6),
+        Act::Mark,
+        add(0, 1, 0),
+        add(1, 0, 0),
+        watch(0, 1, 0),
+        add(2, 3, -4),
+        add(3, 4, 0),
+        Act::Mark,
+        Act::Mark,
+        add(4, 3, 0),
+        add(5, 5, 0),
+        add(5, 5, 0),
+        watch(2, 4, -4),
+        watch(4, 2, 3),
+        watch(5, 0, 1_000_000),
+        Act::Mark,
+        add(0, 5, -1_000_000),
+        watch(5, 0, -1_000_000),
+    ];
+    // The steps of a ring hold each other up on any day.
+    let days = |numbers: &[(usize, i64)]| numbers.iter().map(|(at, day)| Act::Set(Place::Days, *at, *day)).collect::<Vec<Act>>();
+    let changes = vec![days(&[(0, 1), (1, 1), (5, 1_000_001)]), days(&[(3, 5), (4, 5)]), days(&[(3, 3), (4, 3)]), days(&[(0, 1), (1, 1)])];
+    let calls = [
+        vec![Act::Trial(rule(3, 2, 3)), Act::RingCheck(rule(3, 2, 3), vec![8, 2]), Act::RingCheck(rule(4, 2, 3), vec![8, 2, 3]), add(3, 2, 3), add(1, 2, -7)],
+        every_call(),
+    ];
+    Shape { name: "zero rings", acts, calls: calls.concat(), changes }
+}
+
+/// A chain over all steps with the smallest amount, and all marks open.
+fn chain() -> Shape {
+    let mut acts = vec![Act::SetField(Field::Names, 0), Act::Open(256)];
+    for at in 0..255 {
+        acts.push(add(at, at + 1, -1_000_000));
+        if at % 4 == 0 {
+            acts.push(Act::Mark);
+        }
+    }
+    let calls = vec![Act::Trial(rule(255, 0, 1_000_000)), Act::Mark, add(255, 0, 0), Act::Consequences, Act::Back, say("(check-sat)"), Act::Start];
+    Shape { name: "chain", acts, calls, changes: Vec::new() }
+}
+
+/// Script commands and a few of the other calls.
+fn commands() -> Vec<Act> {
+    vec![
+        say("(get-value (cut))"),
+        say("(check-sat)"),
+        say("(get-value (cut dry))"),
+        say("(assert (<= (- dry cut) 1))"),
+        say("(declare-fun stack () Int)"),
+        say("(push 1)"),
+        Act::Back,
+        Act::Back,
+        say("(pop 1)"),
+        say("check-sat"),
+        Act::Start,
+        say("(set-logic QF_IDL)"),
+        Act::Open(3),
+        say("(check-sat)"),
+    ]
+}
+
+/// Writes a name over the one under a number.
+fn renamed(number: usize, name: &str) -> Vec<Act> {
+    let mut acts: Vec<Act> = name.bytes().enumerate().map(|(at, byte)| Act::Set(Place::Names, 32 * number + at, byte.into())).collect();
+    acts.push(Act::Set(Place::Lens, number, name.len() as i64));
+    acts
+}
+
+/// A script with names of 1 to 32 bytes, two levels and a remembered `sat`.
+fn declared() -> Shape {
+    let acts = vec![
+        Act::Start,
+        say("(set-logic QF_IDL)"),
+        say("(declare-fun cut () Int)"),
+        say("(declare-fun dry () Int)"),
+        say("(declare-fun n2345678901234567890123456789012 () Int)"),
+        say("(declare-fun ~!@$%^&*_-+=<>.?/ () Int)"),
+        say("(declare-fun x () Int)"),
+        say("(assert (<= (- cut dry) (- 2)))"),
+        say("(push 1)"),
+        say("(assert (and (<= (- dry x) (- 3)) (not (< (- x cut) 5))))"),
+        say("(push 1)"),
+        watch(0, 4, -5),
+        say("(check-sat)"),
+    ];
+    let words = ["", "dry", "let", "assert", "set-logic", "x y", "1x", "(", "a:b", ":a", "#b0", "3", "0.5", "|x|", "a;b", "cu", "cutt", "_", "-", "n2345678901234567890123456789012"];
+    let mut changes: Vec<Vec<Act>> = words.iter().map(|word| renamed(0, word)).collect();
+    changes.extend(words.iter().map(|word| renamed(4, word)));
+    changes.extend((0..4).map(|more| vec![Act::SetField(Field::Broken, more), Act::SetField(Field::Sat, 0)]));
+    changes.push(vec![Act::SetField(Field::Logic, 0)]);
+    changes.push(vec![Act::SetField(Field::Names, 0)]);
+    Shape { name: "names", acts, calls: commands(), changes }
+}
+
+/// A script whose second level counts as contradictory, below a third.
+fn contradictory() -> Shape {
+    let acts = vec![
+        Act::Start,
+        say("(set-logic QF_IDL)"),
+        say("(declare-fun cut () Int)"),
+        say("(declare-fun dry () Int)"),
+        say("(push 1)"),
+        say("(assert (and (<= (- cut dry) (- 2)) (<= (- dry cut) 1) (<= (- cut dry) 7)))"),
+        say("(push 1)"),
+        say("(check-sat)"),
+    ];
+    let changes = (0..5).map(|level| vec![Act::SetField(Field::Broken, level)]).collect();
+    Shape { name: "a contradictory level", acts, calls: commands(), changes }
+}
+
+/// As many names as steps.
+fn many_names() -> Shape {
+    let mut acts = vec![Act::Start, say("(set-logic QF_IDL)")];
+    acts.extend((0..256).map(|number| say(&format!("(declare-fun n{} () Int)", number))));
+    acts.extend([say("(declare-fun n256 () Int)"), say("(assert (<= (- n0 n255) (- 9)))"), say("(check-sat)")]);
+    let calls = vec![say("(get-value (n255))"), say("(declare-fun y () Int)"), Act::Start];
+    let changes = vec![renamed(255, "n0"), renamed(0, "n255"), renamed(17, "n19"), renamed(255, "push")];
+    Shape { name: "all names", acts, calls, changes }
+}

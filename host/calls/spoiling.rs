@@ -1,0 +1,55 @@
+//! What the caller of a sequence does to what it lends.
+
+use crate::acts::Act;
+use crate::office::{Field, Office, Place};
+use crate::sequences::{Kind, Writer};
+
+impl Writer {
+    /// Damage, or the undoing of the last.
+    pub fn spoil(&mut self, office: &Office) -> Act {
+        if let Some(undo) = self.undo.take() {
+            return undo;
+        }
+        let (counts, record) = (office.counts(), office.record());
+        let mixed = self.kind == Kind::Mixed;
+        match self.random.below(10) {
+            0..=2 => {
+                let field = self.random.pick(if mixed { &Field::ALL } else { &Field::ALL[..4] });
+                let old = office.field(field);
+                self.undo = Some(Act::SetField(field, old));
+                Act::SetField(field, self.random.pick(&[old.wrapping_add(1), old.wrapping_sub(1), 0, u32::MAX, 4_097, 257, 65, 1_025]))
+            }
+            3..=7 => {
+                let cells = [
+                    (Place::Lens, record.names),
+                    (Place::Names, record.names.saturating_mul(32)),
+                    (Place::Xs, counts.rules),
+                    (Place::Ys, counts.rules),
+                    (Place::Cs, counts.rules),
+                    (Place::Days, counts.steps),
+                    (Place::Days, counts.steps),
+                    (Place::Marks, counts.marks),
+                    (Place::Wxs, counts.watched),
+                    (Place::Wys, counts.watched),
+                    (Place::Wcs, counts.watched),
+                ];
+                let (place, used) = self.random.pick(if mixed { &cells } else { &cells[2..] });
+                // One in ten stands past the count.
+                let used = (used as usize).min(place.room() - 1);
+                let at = if used == 0 || self.random.chance(100) { used } else { self.random.below(used) };
+                if at >= office.lent(place) {
+                    return Act::Back;
+                }
+                let old = office.cell(place, at);
+                self.undo = Some(Act::Set(place, at, old));
+                Act::Set(place, at, self.random.pick(&[old + 1, old - 1, 0, old + 1_000_000, -1, 65_535, 2_147_483_647, old + 7]))
+            }
+            _ => {
+                let place = self.random.pick(&Place::ALL);
+                let old = office.lent(place);
+                self.undo = Some(Act::Lend(place, old));
+                Act::Lend(place, self.random.pick(&[place.room() - 1, place.room() - 1, place.room(), 0, 1]))
+            }
+        }
+    }
+}
