@@ -1,0 +1,95 @@
+//! The clock. What is compared is measured in turn, round by round, and the shortest round of each counts: other work on the machine only
+//! lengthens one.
+
+use crate::cases::Case;
+use crate::office::{Call, Office, BY_HAND, LIBRARY};
+use std::time::{Duration, Instant};
+
+const ROUNDS: usize = 25;
+const ROUND: Duration = Duration::from_millis(2);
+
+/// Nanoseconds for one call of the library, the same by hand, and one plain pass over the rules held.
+#[derive(Clone, Copy)]
+pub struct Times {
+    pub library: f64,
+    pub by_hand: f64,
+    pub plain: f64,
+}
+
+/// Measures a case. Before each call the counts and the days are set again, which undoes it: places past the counts may hold anything. The time that this
+/// takes is measured as well and taken off.
+pub fn measure(case: &Case) -> Times {
+    let (counts, days) = (case.office.counts, case.office.days.clone());
+    let call: Call = case.call;
+    let undo = |office: &mut Office| {
+        office.counts = counts;
+        office.days.copy_from_slice(&days);
+    };
+    let library = |office: &mut Office| {
+        undo(office);
+        office.carry(&LIBRARY, call).number
+    };
+    let by_hand = |office: &mut Office| {
+        undo(office);
+        office.carry(&BY_HAND, call).number
+    };
+    let undone = |office: &mut Office| {
+        undo(office);
+        office.counts.rules
+    };
+    let plain = |office: &mut Office| office.plain_pass();
+    let office = &mut case.office.clone();
+    let [library, by_hand, undone, plain] = shortest(office, [&library, &by_hand, &undone, &plain], &undo);
+    Times { library: library - undone, by_hand: by_hand - undone, plain }
+}
+
+type Work<'a> = &'a dyn Fn(&mut Office) -> u32;
+
+/// Nanoseconds that each work takes, all on the same tables: the shortest round in which this thread never waited for a processor; where there is none, the
+/// shortest with the waiting taken off.
+fn shortest(office: &mut Office, works: [Work; 4], undo: &dyn Fn(&mut Office)) -> [f64; 4] {
+    let times = works.map(|work| {
+        let mut times = 1;
+        while (0..3).any(|_| round(office, work, times).took < ROUND) {
+            times *= 2;
+        }
+        times
+    });
+    let (mut calm, mut disturbed) = ([f64::INFINITY; 4], [f64::INFINITY; 4]);
+    for _ in 0..ROUNDS {
+        for (number, (work, times)) in works.iter().zip(times).enumerate() {
+            undo(office);
+            let round = round(office, *work, times);
+            let kept = if round.waited == Duration::ZERO { &mut calm } else { &mut disturbed };
+            kept[number] = kept[number].min(round.took.as_nanos() as f64 / f64::from(times));
+        }
+    }
+    [0, 1, 2, 3].map(|number| if calm[number].is_finite() { calm[number] } else { disturbed[number] })
+}
+
+/// How long a round worked, and how long it waited meanwhile.
+struct Round {
+    took: Duration,
+    waited: Duration,
+}
+
+/// Does the work that many times over. What it gives is used, so that it is done.
+#[inline(never)]
+fn round(office: &mut Office, work: Work, times: u32) -> Round {
+    let began = Instant::now();
+    let waited_before = waited();
+    let mut sum = 0u32;
+    for _ in 0..times {
+        sum = sum.wrapping_add(work(office));
+    }
+    let waited = waited().saturating_sub(waited_before);
+    let took = began.elapsed().saturating_sub(waited);
+    assert!(sum != u32::MAX, "no work gives this");
+    Round { took, waited }
+}
+
+/// How long this thread has waited for a processor since it began, as Linux tells; nothing where it does not tell.
+fn waited() -> Duration {
+    let told = std::fs::read_to_string("/proc/thread-self/schedstat").unwrap_or_default();
+    Duration::from_nanos(told.split(' ').nth(1).and_then(|nanoseconds| nanoseconds.parse().ok()).unwrap_or(0))
+}
