@@ -1,272 +1,130 @@
-// The places of the tables and lists: setting one, filling all with a pattern, and checksums that show a change.
-use crate::show;
+// Parts of lists, as many places as the line says, and lists held against each other.
+use crate::office::Office;
 use crate::words;
 use crate::words::Ask;
 use meaning::Counts;
 
-// A checksum is kept below this before each step, times 31, plus the next number: one place that changed always shows.
-const WRAP: u64 = 4294967296;
-
-// What a place holds that no call has written.
-pub const PATTERN: u16 = 7;
-
-// Puts the number at place i of a list of step numbers, where the line says to put into this list; fills all of it, where the line says so.
-pub fn set_steps(ask: Ask, which: u32, list: &mut [u16], i: u32, v: u16) {
-    fill_steps(ask.op == words::FILL, list);
-    put_steps(ask.op == words::PUT && ask.list == which, list, i, v);
+// As many places of the list as the line lends.
+pub fn lent_steps<'a>(ask: Ask, which: u32, list: &'a [u16]) -> &'a [u16] {
+    let n = words::places(ask, which, list.len());
+    &list[0..n]
 }
 
-// The same for a list of amounts.
-pub fn set_amounts(ask: Ask, which: u32, list: &mut [i32], i: u32, v: i32) {
-    fill_amounts(ask.op == words::FILL, list);
-    put_amounts(ask.op == words::PUT && ask.list == which, list, i, v);
+// As many places of the list as the line lends.
+pub fn lent_amounts<'a>(ask: Ask, which: u32, list: &'a [i32]) -> &'a [i32] {
+    let n = words::places(ask, which, list.len());
+    &list[0..n]
 }
 
-// The same for a list of numbers.
-pub fn set_numbers(ask: Ask, which: u32, list: &mut [u32], i: u32, v: u32) {
-    fill_numbers(ask.op == words::FILL, list);
-    put_numbers(ask.op == words::PUT && ask.list == which, list, i, v);
+// As many places of the list as the line lends.
+pub fn lent_numbers<'a>(ask: Ask, which: u32, list: &'a [u32]) -> &'a [u32] {
+    let n = words::places(ask, which, list.len());
+    &list[0..n]
 }
 
-// Puts v at place i of the list, if it is wanted and there is such a place.
-fn put_steps(wanted: bool, list: &mut [u16], i: u32, v: u16) {
-    let at = i as usize;
-    if wanted && at < list.len() {
-        list[at] = v;
-    }
+// As many places of the list as the line lends, to be written.
+pub fn lend_steps<'a>(ask: Ask, which: u32, list: &'a mut [u16]) -> &'a mut [u16] {
+    let n = words::places(ask, which, list.len());
+    &mut list[0..n]
 }
 
-// Fills the list with the pattern, if it is wanted.
-fn fill_steps(wanted: bool, list: &mut [u16]) {
-    if !wanted {
-        return;
-    }
-    let mut i = 0;
-    while i < list.len() {
-        list[i] = PATTERN;
-        i += 1;
-    }
+// As many places of the list as the line lends, to be written.
+pub fn lend_amounts<'a>(ask: Ask, which: u32, list: &'a mut [i32]) -> &'a mut [i32] {
+    let n = words::places(ask, which, list.len());
+    &mut list[0..n]
 }
 
-// Puts v at place i of the list, if it is wanted and there is such a place.
-fn put_amounts(wanted: bool, list: &mut [i32], i: u32, v: i32) {
-    let at = i as usize;
-    if wanted && at < list.len() {
-        list[at] = v;
-    }
+// As many places of the list as the line lends, to be written.
+pub fn lend_numbers<'a>(ask: Ask, which: u32, list: &'a mut [u32]) -> &'a mut [u32] {
+    let n = words::places(ask, which, list.len());
+    &mut list[0..n]
 }
 
-// Fills the list with the pattern, if it is wanted.
-fn fill_amounts(wanted: bool, list: &mut [i32]) {
-    if !wanted {
-        return;
-    }
-    let mut i = 0;
-    while i < list.len() {
-        list[i] = PATTERN as i32;
-        i += 1;
-    }
-}
-
-// Puts v at place i of the list, if it is wanted and there is such a place.
-fn put_numbers(wanted: bool, list: &mut [u32], i: u32, v: u32) {
-    let at = i as usize;
-    if wanted && at < list.len() {
-        list[at] = v;
-    }
-}
-
-// Fills the list with the pattern, if it is wanted.
-fn fill_numbers(wanted: bool, list: &mut [u32]) {
-    if !wanted {
-        return;
-    }
-    let mut i = 0;
-    while i < list.len() {
-        list[i] = PATTERN as u32;
-        i += 1;
-    }
-}
-
-// The counts that the line sets, or those that stand.
-pub fn set_counts(
-    ask: Ask,
-    counts: Counts,
-    steps: u32,
-    rules: u32,
-    marks: u32,
-    watched: u32,
-) -> Counts {
-    if ask.op != words::COUNTS {
-        return counts;
-    }
-    Counts {
-        steps: steps,
-        rules: rules,
-        marks: marks,
-        watched: watched,
-    }
-}
-
-// The checksum goes on with one number.
-fn sum_next(sum: u64, n: u64) -> u64 {
-    sum % WRAP * 31 + n % WRAP
-}
-
-// The checksum goes on with all places of the list.
-fn sum_steps(sum: u64, list: &[u16]) -> u64 {
-    let mut s = sum;
-    let mut i = 0;
-    while i < list.len() {
-        s = sum_next(s, leaf::number_at(list, i) as u64);
-        i += 1;
-    }
-    s
-}
-
-// The checksum goes on with all places of the list.
-fn sum_amounts(sum: u64, list: &[i32]) -> u64 {
-    let mut s = sum;
-    let mut i = 0;
-    while i < list.len() {
-        s = sum_next(s, leaf::amount_at(list, i));
-        i += 1;
-    }
-    s
-}
-
-// The checksum goes on with all places of the list.
-pub fn sum_numbers(sum: u64, list: &[u32]) -> u64 {
-    let mut s = sum;
-    let mut i = 0;
-    while i < list.len() {
-        s = sum_next(s, leaf::day_at(list, i));
-        i += 1;
-    }
-    s
-}
-
-// The checksum goes on with three columns.
-pub fn sum_rules(sum: u64, xs: &[u16], ys: &[u16], cs: &[i32]) -> u64 {
-    let s = sum_steps(sum, xs);
-    let t = sum_steps(s, ys);
-    sum_amounts(t, cs)
-}
-
-// The checksum of the four counts.
-pub fn sum_counts(counts: Counts) -> u64 {
-    let s = sum_next(counts.steps as u64, counts.rules as u64);
-    let t = sum_next(s, counts.marks as u64);
-    sum_next(t, counts.watched as u64)
-}
-
-// The checksum of the counts, the rules held and the days.
-pub fn sum_tables(counts: Counts, xs: &[u16], ys: &[u16], cs: &[i32], days: &[u32]) -> u64 {
-    let s = sum_rules(sum_counts(counts), xs, ys, cs);
-    sum_numbers(s, days)
-}
-
-// The checksum of the counts and of two lists.
-pub fn sum_lists(counts: Counts, one: &[u32], two: &[u32]) -> u64 {
-    let s = sum_numbers(sum_counts(counts), one);
-    sum_numbers(s, two)
-}
-
-// Whether the places from a on hold the pattern.
-fn plain_steps(list: &[u16], a: u32) -> bool {
+// Whether it was so before, and the places from a on that both lists have hold the same.
+fn same_steps<'a>(before: bool, list: &'a [u16], other: &'a [u16], a: u32) -> bool {
+    let n = words::within(list.len(), other.len());
     let mut i = a as usize;
-    while i < list.len() {
-        if list[i] != PATTERN {
+    while i < n {
+        if list[i] != other[i] {
             return false;
         }
         i += 1;
     }
-    true
+    before
 }
 
-// Whether the places from a on hold the pattern.
-fn plain_amounts(list: &[i32], a: u32) -> bool {
+// Whether it was so before, and the places from a on that both lists have hold the same.
+fn same_amounts<'a>(before: bool, list: &'a [i32], other: &'a [i32], a: u32) -> bool {
+    let n = words::within(list.len(), other.len());
     let mut i = a as usize;
-    while i < list.len() {
-        if list[i] != PATTERN as i32 {
+    while i < n {
+        if list[i] != other[i] {
             return false;
         }
         i += 1;
     }
-    true
+    before
 }
 
-// Whether the places from a on hold the pattern.
-fn plain_numbers(list: &[u32], a: u32) -> bool {
+// Whether it was so before, and the places from a on that both lists have hold the same.
+fn same_numbers<'a>(before: bool, list: &'a [u32], other: &'a [u32], a: u32) -> bool {
+    let n = words::within(list.len(), other.len());
     let mut i = a as usize;
-    while i < list.len() {
-        if list[i] != PATTERN as u32 {
+    while i < n {
+        if list[i] != other[i] {
             return false;
         }
         i += 1;
     }
-    true
+    before
 }
 
-// Whether the places from a on of three columns hold the pattern.
-fn plain_rules(xs: &[u16], ys: &[u16], cs: &[i32], a: u32) -> bool {
-    if !plain_steps(xs, a) {
-        return false;
-    }
-    if !plain_steps(ys, a) {
-        return false;
-    }
-    plain_amounts(cs, a)
+// Whether the counts are the same.
+pub fn same_counts(a: Counts, b: Counts) -> bool {
+    (a.steps ^ b.steps) | (a.rules ^ b.rules) | (a.marks ^ b.marks) | (a.watched ^ b.watched) == 0
 }
 
-// Whether the places past the counts of all tables hold the pattern.
-fn plain_tables(
-    counts: Counts,
-    xs: &[u16],
-    ys: &[u16],
-    cs: &[i32],
-    days: &[u32],
-    marks: &[u32],
-    wxs: &[u16],
-    wys: &[u16],
-    wcs: &[i32],
-) -> bool {
-    if !plain_rules(xs, ys, cs, counts.rules) {
-        return false;
-    }
-    if !plain_numbers(days, counts.steps) {
-        return false;
-    }
-    if !plain_numbers(marks, counts.marks) {
-        return false;
-    }
-    plain_rules(wxs, wys, wcs, counts.watched)
+// What is as it is in another office: the tables, list one and list two.
+pub struct Same {
+    pub tables: bool,
+    pub one: bool,
+    pub two: bool,
 }
 
-// Writes whether the places past the counts, past the first k of list one and past the first l of list two still hold the pattern, all of them; for a
-// line that asks for it.
-pub fn past(
-    ask: Ask,
-    counts: Counts,
-    xs: &[u16],
-    ys: &[u16],
-    cs: &[i32],
-    days: &[u32],
-    marks: &[u32],
-    wxs: &[u16],
-    wys: &[u16],
-    wcs: &[i32],
-    one: &[u32],
-    two: &[u32],
+// Whether all of it is the same.
+pub fn all_same(s: Same) -> bool {
+    s.tables && s.one && s.two
+}
+
+// What is the same as in the office: of the tables from these counts on, if it was so before, and of the lists from k and l on.
+pub fn compared<'a>(
+    o: Office,
+    before: bool,
+    from: Counts,
     k: u32,
     l: u32,
-) {
-    if ask.op != words::PAST {
-        return;
+    xs: &'a [u16],
+    ys: &'a [u16],
+    cs: &'a [i32],
+    days: &'a [u32],
+    marks: &'a [u32],
+    wxs: &'a [u16],
+    wys: &'a [u16],
+    wcs: &'a [i32],
+    one: &'a [u32],
+    two: &'a [u32],
+) -> Same {
+    let t = same_steps(before, xs, &o.xs, from.rules);
+    let t = same_steps(t, ys, &o.ys, from.rules);
+    let t = same_amounts(t, cs, &o.cs, from.rules);
+    let t = same_numbers(t, days, &o.days, from.steps);
+    let t = same_numbers(t, marks, &o.marks, from.marks);
+    let t = same_steps(t, wxs, &o.wxs, from.watched);
+    let t = same_steps(t, wys, &o.wys, from.watched);
+    let t = same_amounts(t, wcs, &o.wcs, from.watched);
+    Same {
+        tables: t,
+        one: same_numbers(true, one, &o.one, k),
+        two: same_numbers(true, two, &o.two, l),
     }
-    let tables = plain_tables(counts, xs, ys, cs, days, marks, wxs, wys, wcs);
-    let first = plain_numbers(one, k);
-    let second = plain_numbers(two, l);
-    show::text(b":");
-    show::same(tables && first && second);
 }

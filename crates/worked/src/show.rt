@@ -1,8 +1,40 @@
-// Writing to standard output: words, numbers, answers and lists. A function that takes a bool writes only where it is true.
+// Writing to standard output: pieces of text, numbers and lists, and what a call gave: its number and two values, and then what is to be seen.
+use crate::cells;
+use crate::cells::Same;
+use crate::office::Given;
 use crate::words;
 use crate::words::Ask;
-use meaning::Answer;
 use meaning::Counts;
+
+// Every piece of text that is written, each with a bar after it. A piece's number is its place here, from 0 on; those of the calls come first, by the calls' numbers.
+const PIECES: [u8; 153] =
+    *b":|: open|: watch|, mark|, back|, add|, trial|, consequences|, ring check|,| same| changed|, counts|, days|, ring|, one|, two|, first|, second|, part|: ?|";
+
+pub const COLON: u32 = 0;
+
+const COMMA: u32 = 9;
+
+const SAME: u32 = 10;
+
+const CHANGED: u32 = 11;
+
+const COUNTS: u32 = 12;
+
+const DAYS: u32 = 13;
+
+const RING: u32 = 14;
+
+const ONE: u32 = 15;
+
+const TWO: u32 = 16;
+
+const FIRST: u32 = 17;
+
+const SECOND: u32 = 18;
+
+const PART: u32 = 19;
+
+pub const UNKNOWN: u32 = 20;
 
 // What `leaf::biased` makes of the amount 0.
 const ZERO: u64 = 2147483648;
@@ -10,24 +42,66 @@ const ZERO: u64 = 2147483648;
 // How many days a line shows at most.
 const SHOWN: u32 = 6;
 
+// What was asked for alone, and the number given, as one number: the operation, times 16, and the number.
+const WATCHED: u32 = 32;
+
+const MARKED: u32 = 48;
+
+const ADDED: u32 = 80;
+
+const CLASH: u32 = 86;
+
+const TRIED: u32 = 96;
+
+const TRIED_CLASH: u32 = 102;
+
+const SPLIT: u32 = 112;
+
 // Writes the words as they are.
 pub fn text(words: &[u8]) {
     io::write_all(1, words);
 }
 
+// Writes the piece that k bars stand before.
+fn piece(pieces: &[u8], k: u32) {
+    let mut left = k;
+    let mut i = 0;
+    while i < pieces.len() {
+        let e = i + 1;
+        if pieces[i] == 124 {
+            left = std::num::wrapping_sub_u32(left, 1);
+        } else {
+            if left == 0 {
+                text(&pieces[i..e]);
+            }
+        }
+        i = e;
+    }
+}
+
+// Writes the piece of this number.
+pub fn say(k: u32) {
+    let pieces = PIECES;
+    piece(&pieces, k);
+}
+
+// Writes the call's name, in a line that asks for each call; else only the colon.
+pub fn name(ask: Ask, call: u32) {
+    if ask.op == words::EACH {
+        say(call);
+    } else {
+        say(COLON);
+    }
+}
+
 // Writes a space and the number.
-pub fn number(n: u32) {
+fn number(n: u32) {
     text(b" ");
     io::print_decimal(1, n as u64);
 }
 
-// Writes a space and the step number.
-fn step(n: u16) {
-    number(n as u32);
-}
-
 // Writes a space and the amount, with its sign where it is below 0.
-pub fn amount(c: i32) {
+fn amount(c: i32) {
     let raised = leaf::biased(c);
     if raised < ZERO {
         text(b" -");
@@ -39,7 +113,7 @@ pub fn amount(c: i32) {
 }
 
 // Writes the first k numbers of the list, and no more than it has.
-pub fn list(numbers: &[u32], k: u32) {
+fn list(numbers: &[u32], k: u32) {
     let e = words::within(k as usize, numbers.len());
     let mut i: usize = 0;
     while i < e {
@@ -51,104 +125,60 @@ pub fn list(numbers: &[u32], k: u32) {
 // Writes ` same` where it is so, else ` changed`.
 pub fn same(as_before: bool) {
     if as_before {
-        text(b" same");
+        say(SAME);
     } else {
-        text(b" changed");
+        say(CHANGED);
     }
 }
 
-// An answer's number and its two values.
-pub struct Given {
-    pub number: u32,
-    pub one: u32,
-    pub two: u32,
-}
-
-// A number with no values.
-fn bare(number: u32) -> Given {
-    Given {
-        number: number,
-        one: 0,
-        two: 0,
-    }
-}
-
-// The number and the values of each answer.
-pub fn values(answer: Answer) -> Given {
-    match answer {
-        Answer::Done(a, b) => Given {
-            number: 0,
-            one: a,
-            two: b,
-        },
-        Answer::Short => bare(1),
-        Answer::Damaged => bare(2),
-        Answer::Step => bare(3),
-        Answer::Amount => bare(4),
-        Answer::Full => bare(5),
-        Answer::Conflict(a) => Given {
-            number: 6,
-            one: a,
-            two: 0,
-        },
-        Answer::NoMark => bare(7),
-        Answer::Syntax => bare(8),
-        Answer::Mode => bare(9),
-        Answer::Name => bare(10),
-        Answer::Size => bare(11),
-    }
-}
-
-// Writes the three numbers of an answer.
-fn three(g: Given) {
+// Writes the answer: alone, with `same` or `changed` after a refusal that writes nothing; or among each, always with it.
+pub fn told(ask: Ask, g: Given, s: Same) {
     number(g.number);
     number(g.one);
     number(g.two);
-}
-
-// Writes the answer: alone, with `same` or `changed` after a refusal that writes nothing; or among each, after the call's name and always with it.
-pub fn told(ask: Ask, name: &[u8], g: Given, as_before: bool) {
-    if !ask.loud {
-        return;
-    }
+    let as_before = cells::all_same(s);
     if ask.op == words::EACH {
-        text(name);
-        three(g);
         same(as_before);
         return;
     }
-    text(b":");
-    three(g);
-    if g.number != 0 && g.number != 6 {
-        text(b",");
-        same(as_before);
+    let n = g.number;
+    match n {
+        0 | 6 => {}
+        _ => {
+            say(COMMA);
+            same(as_before);
+        }
     }
 }
 
-// Whether more is to be written: the line asks for this call alone, and its answer has this number.
-pub fn told_by(ask: Ask, op: u32, g: Given, number: u32) -> bool {
-    ask.loud && ask.op == op && g.number == number
+// Writes the piece and the first k numbers of the list, in the case that is named.
+fn listed(seen: u32, case: u32, k: u32, numbers: &[u32], n: u32) {
+    if seen == case {
+        say(k);
+        list(numbers, n);
+    }
+}
+
+// Writes the piece, and whether all is as before, in the case that is named.
+fn flagged(seen: u32, case: u32, k: u32, as_before: bool) {
+    if seen == case {
+        say(k);
+        same(as_before);
+    }
 }
 
 // Writes the four counts: steps, rules, marks, watched rules.
-pub fn counts(wanted: bool, c: Counts) {
-    if !wanted {
-        return;
-    }
-    text(b", counts");
+fn counts(c: Counts) {
+    say(COUNTS);
     number(c.steps);
     number(c.rules);
     number(c.marks);
     number(c.watched);
 }
 
-// Writes the counts, and the days of the first steps.
-pub fn plan(wanted: bool, c: Counts, days: &[u32]) {
-    if !wanted {
-        return;
-    }
-    counts(true, c);
-    text(b", days");
+// Writes the days of the first steps.
+fn plan(c: Counts, days: &[u32]) {
+    say(DAYS);
     if c.steps < SHOWN {
         list(days, c.steps);
     } else {
@@ -156,98 +186,81 @@ pub fn plan(wanted: bool, c: Counts, days: &[u32]) {
     }
 }
 
-// Writes the ring, and whether the tables are as before.
-pub fn ring(wanted: bool, numbers: &[u32], k: u32, as_before: bool) {
-    if !wanted {
-        return;
+// Writes the counts after Open, Watch, Mark, Back and Add, and the days where the call can write them.
+fn planned(seen: u32, c: Counts, days: &[u32]) {
+    match seen {
+        WATCHED | MARKED => counts(c),
+        16 | 64 | ADDED => {
+            counts(c);
+            plan(c, days);
+        }
+        _ => {}
     }
-    text(b", ring");
-    list(numbers, k);
-    text(b",");
-    same(as_before);
 }
 
-// Writes list one, with the days, where the rule fits, and list two, with the ring, on CONFLICT; else whether the list is as before, and whether the counts
-// are; for a line that asks for Trial alone.
-pub fn tried(
+// Writes what is to be seen after a call that is asked for alone. Add on CONFLICT: the ring, and whether the counts and the tables are as before. Trial: list
+// one with the days where the rule fits, list two with the ring on CONFLICT, else whether the list is as before, and whether the counts and tables are. Consequences: the filled parts.
+pub fn seen<'a>(
     ask: Ask,
     g: Given,
-    steps: u32,
-    one: &[u32],
-    two: &[u32],
-    same_one: bool,
-    same_two: bool,
-    same_counts: bool,
+    c: Counts,
+    s: Same,
+    days: &'a [u32],
+    one: &'a [u32],
+    two: &'a [u32],
 ) {
-    if !ask.loud || ask.op != words::TRIAL {
-        return;
-    }
-    if g.number != 0 && g.number != 6 {
-        return;
-    }
-    text(b", one");
-    if g.number == 0 {
-        list(one, steps);
-    } else {
-        same(same_one);
-    }
-    text(b", two");
-    if g.number == 6 {
-        list(two, g.one);
-    } else {
-        same(same_two);
-    }
-    text(b", counts");
-    same(same_counts);
-}
-
-// Writes the filled parts of both lists of Consequences.
-pub fn split(wanted: bool, one: &[u32], k: u32, two: &[u32], l: u32) {
-    if !wanted {
-        return;
-    }
-    text(b", first");
-    list(one, k);
-    text(b", second");
-    list(two, l);
+    let seen = ask.op % 256 * 16 + g.number % 16;
+    planned(seen, c, days);
+    listed(seen, CLASH, RING, one, g.one);
+    flagged(seen, CLASH, COMMA, s.tables);
+    listed(seen, TRIED, ONE, one, c.steps);
+    flagged(seen, TRIED, TWO, s.two);
+    flagged(seen, TRIED_CLASH, ONE, s.one);
+    listed(seen, TRIED_CLASH, TWO, two, g.one);
+    flagged(seen, TRIED, COUNTS, s.tables);
+    flagged(seen, TRIED_CLASH, COUNTS, s.tables);
+    listed(seen, SPLIT, FIRST, one, g.one);
+    listed(seen, SPLIT, SECOND, two, g.two);
 }
 
 // Writes the number and the value that came with a part, and all its numbers.
 pub fn part(number_given: u32, value: u32, numbers: &[u32]) {
-    text(b":");
+    say(COLON);
     number(number_given);
     number(value);
-    text(b", part");
+    say(PART);
     list(numbers, 4294967295);
 }
 
-// Writes the rule at place i of three columns, where there is one; for a line that asks for it.
-pub fn rule(ask: Ask, xs: &[u16], ys: &[u16], cs: &[i32], i: u32) {
-    let at = i as usize;
-    if ask.op != words::RULE || xs.len() <= at || ys.len() <= at || cs.len() <= at {
-        return;
-    }
-    text(b":");
-    step(xs[at]);
-    step(ys[at]);
-    amount(cs[at]);
+// Writes a space and the step number.
+fn step_number(n: u16) {
+    number(n as u32);
 }
 
-// Writes the day at place i, where there is one; for a line that asks to show it.
-pub fn day(ask: Ask, days: &[u32], i: u32) {
-    if ask.op != words::SHOW {
-        return;
+// Writes the step number at place i, where there is one.
+fn step(list: &[u16], i: u32) {
+    let at = i as usize;
+    if at < list.len() {
+        step_number(list[at]);
     }
-    text(b":");
+}
+
+// Writes the rule at place i of three columns.
+pub fn rule<'a>(xs: &'a [u16], ys: &'a [u16], cs: &'a [i32], i: u32) {
+    say(COLON);
+    step(xs, i);
+    step(ys, i);
+    let at = i as usize;
+    if at < cs.len() {
+        amount(cs[at]);
+    }
+}
+
+// Writes the day at place i, where there is one.
+pub fn day(days: &[u32], i: u32) {
+    say(COLON);
     let at = i as usize;
     if at < days.len() {
         number(days[at]);
-    }
-}
-
-// Writes that the line asks for nothing that is known, where it is so.
-pub fn unknown(ask: Ask) {
-    if ask.op == words::NONE {
-        text(b": ?");
     }
 }

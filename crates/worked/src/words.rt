@@ -1,70 +1,85 @@
-// Reading a line: its first word says what is asked, numbers and names of lists follow. Other words and signs say nothing.
+// Reading a line: its words and numbers one after the other, byte by byte. Other words and signs say nothing.
 ghost use Prim.Native.Nat.{_≤_};
-ghost use lib.ListN.{length};
 
-// What a line can ask for. None is a line with no such word.
+// Every word that is known, each with a space after it: the calls, what else a line can ask for, the lists, and what is said of the line. A word's
+// number is its place here, from 1 on.
+const KNOWN: [u8; 150] =
+    *b"open watch mark back add trial consequences ring part each counts put fill past rule show xs ys cs days marks wxs wys wcs one two times onward places ";
+
+// No word, or a word that is not known.
 pub const NONE: u32 = 0;
 
-pub const HEADING: u32 = 1;
+pub const OPEN: u32 = 1;
 
-pub const OPEN: u32 = 2;
+pub const WATCH: u32 = 2;
 
-pub const WATCH: u32 = 3;
+pub const MARK: u32 = 3;
 
-pub const MARK: u32 = 4;
+pub const BACK: u32 = 4;
 
-pub const BACK: u32 = 5;
+pub const ADD: u32 = 5;
 
-pub const ADD: u32 = 6;
+pub const TRIAL: u32 = 6;
 
-pub const TRIAL: u32 = 7;
+pub const CONSEQUENCES: u32 = 7;
 
-pub const PART: u32 = 8;
+pub const RING: u32 = 8;
 
-pub const CONSEQUENCES: u32 = 9;
+pub const PART: u32 = 9;
 
-pub const RING: u32 = 10;
+pub const EACH: u32 = 10;
 
-pub const EACH: u32 = 11;
+pub const COUNTS: u32 = 11;
 
-pub const COUNTS: u32 = 12;
+pub const PUT: u32 = 12;
 
-pub const PUT: u32 = 13;
+pub const FILL: u32 = 13;
 
-pub const FILL: u32 = 14;
+pub const PAST: u32 = 14;
 
-pub const PAST: u32 = 15;
+pub const RULE: u32 = 15;
 
-pub const RULE: u32 = 16;
-
-pub const SHOW: u32 = 17;
+pub const SHOW: u32 = 16;
 
 // The lists' names.
-pub const XS: u32 = 1;
+pub const XS: u32 = 17;
 
-pub const YS: u32 = 2;
+pub const YS: u32 = 18;
 
-pub const CS: u32 = 3;
+pub const CS: u32 = 19;
 
-pub const DAYS: u32 = 4;
+pub const DAYS: u32 = 20;
 
-pub const MARKS: u32 = 5;
+pub const MARKS: u32 = 21;
 
-pub const WXS: u32 = 6;
+pub const WXS: u32 = 22;
 
-pub const WYS: u32 = 7;
+pub const WYS: u32 = 23;
 
-pub const WCS: u32 = 8;
+pub const WCS: u32 = 24;
 
-pub const ONE: u32 = 9;
+pub const ONE: u32 = 25;
 
-pub const TWO: u32 = 10;
+pub const TWO: u32 = 26;
+
+// What is said of the line.
+const TIMES: u32 = 27;
+
+const ONWARD: u32 = 28;
+
+const PLACES: u32 = 29;
+
+// A line that is only copied; no word asks for it.
+pub const HEADING: u32 = 30;
+
+// Writing what the last call gave; no word asks for it.
+pub const TELL: u32 = 31;
 
 // How often a line is carried out at most.
 pub const MOST: u32 = 5000;
 
-// What a line asks. The numbers themselves stand in a list beside it.
-pub struct Ask {
+// What is read of a line so far.
+pub struct Line {
     // What is asked for.
     pub op: u32,
     // The list named last.
@@ -77,109 +92,37 @@ pub struct Ask {
     pub onward: bool,
     // Whether the amount is below 0.
     pub minus: bool,
-    // How many numbers there are, and the last one.
+    // The numbers, how many there are, and the last one.
+    pub numbers: [u32; 16],
     pub count: u32,
     pub last: u32,
+    // The word that is being read, as `with_letter` has it; 0 where there is none.
+    pub word: u64,
+    // Whether a number is being read, and its value.
+    pub digits: bool,
+    pub value: u32,
+}
+
+// What a line asks for at one turn.
+pub struct Ask {
+    pub op: u32,
+    pub list: u32,
+    pub cut: u32,
+    pub places: u32,
     // Whether the answer is written: only the last time.
     pub loud: bool,
-}
-
-// Whether the line asks for this call, alone or among each.
-pub fn asks(ask: Ask, op: u32) -> bool {
-    ask.op == op || ask.op == EACH
-}
-
-// What the word asks for of the public calls.
-fn call_of(word: &[u8]) -> u32 {
-    if check::same(word, b"open") {
-        return OPEN;
-    }
-    if check::same(word, b"watch") {
-        return WATCH;
-    }
-    if check::same(word, b"mark") {
-        return MARK;
-    }
-    if check::same(word, b"back") {
-        return BACK;
-    }
-    if check::same(word, b"add") {
-        return ADD;
-    }
-    if check::same(word, b"trial") {
-        return TRIAL;
-    }
-    if check::same(word, b"part") {
-        return PART;
-    }
-    if check::same(word, b"consequences") {
-        return CONSEQUENCES;
-    }
-    if check::same(word, b"ring") {
-        return RING;
-    }
-    if check::same(word, b"each") {
-        return EACH;
-    }
-    NONE
-}
-
-// What else the word asks for.
-fn other_of(word: &[u8]) -> u32 {
-    if check::same(word, b"counts") {
-        return COUNTS;
-    }
-    if check::same(word, b"put") {
-        return PUT;
-    }
-    if check::same(word, b"fill") {
-        return FILL;
-    }
-    if check::same(word, b"past") {
-        return PAST;
-    }
-    if check::same(word, b"rule") {
-        return RULE;
-    }
-    if check::same(word, b"show") {
-        return SHOW;
-    }
-    NONE
-}
-
-// The list that the word names.
-fn list_of(word: &[u8]) -> u32 {
-    if check::same(word, b"xs") {
-        return XS;
-    }
-    if check::same(word, b"ys") {
-        return YS;
-    }
-    if check::same(word, b"cs") {
-        return CS;
-    }
-    if check::same(word, b"days") {
-        return DAYS;
-    }
-    if check::same(word, b"marks") {
-        return MARKS;
-    }
-    if check::same(word, b"wxs") {
-        return WXS;
-    }
-    if check::same(word, b"wys") {
-        return WYS;
-    }
-    if check::same(word, b"wcs") {
-        return WCS;
-    }
-    if check::same(word, b"one") {
-        return ONE;
-    }
-    if check::same(word, b"two") {
-        return TWO;
-    }
-    NONE
+    // The rule.
+    pub x: u16,
+    pub y: u16,
+    pub c: i32,
+    // The first four numbers, and the second with the line's sign.
+    pub first: u32,
+    pub second: u32,
+    pub third: u32,
+    pub fourth: u32,
+    pub signed: i32,
+    pub numbers: [u32; 16],
+    pub count: u32,
 }
 
 // One less, and 0 for 0.
@@ -190,118 +133,117 @@ fn less_one(n: u32) -> u32 {
     n - 1
 }
 
-// What the line asks with one word more. `N times` says how often, `onward` that steps rise, `LIST N places` how many places of it are lent.
-fn with_word(ask: Ask, word: &[u8]) -> Ask {
-    let mut next = ask;
-    let call = call_of(word);
-    if call != NONE {
-        next.op = call;
+// The word with one letter more, as a number with 32 for each letter, which says the word exactly. All words of more than 12 letters are one that is not known.
+fn with_letter(word: u64, b: u8) -> u64 {
+    if 36028797018963968 <= word {
+        return 18446744073709551615;
     }
-    let other = other_of(word);
-    if other != NONE {
-        next.op = other;
-    }
-    let list = list_of(word);
-    if list != NONE {
-        next.list = list;
-    }
-    if check::same(word, b"times") {
-        next.times = ask.last;
-        next.count = 0;
-    }
-    if check::same(word, b"onward") {
-        next.onward = true;
-    }
-    if check::same(word, b"places") {
-        next.cut = ask.list;
-        next.places = ask.last;
-        next.count = less_one(ask.count);
-    }
-    next
+    word * 32 + (b % 32) as u64
 }
 
-// What the line asks with one number more, which is put into the list of numbers where that has a place left.
-fn with_number(ask: Ask, value: u32, numbers: &mut [u32]) -> Ask {
-    let mut next = ask;
-    next.last = value;
-    let at = ask.count as usize;
-    if at < numbers.len() {
-        numbers[at] = value;
-        next.count = next_count(ask.count);
-    }
-    next
-}
-
-// One more, and 0 after the largest.
-fn next_count(n: u32) -> u32 {
-    std::num::wrapping_add_u32(n, 1)
-}
-
-// The first place from `at` on whose byte is not in the range from low to high, or the text's end.
-fn end_of(text: &[u8], at: usize, low: u8, high: u8) -> usize
-    requires { ⌜ at ≤ length (now text) ⌝ }
-    ensures { λ r. ⌜ (at ≤ r) × (r ≤ length (now (text .entry))) ⌝ }
-{
-    let mut e = at;
-    while e < text.len() {
-        let b = text[e];
-        if b < low || high < b {
-            return e;
-        }
-        e += 1;
-    }
-    e
-}
-
-// The end of the line that starts at `at`: bytes above the line feed are its own.
-pub fn line_end(text: &[u8], at: usize) -> usize
-    requires { ⌜ at ≤ length (now text) ⌝ }
-    ensures { λ r. ⌜ (at ≤ r) × (r ≤ length (now (text .entry))) ⌝ }
-{
-    end_of(text, at, 11, 255)
-}
-
-// The digit's value.
-fn digit(b: u8) -> u64
-    ensures { λ r. ⌜ r ≤ 9 ⌝ }
-{
-    if b < 48 {
-        return 0;
-    }
-    if 57 < b {
-        return 0;
-    }
-    (b - 48) as u64
-}
-
-// The number with one digit more; a number above the largest u32 stays as it is.
-fn with_digit(v: u64, b: u8) -> u64
-    requires { ⌜ v ≤ 42949672959 ⌝ }
-    ensures { λ r. ⌜ r ≤ 42949672959 ⌝ }
-{
-    if 4294967295 < v {
-        return v;
-    }
-    v * 10 + digit(b)
-}
-
-// The number that the digits say; the largest u32 where it is larger.
-fn value_of(digits: &[u8]) -> u32 {
-    let mut v: u64 = 0;
-    let mut i = 0;
-    while i < digits.len() {
-        v = with_digit(v, digits[i]);
-        i += 1;
-    }
-    if 4294967295 < v {
+// The number with one digit more; the largest u32 where it is larger.
+fn with_digit(v: u32, b: u8) -> u32 {
+    let n = v as u64 * 10 + (b % 16) as u64;
+    if 4294967295 < n {
         return 4294967295;
     }
-    v as u32
+    n as u32
+}
+
+// The number of the word among those known, NONE where it is not there.
+fn number_of(word: u64, known: &[u8]) -> u32 {
+    let mut i = 0;
+    let mut k: u32 = 1;
+    let mut w: u64 = 0;
+    while i < known.len() {
+        let b = known[i];
+        i += 1;
+        if b != 32 {
+            w = with_letter(w, b);
+        } else {
+            if w == word {
+                return k;
+            }
+            w = 0;
+            k = std::num::wrapping_add_u32(k, 1);
+        }
+    }
+    NONE
+}
+
+// What the line asks where the word ends that is being read. `N times` says how often, `onward` that steps rise, `LIST N places` how many places of it are lent.
+fn with_word(line: Line) -> Line {
+    let mut next = line;
+    next.word = 0;
+    let known = KNOWN;
+    let k = number_of(line.word, &known);
+    match k {
+        NONE => {}
+        OPEN..=SHOW => {
+            next.op = k;
+        }
+        XS..=TWO => {
+            next.list = k;
+        }
+        TIMES => {
+            next.times = line.last;
+            next.count = 0;
+        }
+        ONWARD => {
+            next.onward = true;
+        }
+        _ => {
+            next.cut = line.list;
+            next.places = line.last;
+            next.count = less_one(line.count);
+        }
+    }
+    next
+}
+
+// What the line asks where the number ends that is being read: it is kept where there is a place left.
+fn with_number(line: Line) -> Line {
+    if !line.digits {
+        return line;
+    }
+    let mut next = line;
+    next.digits = false;
+    next.value = 0;
+    next.last = line.value;
+    let at = line.count as usize;
+    if at < 16 {
+        next.numbers[at] = line.value;
+        next.count = std::num::wrapping_add_u32(line.count, 1);
+    }
+    next
+}
+
+// What the line asks with one byte more. A minus sign makes the amount negative.
+fn with_byte(line: Line, b: u8) -> Line {
+    match b {
+        97..=122 => {
+            let mut next = with_number(line);
+            next.word = with_letter(next.word, b);
+            next
+        }
+        48..=57 => {
+            let mut next = with_word(line);
+            next.value = with_digit(next.value, b);
+            next.digits = true;
+            next
+        }
+        45 => {
+            let mut next = with_number(with_word(line));
+            next.minus = true;
+            next
+        }
+        _ => with_number(with_word(line)),
+    }
 }
 
 // What a line asks that has no word and no number yet.
-fn nothing(op: u32) -> Ask {
-    Ask {
+fn nothing(op: u32) -> Line {
+    Line {
         op: op,
         list: NONE,
         cut: NONE,
@@ -309,103 +251,107 @@ fn nothing(op: u32) -> Ask {
         times: 1,
         onward: false,
         minus: false,
+        numbers: [0; 16],
         count: 0,
         last: 0,
-        loud: true,
+        word: 0,
+        digits: false,
+        value: 0,
     }
 }
 
-// Whether the line is empty or starts with `#`: it is copied.
-fn is_heading(line: &[u8]) -> bool {
-    if line.len() == 0 {
-        return true;
-    }
-    line[0] == 35
-}
-
-// What the line asks, with its numbers in the list.
-pub fn read(line: &[u8], numbers: &mut [u32]) -> Ask {
-    if is_heading(line) {
+// What the line asks. An empty line and one that starts with `#` are copied.
+pub fn read(text: &[u8]) -> Line {
+    if text.len() == 0 {
         return nothing(HEADING);
     }
-    let mut ask = nothing(NONE);
-    let mut at = 0;
-    while at < line.len() {
-        let e = end_of(line, at, 97, 122);
-        if at < e {
-            ask = with_word(ask, &line[at..e]);
-            at = e;
-        } else {
-            let d = end_of(line, at, 48, 57);
-            if at < d {
-                ask = with_number(ask, value_of(&line[at..d]), numbers);
-                at = d;
-            } else {
-                ask = with_sign(ask, line[at]);
-                at += 1;
-            }
-        }
+    if text[0] == 35 {
+        return nothing(HEADING);
     }
-    ask
-}
-
-// What the line asks with one sign more: `-` makes the amount negative.
-fn with_sign(ask: Ask, sign: u8) -> Ask {
-    let mut next = ask;
-    if sign == 45 {
-        next.minus = true;
+    let mut line = nothing(NONE);
+    let mut i = 0;
+    while i < text.len() {
+        line = with_byte(line, text[i]);
+        i += 1;
     }
-    next
-}
-
-// What the line asks at this turn: its answer is written at the last one.
-pub fn at_turn(ask: Ask, turn: u32) -> Ask {
-    let mut next = ask;
-    next.loud = ask.times <= next_count(turn);
-    next
+    with_byte(line, 32)
 }
 
 // How often the line is carried out: once at least, and MOST times at most.
-pub fn turns(ask: Ask) -> u32
+pub fn turns(line: Line) -> u32
     ensures { λ r. ⌜ r ≤ 5000 ⌝ }
 {
-    if ask.times < 1 {
+    if line.times < 1 {
         return 1;
     }
-    if MOST < ask.times {
+    if MOST < line.times {
         return MOST;
     }
-    ask.times
+    line.times
 }
 
 // The number at place i, and 0 where the line has none.
-pub fn number(ask: Ask, numbers: &[u32], i: u32) -> u32 {
-    if ask.count <= i {
+fn number(line: Line, i: u32) -> u32 {
+    if line.count <= i {
         return 0;
     }
     let at = i as usize;
-    if at < numbers.len() {
-        return numbers[at];
+    if at < 16 {
+        return line.numbers[at];
     }
     0
 }
 
-// The step number at place i, raised by the turn where the line goes onward.
-pub fn step(ask: Ask, numbers: &[u32], i: u32, turn: u32) -> u16 {
-    let n = number(ask, numbers, i);
-    if ask.onward {
+// The step number, raised by the turn where the line goes onward.
+fn step(line: Line, n: u32, turn: u32) -> u16 {
+    if line.onward {
         return (std::num::wrapping_add_u32(n, turn) % 65536) as u16;
     }
     (n % 65536) as u16
 }
 
 // The amount of this size, below 0 where the line has the sign for it.
-pub fn amount(ask: Ask, size: u32) -> i32 {
+fn amount(minus: bool, size: u32) -> i32 {
     let c = (size % 2147483648) as i32;
-    if ask.minus {
+    if minus {
         return 0 - c;
     }
     c
+}
+
+// What the line asks at this turn: its answer is written at the last one.
+pub fn at_turn(line: Line, turn: u32) -> Ask {
+    let first = number(line, 0);
+    let second = number(line, 1);
+    let third = number(line, 2);
+    let numbers = line.numbers;
+    Ask {
+        op: line.op,
+        list: line.list,
+        cut: line.cut,
+        places: line.places,
+        loud: line.times <= std::num::wrapping_add_u32(turn, 1),
+        x: step(line, first, turn),
+        y: step(line, second, turn),
+        c: amount(line.minus, third),
+        first: first,
+        second: second,
+        third: third,
+        fourth: number(line, 3),
+        signed: amount(line.minus, second),
+        numbers: numbers,
+        count: line.count,
+    }
+}
+
+// So many as are wanted, and no more than there are.
+pub fn within(wanted: usize, full: usize) -> usize
+    ensures { λ r. ⌜ (r ≤ full) × (r ≤ wanted) ⌝ }
+{
+    if full < wanted {
+        return full;
+    }
+    wanted
 }
 
 // How many places of the list are lent: all, or as many as the line says.
@@ -416,14 +362,4 @@ pub fn places(ask: Ask, list: u32, full: usize) -> usize
         return full;
     }
     within(ask.places as usize, full)
-}
-
-// So many as are wanted, and no more than there are.
-pub fn within(wanted: usize, full: usize) -> usize
-    ensures { λ r. ⌜ r ≤ full ⌝ }
-{
-    if full < wanted {
-        return full;
-    }
-    wanted
 }

@@ -1,89 +1,61 @@
--- `worked::calls::add` is safe: the call keeps the length of each list that it can write.
-use mathlib.Core.Path.{refl}
+-- `worked::calls::add` is safe: an array that is lent has its places.
+use Rattle.worked.proofs.Long.{long}
 use Rattle.worked.proofs.calls.add.Statement.{statement}
 use Rattle.worked.proofs.calls.add.Tie as tie
 
-asks-requires : tie.Need-asks-requires
-asks-requires c κs = tt
+slice-aggregate-lend-steps : tie.Need-slice-aggregate-lend-steps
+slice-aggregate-lend-steps c = long (c .before .before .before .before .before .before .before .before .before .args .o) (c .before .before .before .before .before .before .before .before .before .good .1 .0) .xs
 
-returns : tie.Need-returns
-returns c = tt
+lend-steps-requires : tie.Need-lend-steps-requires
+lend-steps-requires c κs = tt
 
-sum-tables-requires : tie.Need-sum-tables-requires
-sum-tables-requires c κs = tt
+slice-aggregate-lend-steps-2 : tie.Need-slice-aggregate-lend-steps-2
+slice-aggregate-lend-steps-2 c = long (c .before .before .before .before .before .before .before .before .before .before .before .args .o) (c .before .before .before .before .before .before .before .before .before .before .before .good .1 .0) .ys
 
-sum-numbers-requires : tie.Need-sum-numbers-requires
-sum-numbers-requires c κs = tt
+lend-steps-requires-2 : tie.Need-lend-steps-requires-2
+lend-steps-requires-2 c κs = tt
+
+slice-aggregate-lend-amounts : tie.Need-slice-aggregate-lend-amounts
+slice-aggregate-lend-amounts c = long (c .before .before .before .before .before .before .before .before .before .before .before .before .before .args .o) (c .before .before .before .before .before .before .before .before .before .before .before .before .before .good .1 .0) .cs
+
+lend-amounts-requires : tie.Need-lend-amounts-requires
+lend-amounts-requires c κs = tt
+
+slice-aggregate-lend-numbers : tie.Need-slice-aggregate-lend-numbers
+slice-aggregate-lend-numbers c = long (c .before .before .before .before .before .before .before .before .before .before .before .before .before .before .before .args .o) (c .before .before .before .before .before .before .before .before .before .before .before .before .before .before .before .good .1 .0) .days
+
+lend-numbers-requires : tie.Need-lend-numbers-requires
+lend-numbers-requires c κs = tt
+
+slice-aggregate-lend-numbers-2 : tie.Need-slice-aggregate-lend-numbers-2
+slice-aggregate-lend-numbers-2 c = long (c .before .before .before .before .before .before .before .before .before .before .before .before .before .before .before .before .before .args .o) (c .before .before .before .before .before .before .before .before .before .before .before .before .before .before .before .before .before .good .1 .0) .one
+
+lend-numbers-requires-2 : tie.Need-lend-numbers-requires-2
+lend-numbers-requires-2 c κs = tt
 
 add-requires : tie.Need-add-requires
 add-requires c κs = tt
 
-sum-tables-requires-2 : tie.Need-sum-tables-requires-2
-sum-tables-requires-2 c κs = tt
+after-requires : tie.Need-after-requires
+after-requires c κs = tt
 
-sum-numbers-requires-2 : tie.Need-sum-numbers-requires-2
-sum-numbers-requires-2 c κs = tt
-
-values-requires : tie.Need-values-requires
-values-requires c κs = tt
-
-slice-aggregate-told : tie.Need-slice-aggregate-told
-slice-aggregate-told c = refl
-
-told-requires : tie.Need-told-requires
-told-requires c κs = tt
-
-told-by-requires : tie.Need-told-by-requires
-told-by-requires c κs = tt
-
-plan-requires : tie.Need-plan-requires
-plan-requires c κs = tt
-
-told-by-requires-2 : tie.Need-told-by-requires-2
-told-by-requires-2 c κs = tt
-
-ring-requires : tie.Need-ring-requires
-ring-requires c κs = tt
-
-same-length : tie.Need-same-length
-same-length c = c .before .before .before .before .before .before .before .before .before .before .before .before .before .before .before .before .before .before .before .before .before .before .before .before .before .before .add .kept .1 .0
-
-same-length-2 : tie.Need-same-length-2
-same-length-2 c = c .before .before .before .before .before .before .before .before .before .before .before .before .before .before .before .before .before .before .before .before .before .before .before .before .before .before .add .kept .1 .1 .0
-
-same-length-3 : tie.Need-same-length-3
-same-length-3 c = c .before .before .before .before .before .before .before .before .before .before .before .before .before .before .before .before .before .before .before .before .before .before .before .before .before .before .add .kept .1 .1 .1 .0
-
-same-length-4 : tie.Need-same-length-4
-same-length-4 c = c .before .before .before .before .before .before .before .before .before .before .before .before .before .before .before .before .before .before .before .before .before .before .before .before .before .before .add .kept .1 .1 .1 .1 .0
-
-same-length-5 : tie.Need-same-length-5
-same-length-5 c = c .before .before .before .before .before .before .before .before .before .before .before .before .before .before .before .before .before .before .before .before .before .before .before .before .before .before .add .kept .1 .1 .1 .1 .1 .1 .1 .1 .1 .0
-
-returns-2 : tie.Need-returns-2
-returns-2 c = tt
+returns : tie.Need-returns
+returns c = tt
 
 pub add-spec : {M : Type 1} → statement M
 add-spec =
     tie.close
     (tie.spec
-    asks-requires
-    returns
-    sum-tables-requires
-    sum-numbers-requires
+    slice-aggregate-lend-steps
+    lend-steps-requires
+    slice-aggregate-lend-steps-2
+    lend-steps-requires-2
+    slice-aggregate-lend-amounts
+    lend-amounts-requires
+    slice-aggregate-lend-numbers
+    lend-numbers-requires
+    slice-aggregate-lend-numbers-2
+    lend-numbers-requires-2
     add-requires
-    sum-tables-requires-2
-    sum-numbers-requires-2
-    values-requires
-    slice-aggregate-told
-    told-requires
-    told-by-requires
-    plan-requires
-    told-by-requires-2
-    ring-requires
-    same-length
-    same-length-2
-    same-length-3
-    same-length-4
-    same-length-5
-    returns-2)
+    after-requires
+    returns)

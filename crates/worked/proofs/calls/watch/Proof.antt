@@ -1,73 +1,45 @@
--- `worked::calls::watch` is safe: the call keeps the length of each list that it can write.
-use mathlib.Core.Path.{refl}
+-- `worked::calls::watch` is safe: an array that is lent has its places.
+use Rattle.worked.proofs.Long.{long}
 use Rattle.worked.proofs.calls.watch.Statement.{statement}
 use Rattle.worked.proofs.calls.watch.Tie as tie
 
-asks-requires : tie.Need-asks-requires
-asks-requires c κs = tt
+slice-aggregate-lend-steps : tie.Need-slice-aggregate-lend-steps
+slice-aggregate-lend-steps c = long (c .before .before .before .before .before .before .before .before .args .o) (c .before .before .before .before .before .before .before .before .good .1 .0) .wxs
 
-returns : tie.Need-returns
-returns c = tt
+lend-steps-requires : tie.Need-lend-steps-requires
+lend-steps-requires c κs = tt
 
-sum-counts-requires : tie.Need-sum-counts-requires
-sum-counts-requires c κs = tt
+slice-aggregate-lend-steps-2 : tie.Need-slice-aggregate-lend-steps-2
+slice-aggregate-lend-steps-2 c = long (c .before .before .before .before .before .before .before .before .before .before .args .o) (c .before .before .before .before .before .before .before .before .before .before .good .1 .0) .wys
 
-sum-rules-requires : tie.Need-sum-rules-requires
-sum-rules-requires c κs = tt
+lend-steps-requires-2 : tie.Need-lend-steps-requires-2
+lend-steps-requires-2 c κs = tt
+
+slice-aggregate-lend-amounts : tie.Need-slice-aggregate-lend-amounts
+slice-aggregate-lend-amounts c = long (c .before .before .before .before .before .before .before .before .before .before .before .before .args .o) (c .before .before .before .before .before .before .before .before .before .before .before .before .good .1 .0) .wcs
+
+lend-amounts-requires : tie.Need-lend-amounts-requires
+lend-amounts-requires c κs = tt
 
 watch-requires : tie.Need-watch-requires
 watch-requires c κs = tt
 
-sum-counts-requires-2 : tie.Need-sum-counts-requires-2
-sum-counts-requires-2 c κs = tt
+after-requires : tie.Need-after-requires
+after-requires c κs = tt
 
-sum-rules-requires-2 : tie.Need-sum-rules-requires-2
-sum-rules-requires-2 c κs = tt
-
-values-requires : tie.Need-values-requires
-values-requires c κs = tt
-
-slice-aggregate-told : tie.Need-slice-aggregate-told
-slice-aggregate-told c = refl
-
-told-requires : tie.Need-told-requires
-told-requires c κs = tt
-
-told-by-requires : tie.Need-told-by-requires
-told-by-requires c κs = tt
-
-counts-requires : tie.Need-counts-requires
-counts-requires c κs = tt
-
-same-length : tie.Need-same-length
-same-length c = c .before .before .before .before .before .before .before .before .before .before .before .before .before .before .before .before .watch .kept .1 .1 .1 .1 .1 .1 .0
-
-same-length-2 : tie.Need-same-length-2
-same-length-2 c = c .before .before .before .before .before .before .before .before .before .before .before .before .before .before .before .before .watch .kept .1 .1 .1 .1 .1 .1 .1 .0
-
-same-length-3 : tie.Need-same-length-3
-same-length-3 c = c .before .before .before .before .before .before .before .before .before .before .before .before .before .before .before .before .watch .kept .1 .1 .1 .1 .1 .1 .1 .1 .0
-
-returns-2 : tie.Need-returns-2
-returns-2 c = tt
+returns : tie.Need-returns
+returns c = tt
 
 pub watch-spec : {M : Type 1} → statement M
 watch-spec =
     tie.close
     (tie.spec
-    asks-requires
-    returns
-    sum-counts-requires
-    sum-rules-requires
+    slice-aggregate-lend-steps
+    lend-steps-requires
+    slice-aggregate-lend-steps-2
+    lend-steps-requires-2
+    slice-aggregate-lend-amounts
+    lend-amounts-requires
     watch-requires
-    sum-counts-requires-2
-    sum-rules-requires-2
-    values-requires
-    slice-aggregate-told
-    told-requires
-    told-by-requires
-    counts-requires
-    same-length
-    same-length-2
-    same-length-3
-    returns-2)
+    after-requires
+    returns)

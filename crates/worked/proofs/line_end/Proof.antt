@@ -1,52 +1,47 @@
--- `worked::cells::plain_steps` is safe and ends: what is left of the list falls.
-use Prim.Native.Nat.{_-_}
+-- `worked::line_end` is safe and ends: what is left of the text falls.
+use Prim.Native.Nat.{_-_, _≤_}
 use native.Mathlib.Omega.{arith}
 use lib.ListN.{length}
-use borrow.Author.Needs.{needs}
-use Rattle.worked.proofs.cells.plain_steps.Statement.{statement}
-use Rattle.worked.proofs.cells.plain_steps.Tie as tie
+use Rattle.worked.proofs.line_end.Statement.{statement}
+use Rattle.worked.proofs.line_end.Tie as tie
 
 abbrev Inv-loop : tie.InvT-loop
-Inv-loop list a i₀ i = Unit {0}
+Inv-loop text at e₀ e = (at ≤ e) × (e ≤ length text)
 
 abbrev μ-loop : tie.MeasureT-loop
-μ-loop list a i₀ i = length list - i
+μ-loop text at e₀ e = length text - e
 
 loop-holds : tie.Need-loop-holds Inv-loop μ-loop
-loop-holds c = tt
-
-mul-if1 : tie.Need-mul-if1 Inv-loop μ-loop
-mul-if1 c = search needs
+loop-holds c = (omega arith, omega arith)
 
 shared-slice-read-if1 : tie.Need-shared-slice-read-if1 Inv-loop μ-loop
 shared-slice-read-if1 c = omega arith
 
 returns : tie.Need-returns Inv-loop μ-loop
-returns c = tt
+returns c = (omega arith, omega arith)
 
-add-i : tie.Need-add-i Inv-loop μ-loop
-add-i c = omega arith
+add-e : tie.Need-add-e Inv-loop μ-loop
+add-e c = omega arith
 
 loop-less : tie.Need-loop-less Inv-loop μ-loop
 loop-less c = omega arith
 
 loop-again : tie.Need-loop-again Inv-loop μ-loop
-loop-again c = tt
+loop-again c = (omega arith, omega arith)
 
 returns-2 : tie.Need-returns-2 Inv-loop μ-loop
-returns-2 c = tt
+returns-2 c = (omega arith, omega arith)
 
-pub plain-steps-spec : {M : Type 1} → statement M
-plain-steps-spec =
+pub line-end-spec : {M : Type 1} → statement M
+line-end-spec =
     tie.close
     (tie.spec
     Inv-loop
     μ-loop
     loop-holds
-    mul-if1
     shared-slice-read-if1
     returns
-    add-i
+    add-e
     loop-less
     loop-again
     returns-2)
