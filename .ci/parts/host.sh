@@ -34,10 +34,10 @@ need_c_x86_64
 need_cargo_x86_64
 need_peer z3
 need_peer cvc5
-host/run --gate >target/host/run.log 2>&1 &
-host/run-calls --gate >target/host/run-calls.log 2>&1
-wait
+host/run-calls --gate >target/host/run-calls.log 2>&1 &
+host/run --gate >target/host/run.log 2>&1
 host/run-planner >target/host/run-planner.log 2>&1
+wait
 for part in run run-calls run-planner; do count "host/$part" "target/host/$part.log"; done
 
 examples=0
