@@ -8,8 +8,8 @@ use mathlib.Core.List.{List}
 use lib.ListN.{length, set, length-set}
 use Rattle.meaning.specs.Tables.{at}
 use Rattle.meaning.proofs.Lists.{past-refl}
-use Rattle.spread.specs.Relax.{Put}
-use Rattle.spread.proofs.Places.{put-set}
+use Rattle.waiting.specs.Waiting.{Put}
+use Rattle.waiting.proofs.Places.{put-set}
 use Rattle.goback.specs.Replan.{LatestDay, Reaches, Brought}
 
 -- Of no days none is after 0.

@@ -4,14 +4,19 @@ use native.Mathlib.Omega.{arith}
 use native.Mathlib.Decide.{ℕ-discrete}
 use native.Mathlib.Numerals.{add-one}
 use mathlib.Core.Path.{_≡_, refl, sym, _∙_, ap}
+use mathlib.Core.Logic.{_⊎_, inl, inr}
+use mathlib.Core.List.{List}
 use mathlib.Core.Bool.{Bool, true, false, cond}
 use lib.Dec.{eqb}
+use lib.ListN.{length, set}
 use borrow.Author.Tests.{ne-eqb}
+use Rattle.meaning.specs.Tables.{at}
 use Rattle.meaning.proofs.Counting.{count, count-none, count-suc, count-more, count-at-most}
 use Rattle.spread.specs.State.{without-gain, StandsIn}
-use Rattle.spread.specs.Relax.{Put}
+use Rattle.waiting.specs.Waiting.{Put, New, Entered, Led, LedBut}
 use Rattle.spread.specs.Contracts.{Collected, alone}
-use Rattle.spread.proofs.Places.{put-instead, put-here}
+use Rattle.waiting.proofs.Places.{put-set, put-here}
+use Rattle.spread.proofs.Places.{put-instead}
 
 -- Of no steps there is nothing to collect.
 pub collected-none : (g by list : ℕ → ℕ) → Collected 0 g by list 0
@@ -142,3 +147,33 @@ alone-is n y gain g g′ none put v v-in = tell (ℕ-discrete v y)
     tell : Dec (v ≡ y) → alone y gain v ≡ g′ v
     tell (yes e) = alone-there y gain v e ∙ sym (ap g′ e ∙ put .there)
     tell (no e) = alone-elsewhere y gain v e ∙ sym (put .others v e ∙ none v v-in)
+
+-- One step more: it enters the list where it has a gain.
+pub collected-one :
+    (n : ℕ) (gains by by′ list list′ places places′ leaders leaders′ : List ℕ) (k k′ v : ℕ) → v < length by → Collected v (at gains) (at by) (at list) k →
+    Led n (at gains) (at list) (at places) (at leaders) k →
+    ((0 < at gains v) × (by′ ≡ set by v 0) × Entered n (at gains) v (at list) k (at list′) (at places′) (at leaders′) k′)
+    ⊎ ((at gains v ≤ 0) × (by′ ≡ by) × (list′ ≡ list) × (places′ ≡ places) × (leaders′ ≡ leaders) × (k′ ≡ k)) →
+    Collected (v + 1) (at gains) (at by′) (at list′) k′ × Led n (at gains) (at list′) (at places′) (at leaders′) k′
+collected-one n gains by by′ list list′ places places′ leaders leaders′ k k′ v by-room c led (inl (has, by-is, entered)) =
+    let counted : k′ ≡ k + 1 = entered .one-more ∙ sym (add-one k) in (
+      rw (by-is, counted)
+          (collected-more (at gains) (at by) (at (set by v 0)) (at list) (at list′) k v has (entered .put) (put-set by v 0 by-room) c),
+      entered .led,
+    )
+collected-one n gains by by′ list list′ places places′ leaders leaders′ k k′ v by-room c led (inr (none, by-is, list-is, places-is, leaders-is, k-is)) =
+    rw (by-is, list-is, places-is, leaders-is, k-is) (collected-past (at gains) (at by) (at list) k v (omega arith) c, led)
+
+-- A step that comes after those that are collected can enter.
+pub step-after :
+    (n : ℕ) (g by list : ℕ → ℕ) (k v : ℕ) → v < n → 0 < g v → Collected v g by list k → New n g list k v
+step-after n g by list k v v-in has c = record {
+  step-in = v-in;
+  some = has;
+  room = omega (arith, c .counted);
+  fresh = λ j j-in e. omega (arith, c .listed .step j j-in);
+}
+
+-- All are led, so all but any one are.
+pub led-all-but : (y n : ℕ) (g list places leaders : ℕ → ℕ) (k : ℕ) → Led n g list places leaders k → LedBut y n g list places leaders k
+led-all-but y n g list places leaders k led = record { grouped = led .grouped; gain = led .gain; most = λ j j-in other. led .most j j-in }

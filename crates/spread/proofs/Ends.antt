@@ -8,7 +8,7 @@ use lib.IntN.{ℤ}
 use Rattle.meaning.specs.Rules.{Rule, Plan, InSteps}
 use Rattle.meaning.specs.Tables.{at}
 use Rattle.meaning.proofs.Whole.{up, dn, plan→, →plan}
-use Rattle.spread.specs.Relax.{Put}
+use Rattle.waiting.specs.Waiting.{Put}
 use Rattle.spread.specs.Trace.{CameBy, Traced}
 use Rattle.spread.specs.State.{Ready, BetweenTurns}
 use Rattle.spread.specs.Contracts.{Collected, Spread}

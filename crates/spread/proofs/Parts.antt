@@ -5,7 +5,7 @@ use mathlib.Core.Path.{_≡_, refl, sym, _∙_, ap, ap₂}
 use mathlib.Core.List.{List, [], _∷_}
 use lib.ListN.{length, take}
 use Rattle.meaning.specs.Tables.{at}
-use Rattle.spread.specs.Relax.{Put}
+use Rattle.waiting.specs.Waiting.{Put}
 
 -- The c places from place j on.
 abbrev pub part : (ℕ → ℕ) → ℕ → ℕ → List ℕ

@@ -13,7 +13,7 @@ use Rattle.meaning.proofs.More.{more-new, more-old}
 use Rattle.spread.specs.Ground.{rules, first}
 use Rattle.spread.specs.Trace.{CameBy}
 use Rattle.spread.specs.Ring.{rule, Reached, Lacks, Arrives, Hops, RingIn}
-use Rattle.spread.specs.Relax.{Put}
+use Rattle.waiting.specs.Waiting.{Put}
 use Rattle.spread.proofs.Parts.{part, take-part, part-front}
 use Rattle.spread.proofs.Collecting.{alone-elsewhere}
 

@@ -7,8 +7,10 @@ use Rattle.meaning.specs.Rules.{Rule, InSteps}
 use Rattle.meaning.proofs.Whole.{up, dn}
 use Rattle.spread.specs.Trace.{CameBy}
 use Rattle.spread.specs.State.{Listed, StandsIn, Spreading}
-use Rattle.spread.specs.Relax.{Put, instead}
-use Rattle.spread.proofs.Places.{put-instead, put-here}
+use Rattle.waiting.specs.Waiting.{Put}
+use Rattle.spread.specs.Relax.{instead}
+use Rattle.waiting.proofs.Places.{put-here}
+use Rattle.spread.proofs.Places.{put-instead}
 
 -- What the turns keep, with the rules from another number on seen to, where those are kept.
 pub seen-to :

@@ -7,10 +7,11 @@ use mathlib.Core.List.{List}
 use lib.IntN.{ℤ}
 use Rattle.meaning.specs.Tables.{at}
 use Rattle.spread.specs.State.{Ready, BetweenTurns}
-use Rattle.spread.specs.Relax.{Put, instead}
+use Rattle.waiting.specs.Waiting.{Put, LargestAt}
+use Rattle.spread.specs.Relax.{instead}
 use Rattle.spread.proofs.Places.{put-instead}
 use Rattle.spread.specs.Ground.{rules, first, Ground}
-use Rattle.spread.specs.Contracts.{LargestAt, RelaxedAll, Turned}
+use Rattle.spread.specs.Contracts.{RelaxedAll, Turned}
 use Rattle.spread.proofs.Settling.{skip, settle-keeps}
 
 -- Where one step has left the list, with the last one in its place, a turn can still be made.

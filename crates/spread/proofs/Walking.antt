@@ -6,6 +6,7 @@ use mathlib.Core.Path.{_≡_, refl, sym, _∙_, subst}
 use mathlib.Core.Logic.{inl, inr}
 use mathlib.Core.Bool.{false, false≢true}
 use mathlib.Core.List.{List}
+use lib.ListN.{length}
 use lib.IntN.{ℤ}
 use lib.Dec.{eqb}
 use borrow.Author.Tests.{eq-eqb}
@@ -27,17 +28,34 @@ some-without n g y y-in none =
 
 -- Every rule held can be relaxed.
 pub relaxable :
-    (n m : ℕ) (xs ys : List ℕ) (cs : List ℤ) (days heads nexts gains by list : List ℕ) (k i : ℕ) → Ground n m xs ys cs days heads nexts → i < m →
-    StepsRoom n gains by list → Ready n (at gains) (at list) k → Relaxable ys cs days gains by list k i
-relaxable n m xs ys cs days heads nexts gains by list k i ground held room ready = record {
+    (n m : ℕ) (xs ys : List ℕ) (cs : List ℤ) (days heads nexts gains by list places leaders : List ℕ) (k i : ℕ) → Ground n m xs ys cs days heads nexts → i < m →
+    StepsRoom n gains by list places leaders → Ready n (at gains) (at list) k → Relaxable n ys cs days gains by k i
+relaxable n m xs ys cs days heads nexts gains by list places leaders k i ground held room ready = record {
   second-place = omega (arith, ground .rules-room .seconds-room);
   amount-place = omega (arith, ground .rules-room .amounts-room);
+  second-in = ground .in-steps i held .second-in;
   second-day = omega (arith, ground .days-room, ground .in-steps i held .second-in);
-  second-gain = omega (arith, room .gains-room, ground .in-steps i held .second-in);
+  second-gain = omega (arith, room .room .gains-room, ground .in-steps i held .second-in);
   second-by = omega (arith, room .by-room, ground .in-steps i held .second-in);
   number-fits = omega (arith, ground .rules-in);
   small = ready .small (at ys i) (ground .in-steps i held .second-in);
-  room = λ none. omega (arith, room .list-room, ready .room, some-without n (at gains) (at ys i) (ground .in-steps i held .second-in) none);
+  room = λ none. omega (arith, ready .room, some-without n (at gains) (at ys i) (ground .in-steps i held .second-in) none);
+}
+
+-- Lists of the same lengths have the same room.
+pub room-kept :
+    (n : ℕ) (gains by list places leaders gains′ by′ list′ places′ leaders′ : List ℕ) → length gains′ ≡ length gains → length by′ ≡ length by →
+    length list′ ≡ length list → length places′ ≡ length places → length leaders′ ≡ length leaders → StepsRoom n gains by list places leaders →
+    StepsRoom n gains′ by′ list′ places′ leaders′
+room-kept n gains by list places leaders gains′ by′ list′ places′ leaders′ gains-same by-same list-same places-same leaders-same room = record {
+  room = record {
+    few = room .room .few;
+    gains-room = omega (arith, room .room .gains-room);
+    list-room = omega (arith, room .room .list-room);
+    places-room = omega (arith, room .room .places-room);
+    leaders-room = omega (arith, room .room .leaders-room);
+  };
+  by-room = omega (arith, room .by-room);
 }
 
 -- A rule that is kept as it is has been seen to.

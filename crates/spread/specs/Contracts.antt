@@ -9,25 +9,14 @@ use Rattle.meaning.specs.Tables.{at}
 use Rattle.spread.specs.Least.{ForcedFrom}
 use Rattle.spread.specs.Trace.{Traced}
 use Rattle.spread.specs.State.{without-gain, Listed, StandsIn, Ready, Spreading, BetweenTurns}
-use Rattle.spread.specs.Relax.{Put, instead}
+use Rattle.waiting.specs.Waiting.{Put, Room}
+use Rattle.spread.specs.Relax.{instead}
 use Rattle.spread.specs.Ground.{rules, first}
 
--- There is a step among the first k places of the list, and each of them has a gain to be read.
-pub record Searchable (gains list : List ℕ) (k : ℕ) : Type 0 where
-  pub some : 1 ≤ k
-  pub list-room : k ≤ length list
-  pub listed-in : (j : ℕ) → j < k → at list j < length gains
-
--- Place r is among the first k places of the list, and none of them has a step with a larger gain.
-pub record LargestAt (g list : ℕ → ℕ) (k r : ℕ) : Type 0 where
-  pub place-in : r < k
-  pub largest : (j : ℕ) → j < k → g (list j) ≤ g (list r)
-
--- The gains, the rules they came by and the list have a place for each of n steps.
-pub record StepsRoom (n : ℕ) (gains by list : List ℕ) : Type 0 where
-  pub gains-room : n ≤ length gains
+-- The gains, the rules they came by and what the waiting steps need have a place for each of n steps.
+pub record StepsRoom (n : ℕ) (gains by list places leaders : List ℕ) : Type 0 where
+  pub room : Room n gains list places leaders
   pub by-room : n ≤ length by
-  pub list-room : n ≤ length list
 
 -- The first k places of the list hold each step below n with a gain, once, and no rule is named for any of them.
 pub record Collected (n : ℕ) (g by list : ℕ → ℕ) (k : ℕ) : Type 0 where
@@ -78,9 +67,9 @@ pub record AskableAlone (n y gain : ℕ) (gains by : List ℕ) : Type 0 where
   pub by-room : n ≤ length by
 
 -- Step y alone has a gain now and stands in the list.
-pub record Begun (n y gain : ℕ) (gains gains′ by′ list′ : List ℕ) : Type 0 where
+pub record Begun (n y gain : ℕ) (gains gains′ by′ list′ : List ℕ) (k : ℕ) : Type 0 where
   pub asked : Put y gain (at gains) (at gains′)
-  pub collected : Collected n (at gains′) (at by′) (at list′) 1
+  pub collected : Collected n (at gains′) (at by′) (at list′) k
 
 -- Gains were spread, as far as the goal, from the days low: the days with their gains are those that low forces; they are a plan unless the goal
 -- is a step that has a gain; and each gain can be traced. From place n on the gains are as before.

@@ -9,11 +9,7 @@ use lib.ListN.{length, getD}
 use lib.IntN.{ℤ, pos}
 use Rattle.meaning.specs.Tables.{at}
 use Rattle.meaning.proofs.Whole.{up, dn}
-
--- The number v stands at place i now, and at every other place what stood there before.
-pub record Put (i v : ℕ) (before after : ℕ → ℕ) : Type 0 where
-  pub there : after i ≡ v
-  pub others : (j : ℕ) → (j ≡ i → ⊥) → after j ≡ before j
+use Rattle.waiting.specs.Waiting.{Put}
 
 -- The numbers f with v at place i instead.
 unfoldable pub instead : ℕ → ℕ → (ℕ → ℕ) → ℕ → ℕ
@@ -41,16 +37,17 @@ pub record Kept (d : ℕ → ℕ) (y : ℕ) (c : ℤ) (reach : ℕ) (gains by li
   pub same-list : list′ ≡ list
   pub same-count : k′ ≡ k
 
--- The rule under i can be read and its second step raised: it has a place in each list, and in the list of open steps too where it has no gain.
-pub record Relaxable (ys : List ℕ) (cs : List ℤ) (days gains by list : List ℕ) (k i : ℕ) : Type 0 where
+-- The rule under i can be read and its second step, below n, raised: it has a place in each list, and in the list of open steps too where it has no gain.
+pub record Relaxable (n : ℕ) (ys : List ℕ) (cs : List ℤ) (days gains by : List ℕ) (k i : ℕ) : Type 0 where
   pub second-place : i < length ys
   pub amount-place : i < length cs
+  pub second-in : at ys i < n
   pub second-day : at ys i < length days
   pub second-gain : at ys i < length gains
   pub second-by : at ys i < length by
   pub number-fits : i < 65535
   pub small : at gains (at ys i) < 2 ^ 62
-  pub room : at gains (at ys i) ≡ 0 → k < length list
+  pub room : at gains (at ys i) ≡ 0 → k < n
 
 -- The rule under i was relaxed, where `reach` is the day of its first step plus 2147483648.
 abbrev pub Relaxed : List ℕ → List ℤ → List ℕ → ℕ → ℕ → List ℕ → List ℕ → List ℕ → ℕ → List ℕ → List ℕ → List ℕ → ℕ → Type 0

@@ -1,6 +1,6 @@
 // The least gains that keep the rules. Given days that keep the rules held and a gain for each step, a spread raises the gains as little as
 // keeps every rule: the days with their gains are then the earliest plan that is not before the days with the gains at the start. Each turn
-// settles the open step of largest gain and relaxes its rules; the open steps with a gain stand in a short list.
+// settles the open step of largest gain and relaxes its rules; the open steps with a gain wait in a list (crate waiting).
 ghost use mathlib.Core.Path.{_≡_};
 ghost use Prim.Native.Nat.{_+_, _<_, _≤_};
 ghost use lib.ListN.{length};
@@ -10,49 +10,29 @@ ghost use Rattle.leaf.specs.Decides.{Decides};
 ghost use Rattle.spread.specs.Ground.{Ground};
 ghost use Rattle.spread.specs.State.{Ready};
 ghost use Rattle.spread.specs.Relax.{Relaxable, Relaxed};
-ghost use Rattle.spread.specs.Contracts.{Searchable, LargestAt, StepsRoom, Collected, RelaxedAll, Turned, Askable, AskableAlone, Begun, alone, Spread, SettledAll};
+ghost use Rattle.waiting.specs.Waiting.{Led, Room};
+ghost use Rattle.spread.specs.Contracts.{StepsRoom, Collected, RelaxedAll, Turned, Askable, AskableAlone, Begun, alone, Spread, SettledAll};
 ghost use Rattle.spread.specs.Ring.{Reached, Lacks, Hops, RingIn};
 
-// The gain of step v.
-fn gain_at(gains: &[u64], v: usize) -> u64
-    requires { ⌜ v < length (now gains) ⌝ }
-    ensures { λ r. ⌜ r ≡ at (now (gains .entry)) v ⌝ }
-{
-    gains[v]
-}
-
-// Among the first k places of the list, one that has a step of largest gain.
-fn largest(list: &[u16], k: usize, gains: &[u64]) -> usize
-    requires { ⌜ Searchable (now gains) (now list) k ⌝ }
-    ensures { λ r. ⌜ LargestAt (at (now (gains .entry))) (at (now (list .entry))) k r ⌝ }
-{
-    let mut best = 0;
-    let mut top = gain_at(gains, leaf::number_at(list, 0));
-    let mut j = 1;
-    while j < k {
-        let gain = gain_at(gains, leaf::number_at(list, j));
-        if top < gain {
-            top = gain;
-            best = j;
-        }
-        j += 1;
-    }
-    best
-}
-
 // Puts each step below n with a gain into the list, names no rule for it, and gives back how many there are.
-fn collect(n: usize, gains: &[u64], by: &mut [u16], list: &mut [u16]) -> usize
-    requires { ⌜ n ≤ STEPS ⌝ }
-    requires { ⌜ StepsRoom n (now gains) (now by) (now list) ⌝ }
+fn collect(
+    n: usize,
+    gains: &[u64],
+    by: &mut [u16],
+    list: &mut [u16],
+    places: &mut [u16],
+    leaders: &mut [u16],
+) -> usize
+    requires { ⌜ StepsRoom n (now gains) (now by) (now list) (now places) (now leaders) ⌝ }
     ensures { λ r. ⌜ Collected n (at (now (gains .entry))) (at (now (by .exit))) (at (now (list .exit))) r ⌝ }
+    ensures { λ r. ⌜ Led n (at (now (gains .entry))) (at (now (list .exit))) (at (now (places .exit))) (at (now (leaders .exit))) r ⌝ }
 {
     let mut k = 0;
     let mut v = 0;
     while v < n {
-        if 0 < gain_at(gains, v) {
-            list[k] = v as u16;
+        if 0 < waiting::gain_at(gains, v) {
             by[v] = 0;
-            k += 1;
+            k = waiting::enter(n, v, gains, list, places, leaders, k);
         }
         v += 1;
     }
@@ -63,6 +43,7 @@ fn collect(n: usize, gains: &[u64], by: &mut [u16], list: &mut [u16]) -> usize
 // step than that has, its gain is raised to just that and the rule is named for it; and where it had no gain, it is put at the end of the
 // list. Gives back how many steps the list has then.
 fn relax(
+    n: usize,
     i: usize,
     reach: u64,
     ys: &[u16],
@@ -71,13 +52,18 @@ fn relax(
     gains: &mut [u64],
     by: &mut [u16],
     list: &mut [u16],
+    places: &mut [u16],
+    leaders: &mut [u16],
     k: usize,
 ) -> usize
-    requires { ⌜ Relaxable (now ys) (now cs) (now days) (now gains) (now by) (now list) k i ⌝ }
+    requires { ⌜ Relaxable n (now ys) (now cs) (now days) (now gains) (now by) k i ⌝ }
+    requires { ⌜ Room n (now gains) (now list) (now places) (now leaders) ⌝ }
+    requires { ⌜ Led n (at (now gains)) (at (now list)) (at (now places)) (at (now leaders)) k ⌝ }
     ensures { λ r. ⌜
         Relaxed (now (ys .entry)) (now (cs .entry)) (now (days .entry)) i reach
         (now (gains .entry)) (now (by .entry)) (now (list .entry)) k
         (now (gains .exit)) (now (by .exit)) (now (list .exit)) r ⌝ }
+    ensures { λ r. ⌜ Led n (at (now (gains .exit))) (at (now (list .exit))) (at (now (places .exit))) (at (now (leaders .exit))) r ⌝ }
 {
     let y = leaf::number_at(ys, i);
     let far = leaf::day_at(days, y) + leaf::amount_at(cs, i);
@@ -88,10 +74,10 @@ fn relax(
     gains[y] = reach - far;
     by[y] = (i + 1) as u16;
     if 0 < have {
+        waiting::rise(n, y, gains, list, places, leaders, k);
         return k;
     }
-    list[k] = y as u16;
-    k + 1
+    waiting::enter(n, y, gains, list, places, leaders, k)
 }
 
 // Relaxes each rule of step x. Gives back how many steps the list has then.
@@ -108,23 +94,40 @@ fn relax_all(
     gains: &mut [u64],
     by: &mut [u16],
     list: &mut [u16],
+    places: &mut [u16],
+    leaders: &mut [u16],
     k: usize,
 ) -> usize
     requires { ⌜ Ground n m (now xs) (now ys) (now cs) (now days) (now heads) (now nexts) ⌝ }
-    requires { ⌜ StepsRoom n (now gains) (now by) (now list) ⌝ }
+    requires { ⌜ StepsRoom n (now gains) (now by) (now list) (now places) (now leaders) ⌝ }
     requires { ⌜ Ready n (at (now gains)) (at (now list)) k ⌝ }
+    requires { ⌜ Led n (at (now gains)) (at (now list)) (at (now places)) (at (now leaders)) k ⌝ }
     requires { ⌜ x < n ⌝ }
     ensures { λ r. ⌜
         RelaxedAll n m (now (xs .entry)) (now (ys .entry)) (now (cs .entry)) (now (days .entry)) (now (heads .entry)) x
         (now (gains .entry)) (now (by .entry)) (now (list .entry)) k
         (now (gains .exit)) (now (by .exit)) (now (list .exit)) r ⌝ }
+    ensures { λ r. ⌜ Led n (at (now (gains .exit))) (at (now (list .exit))) (at (now (places .exit))) (at (now (leaders .exit))) r ⌝ }
 {
-    let reach = leaf::day_at(days, x) + gain_at(gains, x) + 2147483648;
+    let reach = leaf::day_at(days, x) + waiting::gain_at(gains, x) + 2147483648;
     let mut count = k;
     let mut link = leaf::number_at(heads, x);
     while 0 < link {
         let i = link - 1;
-        count = relax(i, reach, ys, cs, days, gains, by, list, count);
+        count = relax(
+            n,
+            i,
+            reach,
+            ys,
+            cs,
+            days,
+            gains,
+            by,
+            list,
+            places,
+            leaders,
+            count,
+        );
         link = leaf::number_at(nexts, i);
     }
     count
@@ -143,20 +146,22 @@ fn turn(
     gains: &mut [u64],
     by: &mut [u16],
     list: &mut [u16],
+    places: &mut [u16],
+    leaders: &mut [u16],
     k: usize,
 ) -> usize
     requires { ⌜ Ground n m (now xs) (now ys) (now cs) (now days) (now heads) (now nexts) ⌝ }
-    requires { ⌜ StepsRoom n (now gains) (now by) (now list) ⌝ }
+    requires { ⌜ StepsRoom n (now gains) (now by) (now list) (now places) (now leaders) ⌝ }
     requires { ⌜ Ready n (at (now gains)) (at (now list)) k ⌝ }
+    requires { ⌜ Led n (at (now gains)) (at (now list)) (at (now places)) (at (now leaders)) k ⌝ }
     requires { ⌜ 0 < k ⌝ }
     ensures { λ r. ⌜
         Turned n m (now (xs .entry)) (now (ys .entry)) (now (cs .entry)) (now (days .entry))
         (now (gains .entry)) (now (by .entry)) (now (list .entry)) k
         (now (gains .exit)) (now (by .exit)) (now (list .exit)) r ⌝ }
+    ensures { λ r. ⌜ Led n (at (now (gains .exit))) (at (now (list .exit))) (at (now (places .exit))) (at (now (leaders .exit))) r ⌝ }
 {
-    let j = largest(list, k, gains);
-    let x = leaf::number_at(list, j);
-    list[j] = list[k - 1];
+    let x = waiting::take(n, gains, list, places, leaders, k);
     relax_all(
         n,
         m,
@@ -170,20 +175,31 @@ fn turn(
         gains,
         by,
         list,
+        places,
+        leaders,
         k - 1,
     )
 }
 
-// Gives step y, below n, the gain that is asked for there alone: y stands alone in the list, and no rule is named for it.
-fn begin(n: usize, y: usize, gain: u64, gains: &mut [u64], by: &mut [u16], list: &mut [u16])
-    requires { ⌜ n ≤ STEPS ⌝ }
+// Gives step y, below n, the gain that is asked for there alone: y stands alone in the list, and no rule is named for it. Gives back how many steps the list has, 1.
+fn begin(
+    n: usize,
+    y: usize,
+    gain: u64,
+    gains: &mut [u64],
+    by: &mut [u16],
+    list: &mut [u16],
+    places: &mut [u16],
+    leaders: &mut [u16],
+) -> usize
     requires { ⌜ AskableAlone n y gain (now gains) (now by) ⌝ }
-    requires { ⌜ n ≤ length (now list) ⌝ }
-    ensures { λ _. ⌜ Begun n y gain (now (gains .entry)) (now (gains .exit)) (now (by .exit)) (now (list .exit)) ⌝ }
+    requires { ⌜ Room n (now gains) (now list) (now places) (now leaders) ⌝ }
+    ensures { λ r. ⌜ Begun n y gain (now (gains .entry)) (now (gains .exit)) (now (by .exit)) (now (list .exit)) r ⌝ }
+    ensures { λ r. ⌜ Led n (at (now (gains .exit))) (at (now (list .exit))) (at (now (places .exit))) (at (now (leaders .exit))) r ⌝ }
 {
     gains[y] = gain;
     by[y] = 0;
-    list[0] = y as u16;
+    waiting::enter(n, y, gains, list, places, leaders, 0)
 }
 
 // Whether the goal is a step below n with a gain.
@@ -191,7 +207,7 @@ fn reached(n: usize, gains: &[u64], goal: usize) -> bool
     requires { ⌜ n ≤ length (now gains) ⌝ }
     ensures { λ r. ⌜ Decides r ((goal < n) × (0 < at (now (gains .entry)) goal)) ⌝ }
 {
-    goal < n && 0 < gain_at(gains, goal)
+    goal < n && 0 < waiting::gain_at(gains, goal)
 }
 
 // Turn by turn, settles the steps of the list, which first has k, and those that enter it, until none is left or the goal is a step with a gain.
@@ -208,11 +224,14 @@ fn settle_all(
     gains: &mut [u64],
     by: &mut [u16],
     list: &mut [u16],
+    places: &mut [u16],
+    leaders: &mut [u16],
     k: usize,
 )
     requires { ⌜ Ground n m (now xs) (now ys) (now cs) (now days) (now heads) (now nexts) ⌝ }
-    requires { ⌜ StepsRoom n (now gains) (now by) (now list) ⌝ }
+    requires { ⌜ StepsRoom n (now gains) (now by) (now list) (now places) (now leaders) ⌝ }
     requires { ⌜ Ready n (at (now gains)) (at (now list)) k ⌝ }
+    requires { ⌜ Led n (at (now gains)) (at (now list)) (at (now places)) (at (now leaders)) k ⌝ }
     ensures { λ _. ⌜
         SettledAll n m (now (xs .entry)) (now (ys .entry)) (now (cs .entry)) (now (days .entry)) goal
         (now (gains .entry)) (now (by .entry)) (now (list .entry)) k
@@ -223,7 +242,22 @@ fn settle_all(
         if reached(n, gains, goal) {
             return;
         }
-        left = turn(n, m, xs, ys, cs, days, heads, nexts, gains, by, list, left);
+        left = turn(
+            n,
+            m,
+            xs,
+            ys,
+            cs,
+            days,
+            heads,
+            nexts,
+            gains,
+            by,
+            list,
+            places,
+            leaders,
+            left,
+        );
     }
 }
 
@@ -251,7 +285,9 @@ pub fn spread(
         (now (gains .entry)) (now (gains .exit)) (now (by .exit)) ⌝ }
 {
     let mut list = [0u16; meaning::STEPS];
-    let k = collect(n, gains, by, &mut list);
+    let mut places = [0u16; meaning::STEPS];
+    let mut leaders = [0u16; waiting::GROUPS];
+    let k = collect(n, gains, by, &mut list, &mut places, &mut leaders);
     settle_all(
         n,
         m,
@@ -265,6 +301,8 @@ pub fn spread(
         gains,
         by,
         &mut list,
+        &mut places,
+        &mut leaders,
         k,
     );
 }
@@ -293,7 +331,9 @@ pub fn spread_one(
         (now (gains .entry)) (now (gains .exit)) (now (by .exit)) ⌝ }
 {
     let mut list = [0u16; meaning::STEPS];
-    begin(n, y, gain, gains, by, &mut list);
+    let mut places = [0u16; meaning::STEPS];
+    let mut leaders = [0u16; waiting::GROUPS];
+    let k = begin(n, y, gain, gains, by, &mut list, &mut places, &mut leaders);
     settle_all(
         n,
         m,
@@ -307,7 +347,9 @@ pub fn spread_one(
         gains,
         by,
         &mut list,
-        1,
+        &mut places,
+        &mut leaders,
+        k,
     );
 }
 

@@ -1,9 +1,13 @@
 -- `spread::begin` meets its contract.
-use Prim.Native.Nat.{_<_}
+use Prim.Native.Nat.{ℕ, _<_}
+use mathlib.Core.Path.{_≡_, subst}
 use lib.ListN.{length, set}
 use Rattle.meaning.specs.Tables.{at}
-use Rattle.spread.proofs.Places.{put-set}
-use Rattle.spread.proofs.Collecting.{collected-alone}
+use Rattle.waiting.proofs.Places.{put-set}
+use Rattle.waiting.proofs.Leading.{led-none}
+use Rattle.spread.specs.Contracts.{Collected}
+use Rattle.spread.proofs.Collecting.{collected-alone, led-all-but}
+use Rattle.spread.proofs.Relaxing.{room-set}
 use native.Mathlib.Omega.{arith}
 use borrow.Author.Needs.{needs}
 use Rattle.spread.proofs.begin.Statement.{statement}
@@ -21,11 +25,23 @@ mul-by c = search needs
 slice-write-by : tie.Need-slice-write-by
 slice-write-by c = search needs
 
-cast-list : tie.Need-cast-list
-cast-list c = search needs
-
-slice-write-list : tie.Need-slice-write-list
-slice-write-list c = search needs
+enter-requires : tie.Need-enter-requires
+enter-requires c κs =
+    let a = c .before .before .before .before .before .before .before .before .before .args in
+    let pre = c .before .before .before .before .before .before .before .before .before .pre .0 in
+    let gain-in : a .y < length (a .gains .now) = omega (arith, pre .step-in, pre .gains-room) in (
+      room-set (a .n) (a .gains .now) (a .list .now) (a .places .now) (a .leaders .now) (a .y) (a .gain) (c .before .before .before .before .before .before .before .before .before .pre .1),
+      (
+        led-all-but (a .y) (a .n) (at (set (a .gains .now) (a .y) (a .gain))) (at (a .list .now)) (at (a .places .now)) (at (a .leaders .now)) 0
+            (led-none (a .n) (at (set (a .gains .now) (a .y) (a .gain))) (at (a .list .now)) (at (a .places .now)) (at (a .leaders .now))),
+        record {
+          step-in = pre .step-in;
+          some = omega (arith, pre .some, put-set (a .gains .now) (a .y) (a .gain) gain-in .there);
+          room = omega (arith, pre .step-in);
+          fresh = λ j j-in. absurd (omega arith);
+        },
+      ),
+    )
 
 same-length : tie.Need-same-length
 same-length c = search needs
@@ -36,20 +52,29 @@ same-length-2 c = search needs
 same-length-3 : tie.Need-same-length-3
 same-length-3 c = search needs
 
+same-length-4 : tie.Need-same-length-4
+same-length-4 c = search needs
+
+same-length-5 : tie.Need-same-length-5
+same-length-5 c = search needs
+
 returns : tie.Need-returns
 returns c =
-    let a = c .args in
-    let pre = c .pre .1 .0 in
+    let a = c .before .before .before .before .before .before .before .before .before .before .before .before .before .before .before .before .args in
+    let pre = c .before .before .before .before .before .before .before .before .before .before .before .before .before .before .before .before .pre .0 in
     let gain-in : a .y < length (a .gains .now) = omega (arith, pre .step-in, pre .gains-room) in
     let by-in : a .y < length (a .by .now) = omega (arith, pre .step-in, pre .by-room) in
-    let list-in : 0 < length (a .list .now) = omega (arith, pre .step-in, c .pre .1 .1) in
-    record {
-      asked = put-set (a .gains .now) (a .y) (a .gain) gain-in;
-      collected =
-          collected-alone (a .n) (a .y) (a .gain) (at (a .gains .now)) (at (set (a .gains .now) (a .y) (a .gain))) (at (set (a .by .now) (a .y) 0)) (at (set (a .list .now) 0 (a .y)))
-          (pre .step-in) (pre .some) (pre .none-yet) (put-set (a .gains .now) (a .y) (a .gain) gain-in) (put-set (a .by .now) (a .y) 0 by-in .there)
-          (put-set (a .list .now) 0 (a .y) list-in .there);
-    }
+    let one : 1 ≡ c .before .before .before .before .before .before .enter .result = omega (arith, c .before .before .before .before .before .before .enter .ensures .one-more) in (
+      record {
+        asked = put-set (a .gains .now) (a .y) (a .gain) gain-in;
+        collected =
+            subst (λ (k : ℕ). Collected (a .n) (at (set (a .gains .now) (a .y) (a .gain))) (at (set (a .by .now) (a .y) 0)) (at (c .before .before .before .before .before .before .enter .last .1 .1 .1 .0)) k) one
+            (collected-alone (a .n) (a .y) (a .gain) (at (a .gains .now)) (at (set (a .gains .now) (a .y) (a .gain))) (at (set (a .by .now) (a .y) 0)) (at (c .before .before .before .before .before .before .enter .last .1 .1 .1 .0))
+            (pre .step-in) (pre .some) (pre .none-yet) (put-set (a .gains .now) (a .y) (a .gain) gain-in) (put-set (a .by .now) (a .y) 0 by-in .there)
+            (c .before .before .before .before .before .before .enter .ensures .put .there));
+      },
+      c .before .before .before .before .before .before .enter .ensures .led,
+    )
 
 pub begin-spec : {M : Type 1} → statement M
 begin-spec =
@@ -59,9 +84,10 @@ begin-spec =
     slice-write-gains
     mul-by
     slice-write-by
-    cast-list
-    slice-write-list
+    enter-requires
     same-length
     same-length-2
     same-length-3
+    same-length-4
+    same-length-5
     returns)

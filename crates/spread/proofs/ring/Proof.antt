@@ -4,7 +4,7 @@ use Prim.Native.Nat.{_-_, _≤_, _<_}
 use mathlib.Core.Path.{_≡_, refl, _∙_}
 use lib.ListN.{length, set, length-set}
 use Rattle.meaning.specs.Tables.{at}
-use Rattle.spread.proofs.Places.{put-set}
+use Rattle.waiting.proofs.Places.{put-set}
 use Rattle.spread.proofs.Ringing.{Hop, hop, arrives-on, Written, written-none, written-more, written-done}
 use borrow.Author.Needs.{needs}
 use native.Mathlib.Omega.{arith}

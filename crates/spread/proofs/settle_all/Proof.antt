@@ -4,85 +4,106 @@ use Prim.Native.Nat.{ℕ, _+_, _≤_}
 use mathlib.Core.Path.{_≡_, refl, _∙_}
 use lib.ListN.{length}
 use Rattle.meaning.specs.Tables.{at}
+use Rattle.waiting.specs.Waiting.{Led}
 use Rattle.spread.specs.Ground.{rules, first}
 use Rattle.spread.specs.State.{without-gain, Ready, BetweenTurns}
+use Rattle.spread.proofs.Walking.{room-kept}
 use Rattle.spread.proofs.Ends.{stopped}
 use native.Mathlib.Omega.{arith}
 use Rattle.spread.proofs.settle_all.Statement.{statement}
 use Rattle.spread.proofs.settle_all.Tie as tie
 
 abbrev Inv-loop : tie.InvT-loop
-Inv-loop n m xs ys cs days heads nexts goal gains₀ by₀ list₀ k left₀ gains by list left =
-    (length gains ≡ length gains₀) × (length by ≡ length by₀) × (length list ≡ length list₀) × Ready n (at gains) (at list) left
-    × ((v : ℕ) → n ≤ v → at gains v ≡ at gains₀ v)
+Inv-loop n m xs ys cs days heads nexts goal gains₀ by₀ list₀ places₀ leaders₀ k left₀ gains by list places leaders left =
+    ((length gains ≡ length gains₀) × (length by ≡ length by₀) × (length list ≡ length list₀) × (length places ≡ length places₀) × (length leaders ≡ length leaders₀))
+    × Ready n (at gains) (at list) left × Led n (at gains) (at list) (at places) (at leaders) left × ((v : ℕ) → n ≤ v → at gains v ≡ at gains₀ v)
     × ((low : ℕ → ℕ) → BetweenTurns n (rules xs ys cs) (first m) (at days) low (at gains₀) (at by₀) (at list₀) k →
     BetweenTurns n (rules xs ys cs) (first m) (at days) low (at gains) (at by) (at list) left)
 
 abbrev μ-loop : tie.MeasureT-loop
-μ-loop n m xs ys cs days heads nexts goal gains₀ by₀ list₀ k left₀ gains by list left = without-gain n (at gains) + left
+μ-loop n m xs ys cs days heads nexts goal gains₀ by₀ list₀ places₀ leaders₀ k left₀ gains by list places leaders left = without-gain n (at gains) + left
 
 loop-holds : tie.Need-loop-holds Inv-loop μ-loop
-loop-holds c = (refl, refl, refl, c .before .before .before .before .before .before .before .before .pre .1 .1, λ v beyond. refl, λ low b. b)
+loop-holds c = ((refl, refl, refl, refl, refl), c .before .before .before .before .before .before .before .before .before .before .pre .1 .1 .0, c .before .before .before .before .before .before .before .before .before .before .pre .1 .1 .1, λ v beyond. refl, λ low b. b)
 
 reached-requires : tie.Need-reached-requires Inv-loop μ-loop
-reached-requires c κs = omega (arith, c .before .before .before .before .before .before .before .before .before .before .before .pre .1 .0 .gains-room, c .before .before .loop .inv .0)
+reached-requires c κs = omega (arith, c .before .before .before .before .before .before .before .before .before .before .before .before .before .pre .1 .0 .room .gains-room, c .before .before .loop .inv .0 .0)
 
 same-length : tie.Need-same-length Inv-loop μ-loop
-same-length c = c .before .before .before .before .loop .inv .0
+same-length c = c .before .before .before .before .loop .inv .0 .0
 
 same-length-2 : tie.Need-same-length-2 Inv-loop μ-loop
-same-length-2 c = c .before .before .before .before .loop .inv .1
+same-length-2 c = c .before .before .before .before .loop .inv .0 .1
 
 same-length-3 : tie.Need-same-length-3 Inv-loop μ-loop
-same-length-3 c = c .before .before .before .before .loop .inv .2
+same-length-3 c = c .before .before .before .before .loop .inv .0 .2
+
+same-length-4 : tie.Need-same-length-4 Inv-loop μ-loop
+same-length-4 c = c .before .before .before .before .loop .inv .0 .3
+
+same-length-5 : tie.Need-same-length-5 Inv-loop μ-loop
+same-length-5 c = c .before .before .before .before .loop .inv .0 .4
 
 returns : tie.Need-returns Inv-loop μ-loop
 returns c = λ low b.
-    let a = c .before .before .before .before .before .before .before .before .before .before .before .before .before .args in
+    let a = c .before .before .before .before .before .before .before .before .before .before .before .before .before .before .before .args in
+    let l = c .before .before .before .before .loop in
     let met = c .before .reached .ensures .so (c .if1 .taken) in
-    stopped (a .n) (a .m) (a .xs .now) (a .ys .now) (a .cs .now) (a .days .now) (a .heads .now) (a .nexts .now) (a .goal) low (a .gains .now) (c .before .before .before .before .loop .gains) (c .before .before .before .before .loop .by) (c .before .before .before .before .loop .list)
-    (c .before .before .before .before .loop .left) (c .before .before .before .before .before .before .before .before .before .before .before .before .before .pre .0) (c .before .before .before .before .loop .inv .5 low b) (λ short. absurd (omega (arith, met .1, short (met .0)))) (c .before .before .before .before .loop .inv .4)
+    stopped (a .n) (a .m) (a .xs .now) (a .ys .now) (a .cs .now) (a .days .now) (a .heads .now) (a .nexts .now) (a .goal) low (a .gains .now) (l .gains) (l .by) (l .list)
+    (l .left) (c .before .before .before .before .before .before .before .before .before .before .before .before .before .before .before .pre .0) (l .inv .4 low b) (λ short. absurd (omega (arith, met .1, short (met .0)))) (l .inv .3)
 
 turn-requires : tie.Need-turn-requires Inv-loop μ-loop
-turn-requires c κs = (
-  c .before .before .before .before .before .before .before .before .before .before .before .before .before .before .before .before .pre .0,
-  (
-    record {
-      gains-room = omega (arith, c .before .before .before .before .before .before .before .loop .inv .0, c .before .before .before .before .before .before .before .before .before .before .before .before .before .before .before .before .pre .1 .0 .gains-room);
-      by-room = omega (arith, c .before .before .before .before .before .before .before .loop .inv .1, c .before .before .before .before .before .before .before .before .before .before .before .before .before .before .before .before .pre .1 .0 .by-room);
-      list-room = omega (arith, c .before .before .before .before .before .before .before .loop .inv .2, c .before .before .before .before .before .before .before .before .before .before .before .before .before .before .before .before .pre .1 .0 .list-room);
-    },
-    (c .before .before .before .before .before .before .before .loop .inv .3, omega (arith, c .before .before .before .before .before .before .loop-test .taken)),
-  ),
-)
+turn-requires c κs =
+    let a = c .before .before .before .before .before .before .before .before .before .before .before .before .before .before .before .before .before .before .before .before .args in
+    let l = c .before .before .before .before .before .before .before .before .before .loop in (
+      c .before .before .before .before .before .before .before .before .before .before .before .before .before .before .before .before .before .before .before .before .pre .0,
+      (
+        room-kept (a .n) (a .gains .now) (a .by .now) (a .list .now) (a .places .now) (a .leaders .now) (l .gains) (l .by) (l .list) (l .places) (l .leaders)
+            (l .inv .0 .0) (l .inv .0 .1) (l .inv .0 .2) (l .inv .0 .3) (l .inv .0 .4) (c .before .before .before .before .before .before .before .before .before .before .before .before .before .before .before .before .before .before .before .before .pre .1 .0),
+        (l .inv .1, (l .inv .2, omega (arith, c .before .before .before .before .before .before .before .before .loop-test .taken))),
+      ),
+    )
 
 loop-less : tie.Need-loop-less Inv-loop μ-loop
-loop-less c = c .before .before .before .before .before .before .turn .ensures .fewer
+loop-less c = c .before .before .before .before .before .before .before .before .before .before .turn .ensures .0 .fewer
 
 loop-again : tie.Need-loop-again Inv-loop μ-loop
-loop-again c = (
-  c .before .before .before .before .before .before .turn .kept .1 .1 .1 .1 .1 .1 .1 .1 .0 ∙ c .before .before .before .before .before .before .before .before .before .before .before .before .before .before .loop .inv .0,
-  c .before .before .before .before .before .before .turn .kept .1 .1 .1 .1 .1 .1 .1 .1 .1 .0 ∙ c .before .before .before .before .before .before .before .before .before .before .before .before .before .before .loop .inv .1,
-  c .before .before .before .before .before .before .turn .kept .1 .1 .1 .1 .1 .1 .1 .1 .1 .1 .0 ∙ c .before .before .before .before .before .before .before .before .before .before .before .before .before .before .loop .inv .2,
-  c .before .before .before .before .before .before .turn .ensures .ready,
-  λ v beyond. c .before .before .before .before .before .before .turn .ensures .past v beyond ∙ c .before .before .before .before .before .before .before .before .before .before .before .before .before .before .loop .inv .4 v beyond,
-  λ low b. c .before .before .before .before .before .before .turn .ensures .keeps low (c .before .before .before .before .before .before .before .before .before .before .before .before .before .before .loop .inv .5 low b),
-)
-
-same-length-4 : tie.Need-same-length-4 Inv-loop μ-loop
-same-length-4 c = c .before .loop .inv .0
-
-same-length-5 : tie.Need-same-length-5 Inv-loop μ-loop
-same-length-5 c = c .before .loop .inv .1
+loop-again c =
+    let l = c .before .before .before .before .before .before .before .before .before .before .before .before .before .before .before .before .before .before .before .before .loop in (
+      (
+        c .before .before .before .before .before .before .before .before .before .before .turn .kept .1 .1 .1 .1 .1 .1 .1 .1 .0 ∙ l .inv .0 .0,
+        c .before .before .before .before .before .before .before .before .before .before .turn .kept .1 .1 .1 .1 .1 .1 .1 .1 .1 .0 ∙ l .inv .0 .1,
+        c .before .before .before .before .before .before .before .before .before .before .turn .kept .1 .1 .1 .1 .1 .1 .1 .1 .1 .1 .0 ∙ l .inv .0 .2,
+        c .before .before .before .before .before .before .before .before .before .before .turn .kept .1 .1 .1 .1 .1 .1 .1 .1 .1 .1 .1 .0 ∙ l .inv .0 .3,
+        c .before .before .before .before .before .before .before .before .before .before .turn .kept .1 .1 .1 .1 .1 .1 .1 .1 .1 .1 .1 .1 .0 ∙ l .inv .0 .4,
+      ),
+      c .before .before .before .before .before .before .before .before .before .before .turn .ensures .0 .ready,
+      c .before .before .before .before .before .before .before .before .before .before .turn .ensures .1,
+      λ v beyond. c .before .before .before .before .before .before .before .before .before .before .turn .ensures .0 .past v beyond ∙ l .inv .3 v beyond,
+      λ low b. c .before .before .before .before .before .before .before .before .before .before .turn .ensures .0 .keeps low (l .inv .4 low b),
+    )
 
 same-length-6 : tie.Need-same-length-6 Inv-loop μ-loop
-same-length-6 c = c .before .loop .inv .2
+same-length-6 c = c .before .loop .inv .0 .0
+
+same-length-7 : tie.Need-same-length-7 Inv-loop μ-loop
+same-length-7 c = c .before .loop .inv .0 .1
+
+same-length-8 : tie.Need-same-length-8 Inv-loop μ-loop
+same-length-8 c = c .before .loop .inv .0 .2
+
+same-length-9 : tie.Need-same-length-9 Inv-loop μ-loop
+same-length-9 c = c .before .loop .inv .0 .3
+
+same-length-10 : tie.Need-same-length-10 Inv-loop μ-loop
+same-length-10 c = c .before .loop .inv .0 .4
 
 returns-2 : tie.Need-returns-2 Inv-loop μ-loop
 returns-2 c = λ low b.
-    let a = c .before .before .before .before .before .before .before .before .before .before .args in
-    stopped (a .n) (a .m) (a .xs .now) (a .ys .now) (a .cs .now) (a .days .now) (a .heads .now) (a .nexts .now) (a .goal) low (a .gains .now) (c .before .loop .gains) (c .before .loop .by) (c .before .loop .list)
-    (c .before .loop .left) (c .before .before .before .before .before .before .before .before .before .before .pre .0) (c .before .loop .inv .5 low b) (λ short. omega (arith, c .loop-test .left)) (c .before .loop .inv .4)
+    let a = c .before .before .before .before .before .before .before .before .before .before .before .before .args in
+    let l = c .before .loop in
+    stopped (a .n) (a .m) (a .xs .now) (a .ys .now) (a .cs .now) (a .days .now) (a .heads .now) (a .nexts .now) (a .goal) low (a .gains .now) (l .gains) (l .by) (l .list)
+    (l .left) (c .before .before .before .before .before .before .before .before .before .before .before .before .pre .0) (l .inv .4 low b) (λ short. omega (arith, c .loop-test .left)) (l .inv .3)
 
 pub settle-all-spec : {M : Type 1} → statement M
 settle-all-spec =
@@ -95,11 +116,15 @@ settle-all-spec =
     same-length
     same-length-2
     same-length-3
+    same-length-4
+    same-length-5
     returns
     turn-requires
     loop-less
     loop-again
-    same-length-4
-    same-length-5
     same-length-6
+    same-length-7
+    same-length-8
+    same-length-9
+    same-length-10
     returns-2)

@@ -12,23 +12,44 @@ use Rattle.spread.proofs.spread.Tie as tie
 slice-aggregate-collect : tie.Need-slice-aggregate-collect
 slice-aggregate-collect c = search needs
 
+slice-aggregate-collect-2 : tie.Need-slice-aggregate-collect-2
+slice-aggregate-collect-2 c = search needs
+
+slice-aggregate-collect-3 : tie.Need-slice-aggregate-collect-3
+slice-aggregate-collect-3 c = search needs
+
 collect-requires : tie.Need-collect-requires
 collect-requires c κs = search needs
 
 slice-aggregate-settle-all : tie.Need-slice-aggregate-settle-all
 slice-aggregate-settle-all c = search needs
 
+slice-aggregate-settle-all-2 : tie.Need-slice-aggregate-settle-all-2
+slice-aggregate-settle-all-2 c = search needs
+
+slice-aggregate-settle-all-3 : tie.Need-slice-aggregate-settle-all-3
+slice-aggregate-settle-all-3 c = search needs
+
 settle-all-requires : tie.Need-settle-all-requires
 settle-all-requires c κs =
-    let a = c .before .before .before .before .before .before .before .before .before .before .before .before .before .before .before .before .before .args in (
-      c .before .before .before .before .before .before .before .before .before .before .before .before .before .before .before .before .before .pre .0,
+    let a = c .before .before .before .before .before .before .before .before .before .before .before .before .before .before .before .before .before .before .before .before .before .before .before .args in
+    let pre = c .before .before .before .before .before .before .before .before .before .before .before .before .before .before .before .before .before .before .before .before .before .before .before .pre in (
+      pre .0,
       (
         record {
-          gains-room = c .before .before .before .before .before .before .before .before .before .before .before .before .before .before .before .before .before .pre .1 .gains-room;
-          by-room = omega (arith, c .before .before .before .before .before .before .collect .kept .1 .1 .0, c .before .before .before .before .before .before .before .before .before .before .before .before .before .before .before .before .before .pre .1 .by-room);
-          list-room = omega (arith, c .before .before .before .before .before .before .collect .kept .1 .1 .1 .0, c .before .before .before .before .before .before .before .before .before .before .before .before .before .before .before .before .before .pre .0 .steps-in);
+          room = record {
+            few = pre .0 .steps-in;
+            gains-room = pre .1 .gains-room;
+            list-room = omega (arith, c .before .before .before .before .before .before .before .before .before .before .collect .kept .1 .1 .1 .0, pre .0 .steps-in);
+            places-room = omega (arith, c .before .before .before .before .before .before .before .before .before .before .collect .kept .1 .1 .1 .1 .0, pre .0 .steps-in);
+            leaders-room = omega (arith, c .before .before .before .before .before .before .before .before .before .before .collect .kept .1 .1 .1 .1 .1 .0, pre .0 .steps-in);
+          };
+          by-room = omega (arith, c .before .before .before .before .before .before .before .before .before .before .collect .kept .1 .1 .0, pre .1 .by-room);
         },
-        collected-ready (a .n) (at (a .gains .now)) (at (c .before .before .before .before .before .before .collect .last .1 .1 .0)) (at (c .before .before .before .before .before .before .collect .last .1 .1 .1 .0)) (c .before .before .before .before .before .before .collect .result) (c .before .before .before .before .before .before .before .before .before .before .before .before .before .before .before .before .before .pre .1 .small) (c .before .before .before .before .before .before .collect .ensures),
+        (
+          collected-ready (a .n) (at (a .gains .now)) (at (c .before .before .before .before .before .before .before .before .before .before .collect .last .1 .1 .0)) (at (c .before .before .before .before .before .before .before .before .before .before .collect .last .1 .1 .1 .0)) (c .before .before .before .before .before .before .before .before .before .before .collect .result) (pre .1 .small) (c .before .before .before .before .before .before .before .before .before .before .collect .ensures .0),
+          c .before .before .before .before .before .before .before .before .before .before .collect .ensures .1,
+        ),
       ),
     )
 
@@ -40,18 +61,22 @@ same-length-2 c = search needs
 
 returns : tie.Need-returns
 returns c =
-    let a = c .before .before .before .before .before .before .before .before .before .before .before .before .before .before .before .before .before .before .before .before .before .before .before .args in
-    c .before .before .before .before .before .settle-all .ensures (λ v. at (a .days .now) v + at (a .gains .now) v)
+    let a = c .before .before .before .before .before .before .before .before .before .before .before .before .before .before .before .before .before .before .before .before .before .before .before .before .before .before .before .before .before .before .before .args in
+    c .before .before .before .before .before .before .before .settle-all .ensures (λ v. at (a .days .now) v + at (a .gains .now) v)
     (no-turn-yet (a .n) (rules (a .xs .now) (a .ys .now) (a .cs .now)) (first (a .m)) (at (a .days .now)) (λ v. at (a .days .now) v + at (a .gains .now) v)
-    (at (a .gains .now)) (at (c .before .before .before .before .before .before .before .before .before .before .before .before .collect .last .1 .1 .0)) (at (c .before .before .before .before .before .before .before .before .before .before .before .before .collect .last .1 .1 .1 .0)) (c .before .before .before .before .before .before .before .before .before .before .before .before .collect .result) (λ v v-in. refl) (c .before .before .before .before .before .before .before .before .before .before .before .before .collect .ensures))
+    (at (a .gains .now)) (at (c .before .before .before .before .before .before .before .before .before .before .before .before .before .before .before .before .before .before .collect .last .1 .1 .0)) (at (c .before .before .before .before .before .before .before .before .before .before .before .before .before .before .before .before .before .before .collect .last .1 .1 .1 .0)) (c .before .before .before .before .before .before .before .before .before .before .before .before .before .before .before .before .before .before .collect .result) (λ v v-in. refl) (c .before .before .before .before .before .before .before .before .before .before .before .before .before .before .before .before .before .before .collect .ensures .0))
 
 pub spread-spec : {M : Type 1} → statement M
 spread-spec =
     tie.close
     (tie.spec
     slice-aggregate-collect
+    slice-aggregate-collect-2
+    slice-aggregate-collect-3
     collect-requires
     slice-aggregate-settle-all
+    slice-aggregate-settle-all-2
+    slice-aggregate-settle-all-3
     settle-all-requires
     same-length
     same-length-2

@@ -1,61 +1,31 @@
 -- `spread::turn` meets its contract.
-use Prim.Native.Nat.{_-_, _<_}
-use mathlib.Core.Path.{_∙_}
-use lib.ListN.{length, set, length-set}
+use mathlib.Core.Path.{refl, sym}
 use Rattle.meaning.specs.Tables.{at}
-use Rattle.spread.proofs.Places.{put-set}
+use Rattle.spread.proofs.Walking.{room-kept}
 use Rattle.spread.proofs.Turning.{ready-without, turned}
 use native.Mathlib.Omega.{arith}
 use borrow.Author.Needs.{needs}
 use Rattle.spread.proofs.turn.Statement.{statement}
 use Rattle.spread.proofs.turn.Tie as tie
 
-largest-requires : tie.Need-largest-requires
-largest-requires c κs = record {
-  some = omega (arith, c .before .before .before .before .before .before .before .before .before .before .pre .1 .1 .1);
-  list-room = omega (arith, c .before .before .before .before .before .before .before .before .before .before .pre .1 .0 .list-room, c .before .before .before .before .before .before .before .before .before .before .pre .1 .1 .0 .room);
-  listed-in = λ j j-in. omega (arith, c .before .before .before .before .before .before .before .before .before .before .pre .1 .0 .gains-room, c .before .before .before .before .before .before .before .before .before .before .pre .1 .1 .0 .listed-in j j-in);
-}
-
-number-at-requires : tie.Need-number-at-requires
-number-at-requires c κs = search needs
-
-sub-list : tie.Need-sub-list
-sub-list c = search needs
-
-mul-list : tie.Need-mul-list
-mul-list c = search needs
-
-slice-read-list : tie.Need-slice-read-list
-slice-read-list c = search needs
-
-mul-list-2 : tie.Need-mul-list-2
-mul-list-2 c = search needs
-
-slice-write-list : tie.Need-slice-write-list
-slice-write-list c = search needs
+take-requires : tie.Need-take-requires
+take-requires c κs = (c .before .before .before .before .before .before .before .before .before .before .before .before .before .before .pre .1 .0 .room, (c .before .before .before .before .before .before .before .before .before .before .before .before .before .before .pre .1 .1 .1 .0, c .before .before .before .before .before .before .before .before .before .before .before .before .before .before .pre .1 .1 .1 .1))
 
 sub-relax-all : tie.Need-sub-relax-all
 sub-relax-all c = search needs
 
-place-in : (c : tie.After-slice-known4) → c .before .before .before .largest .result < length (c .before .before .before .before .before .before .before .before .before .before .before .before .before .before .args .list .now)
-place-in c = omega (arith, c .before .before .before .largest .ensures .place-in, c .before .before .before .before .before .before .before .before .before .before .before .before .before .before .pre .1 .0 .list-room, c .before .before .before .before .before .before .before .before .before .before .before .before .before .before .pre .1 .1 .0 .room)
-
 relax-all-requires : tie.Need-relax-all-requires
 relax-all-requires c κs =
-    let a = c .before .before .before .before .before .before .before .before .before .before .before .before .before .before .before .before .before .args in
-    let j = c .before .before .before .before .before .before .largest .result in (
-      c .before .before .before .before .before .before .before .before .before .before .before .before .before .before .before .before .before .pre .0,
+    let a = c .before .before .before .before .before .before .before .before .before .before .before .before .before .before .before .before .before .before .before .before .before .before .before .before .before .before .args in
+    let taken = c .before .before .before .before .before .before .before .before .before .before .before .take .ensures in
+    let list = c .before .before .before .before .before .before .before .before .before .before .before .take .last .1 .1 .0 in (
+      c .before .before .before .before .before .before .before .before .before .before .before .before .before .before .before .before .before .before .before .before .before .before .before .before .before .before .pre .0,
       (
-        record {
-          gains-room = c .before .before .before .before .before .before .before .before .before .before .before .before .before .before .before .before .before .pre .1 .0 .gains-room;
-          by-room = c .before .before .before .before .before .before .before .before .before .before .before .before .before .before .before .before .before .pre .1 .0 .by-room;
-          list-room = omega (arith, length-set (a .list .now) j (at (a .list .now) (a .k - 1)), c .before .before .before .before .before .before .before .before .before .before .before .before .before .before .before .before .before .pre .1 .0 .list-room);
-        },
+        room-kept (a .n) (a .gains .now) (a .by .now) (a .list .now) (a .places .now) (a .leaders .now) (a .gains .now) (a .by .now) list (c .before .before .before .before .before .before .before .before .before .before .before .take .last .1 .1 .1 .0) (c .before .before .before .before .before .before .before .before .before .before .before .take .last .1 .1 .1 .1 .0)
+            refl refl (c .before .before .before .before .before .before .before .before .before .before .before .take .kept .1 .1 .0) (c .before .before .before .before .before .before .before .before .before .before .before .take .kept .1 .1 .1 .0) (c .before .before .before .before .before .before .before .before .before .before .before .take .kept .1 .1 .1 .1 .0) (c .before .before .before .before .before .before .before .before .before .before .before .before .before .before .before .before .before .before .before .before .before .before .before .before .before .before .pre .1 .0),
         (
-          ready-without (a .n) (at (a .gains .now)) (at (a .list .now)) (at (set (a .list .now) j (at (a .list .now) (a .k - 1)))) (a .k) j (c .before .before .before .before .before .before .largest .ensures .place-in)
-              (put-set (a .list .now) j (at (a .list .now) (a .k - 1)) (place-in (c .before .before .before))) (c .before .before .before .before .before .before .before .before .before .before .before .before .before .before .before .before .before .pre .1 .1 .0),
-          omega (arith, c .before .before .before .before .number-at .ensures, c .before .before .before .before .before .before .before .before .before .before .before .before .before .before .before .before .before .pre .1 .1 .0 .listed-in j (c .before .before .before .before .before .before .largest .ensures .place-in)),
+          ready-without (a .n) (at (a .gains .now)) (at (a .list .now)) (at list) (a .k) (taken .place) (taken .largest .place-in) (taken .out) (c .before .before .before .before .before .before .before .before .before .before .before .before .before .before .before .before .before .before .before .before .before .before .before .before .before .before .pre .1 .1 .0),
+          (taken .led, omega (arith, taken .there, c .before .before .before .before .before .before .before .before .before .before .before .before .before .before .before .before .before .before .before .before .before .before .before .before .before .before .pre .1 .1 .0 .listed-in (taken .place) (taken .largest .place-in))),
         ),
       ),
     )
@@ -67,33 +37,35 @@ same-length-2 : tie.Need-same-length-2
 same-length-2 c = search needs
 
 same-length-3 : tie.Need-same-length-3
-same-length-3 c =
-    c .before .before .before .before .before .before .relax-all .kept .1 .1 .1 .1 .1 .1 .1 .1 .1 .1 .1 .0 ∙ length-set (c .before .before .before .before .before .before .before .before .before .before .before .before .before .before .before .before .before .before .before .before .before .before .before .before .args .list .now) (c .before .before .before .before .before .before .before .before .before .before .before .before .before .largest .result) (at (c .before .before .before .before .before .before .before .before .before .before .before .before .before .before .before .before .before .before .before .before .before .before .before .before .args .list .now) (c .before .before .before .before .before .before .before .before .before .before .before .before .before .before .before .before .before .before .before .before .before .before .before .before .args .k - 1))
+same-length-3 c = search needs
+
+same-length-4 : tie.Need-same-length-4
+same-length-4 c = search needs
+
+same-length-5 : tie.Need-same-length-5
+same-length-5 c = search needs
 
 returns : tie.Need-returns
 returns c =
-    let a = c .before .before .before .before .before .before .before .before .before .before .before .before .before .before .before .before .before .before .before .before .before .before .before .before .args in
-    let j = c .before .before .before .before .before .before .before .before .before .before .before .before .before .largest .result in
-    turned (a .n) (a .m) (a .xs .now) (a .ys .now) (a .cs .now) (a .days .now) (a .heads .now) (a .nexts .now) (a .gains .now) (a .by .now) (a .list .now)
-    (set (a .list .now) j (at (a .list .now) (a .k - 1))) (a .k) j _ _ _ _ (c .before .before .before .before .before .before .before .before .before .before .before .before .before .before .before .before .before .before .before .before .before .before .before .before .pre .0)
-    (c .before .before .before .before .before .before .before .before .before .before .before .before .before .before .before .before .before .before .before .before .before .before .before .before .pre .1 .1 .0 .listed-in j (c .before .before .before .before .before .before .before .before .before .before .before .before .before .largest .ensures .place-in)) (c .before .before .before .before .before .before .before .before .before .before .before .before .before .largest .ensures)
-    (put-set (a .list .now) j (at (a .list .now) (a .k - 1)) (place-in (c .before .before .before .before .before .before .before .before .before .before)))
-    (rw (c .before .before .before .before .before .before .before .before .before .before .before .number-at .ensures) at (c .before .before .before .before .before .before .relax-all .ensures))
+    let a = c .before .before .before .before .before .before .before .before .before .before .before .before .before .before .before .before .before .before .before .before .before .before .before .before .before .before .before .before .before .before .before .before .before .before .before .before .before .args in
+    let taken = c .before .before .before .before .before .before .before .before .before .before .before .before .before .before .before .before .before .before .before .before .before .before .take .ensures in (
+      turned (a .n) (a .m) (a .xs .now) (a .ys .now) (a .cs .now) (a .days .now) (a .heads .now) (a .nexts .now) (a .gains .now) (a .by .now) (a .list .now)
+          (c .before .before .before .before .before .before .before .before .before .before .before .before .before .before .before .before .before .before .before .before .before .before .take .last .1 .1 .0) (a .k) (taken .place) _ _ _ _ (c .before .before .before .before .before .before .before .before .before .before .before .before .before .before .before .before .before .before .before .before .before .before .before .before .before .before .before .before .before .before .before .before .before .before .before .before .before .pre .0)
+          (c .before .before .before .before .before .before .before .before .before .before .before .before .before .before .before .before .before .before .before .before .before .before .before .before .before .before .before .before .before .before .before .before .before .before .before .before .before .pre .1 .1 .0 .listed-in (taken .place) (taken .largest .place-in)) (taken .largest) (taken .out)
+          (rw (sym (taken .there)) at (c .before .before .before .before .before .before .before .before .before .before .relax-all .ensures .0)),
+      c .before .before .before .before .before .before .before .before .before .before .relax-all .ensures .1,
+    )
 
 pub turn-spec : {M : Type 1} → statement M
 turn-spec =
     tie.close
     (tie.spec
-    largest-requires
-    number-at-requires
-    sub-list
-    mul-list
-    slice-read-list
-    mul-list-2
-    slice-write-list
+    take-requires
     sub-relax-all
     relax-all-requires
     same-length
     same-length-2
     same-length-3
+    same-length-4
+    same-length-5
     returns)

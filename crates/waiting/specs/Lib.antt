@@ -1,0 +1,2 @@
+-- What the contracts of the waiting steps cite.
+pub mod Waiting
