@@ -1,30 +1,34 @@
 -- From the plan of a new rule to what Add and Trial promise.
 use Prim.Native.Nat.{ℕ, _+_, _*_, _-_, _^_, _≤_, _<_}
 use native.Mathlib.Omega.{arith}
-use mathlib.Core.Path.{_≡_, refl, sym}
+use mathlib.Core.Path.{_≡_, refl, sym, subst}
 use mathlib.Core.List.{List}
 use lib.ListN.{length, take}
-use lib.IntN.{ℤ}
+use lib.IntN.{ℤ, pos}
 use Rattle.meaning.specs.declared.Counts.{Counts}
 use Rattle.meaning.specs.declared.Answer.{Answer}
+use Rattle.meaning.specs.declared.Reply.{Reply}
 use Rattle.meaning.specs.Bounds.{STEPS, RULES, LARGEST}
-use Rattle.meaning.specs.Rules.{InBounds, Earliest, more, plus}
-use Rattle.meaning.specs.Tables.{put, at}
+use Rattle.meaning.specs.Rules.{Keeps, InBounds, Earliest, more, plus}
+use Rattle.meaning.specs.Tables.{ColumnsRoom, at}
 use Rattle.meaning.specs.Promise as promise
 use Rattle.meaning.proofs.More.{more-all}
 use Rattle.meaning.proofs.Theory.{earliest-ext}
 use Rattle.meaning.proofs.Counting.{ring-length}
-use Rattle.meaning.proofs.Lists.{filled-length}
+use Rattle.meaning.proofs.Lists.{past-refl, filled-length}
 use Rattle.meaning.proofs.DayBound.{day-bound}
 use Rattle.meaning.proofs.Needs.{obeys-done, obeys-conflict}
 use Rattle.meaning.proofs.Possible.{Asked, plan-fits, first-conflict}
-use Rattle.leaf.specs.Lent.{columns, tables}
+use Rattle.leaf.specs.Lent.{columns, tables, Placed}
 use Rattle.leaf.specs.Promises.{rule, Adds, Tries}
 use Rattle.inside.proofs.Equal.{tables-equal}
 use Rattle.spread.specs.Ground.{rules, first, Ground}
 use Rattle.spread.specs.Ring.{RingIn}
+use Rattle.spread.proofs.Uses.{kept-earliest}
 use Rattle.newrule.specs.Planning.{Raised, Raisable}
+use Rattle.newrule.specs.Kept.{Held}
 use Rattle.newrule.specs.Lending.{Ready, LentChains, NoGains}
+use Rattle.newrule.proofs.Raising.{moved-self}
 
 -- On sound tables with their chains a rule that can be asked for is ready.
 pub ready :
@@ -61,6 +65,14 @@ ready counts xs ys cs days marks wxs wys wcs x y c a heads nexts gains by l g = 
   columns-room = a .room .rules-room;
   days-room = a .room .days-room;
   not-full = a .not-full;
+}
+
+-- There is a place for one rule more.
+pub placed : (xs ys : List ℕ) (cs : List ℤ) (m : ℕ) → ColumnsRoom RULES (columns xs ys cs) → m < RULES → Placed xs ys cs m
+placed xs ys cs m room more-fit = record {
+  first-place = omega (arith, room .firsts-room);
+  second-place = omega (arith, room .seconds-room);
+  amount-place = omega (arith, room .amounts-room);
 }
 
 module _
@@ -122,17 +134,31 @@ trial-conflict counts xs ys cs days marks wxs wys wcs x y c a one two two′ lon
 pub add-done :
     (counts : Counts) (xs ys : List ℕ) (cs : List ℤ) (days marks wxs wys : List ℕ) (wcs : List ℤ) (x y : ℕ) (c : ℤ) →
     (a : Asked (rule x y c) (tables counts xs ys cs days marks wxs wys wcs)) (list : List ℕ) → STEPS ≤ length list → (k : ℕ)
-    (xs′ ys′ : List ℕ) (cs′ : List ℤ) (days′ : List ℕ) →
-    columns xs′ ys′ cs′ ≡ put (columns xs ys cs) (counts .rules) (rule x y c) →
+    (r : Reply) (xs′ ys′ : List ℕ) (cs′ : List ℤ) (days′ : List ℕ) →
+    Held counts (columns xs ys cs) x y c k r (columns xs′ ys′ cs′) →
     promise.Planned (counts .steps) (more (rules xs ys cs) (counts .rules) (rule x y c)) (plus (first (counts .rules)) (counts .rules)) days days′ →
     k ≡ promise.moved (counts .steps) days days′ →
-    Adds counts xs ys cs days marks wxs wys wcs list x y c
-    (record { counts = record { steps = counts .steps; rules = counts .rules + 1; marks = counts .marks; watched = counts .watched }; answer = Answer.Done k 0 })
-    xs′ ys′ cs′ days′ list
-add-done counts xs ys cs days marks wxs wys wcs x y c a list long k xs′ ys′ cs′ days′ held p count =
-    obeys-done _ _ k 0 _
+    Adds counts xs ys cs days marks wxs wys wcs list x y c r xs′ ys′ cs′ days′ list
+add-done counts xs ys cs days marks wxs wys wcs x y c a list long k r xs′ ys′ cs′ days′ held p count =
+    subst (λ (q : Reply). Adds counts xs ys cs days marks wxs wys wcs list x y c q xs′ ys′ cs′ days′ list) (sym (held .reply))
+    (obeys-done _ _ k 0 _
     ((a .room, long), (a .sound, (a .steps-in, (a .amount-in, (a .not-full, (plan-fits (rule x y c) _ a (at days′) (p .earliest), tt))))))
-    (record { rule-held = tables-equal _ _ refl held refl refl refl; planned = p; count-moved = count; no-second = refl; list-stays = refl })
+    (record { rule-held = tables-equal _ _ refl (held .written) refl refl refl; planned = p; count-moved = count; no-second = refl; list-stays = refl }))
+
+-- Add, where the days keep the rule: they are the earliest plan with it, and none moves.
+pub add-at-once :
+    (counts : Counts) (xs ys : List ℕ) (cs : List ℤ) (days marks wxs wys : List ℕ) (wcs : List ℤ) (x y : ℕ) (c : ℤ) →
+    (a : Asked (rule x y c) (tables counts xs ys cs days marks wxs wys wcs)) (list : List ℕ) → STEPS ≤ length list →
+    Keeps (λ v. pos (at days v)) (rule x y c) →
+    (r : Reply) (xs′ ys′ : List ℕ) (cs′ : List ℤ) → Held counts (columns xs ys cs) x y c 0 r (columns xs′ ys′ cs′) →
+    Adds counts xs ys cs days marks wxs wys wcs list x y c r xs′ ys′ cs′ days list
+add-at-once counts xs ys cs days marks wxs wys wcs x y c a list long kept r xs′ ys′ cs′ held =
+    add-done counts xs ys cs days marks wxs wys wcs x y c a list long 0 r xs′ ys′ cs′ days held
+    (record {
+      earliest = kept-earliest (counts .steps) (rules xs ys cs) (first (counts .rules)) (at days) (counts .rules) (rule x y c) (λ h. omega arith) (a .sound .days-earliest) kept;
+      past = past-refl (counts .steps) days;
+    })
+    (moved-self (counts .steps) days)
 
 -- Add, on conflict.
 pub add-conflict :

@@ -26,6 +26,11 @@ moved-one v days list k differs e = rw (add-one v, ne-eqb (at days v) (at list v
 moved-none : (v : ℕ) (days list : List ℕ) (k : ℕ) → at days v ≡ at list v → k ≡ moved v days list → k ≡ moved (v + 1) days list
 moved-none v days list k same e = rw (add-one v, eq-eqb (at days v) (at list v) same) (omega (arith, e))
 
+-- No step differs from itself.
+pub moved-self : (n : ℕ) (days : List ℕ) → 0 ≡ moved n days days
+moved-self zero days = refl
+moved-self (suc n) days = rw (eq-eqb (at days n) (at days n) refl) (omega (arith, moved-self n days))
+
 module _ (days gains before list : List ℕ) (v count : ℕ) (place : v < length before) (r : Raised v days gains before list count) where
   -- Step v is written.
   written : List ℕ
@@ -60,19 +65,3 @@ module _ (days gains before list : List ℕ) (v count : ℕ) (place : v < length
   pub raised-same : at gains v ≡ 0 → Raised (v + 1) days gains before (set list v (at days v + at gains v)) count
   unfolding written
   raised-same none = record { each = each-next; past = past-next; count = moved-none v days written count (omega (arith, there)) count-before }
-
--- A step without gain keeps its day where it stands.
-pub raised-left : (days gains list : List ℕ) (v count : ℕ) → Raised v days gains days list count → at gains v ≡ 0 → Raised (v + 1) days gains days list count
-raised-left days gains list v count r none =
-    record {
-      each = λ i h. tell i (ℕ-discrete i v) h;
-      past = record { same-length = r .past .same-length; kept = λ i h. r .past .kept i (omega arith) };
-      count = moved-none v days list count (sym stays) (r .count);
-    }
-  where
-    stays : at list v ≡ at days v
-    stays = r .past .kept v (omega arith)
-
-    tell : (i : ℕ) → Dec (i ≡ v) → i < v + 1 → at list i ≡ at days i + at gains i
-    tell i (yes e) h = subst (λ z. at list z ≡ at days z + at gains z) (sym e) (omega (arith, stays))
-    tell i (no n) h = r .each i (omega arith)

@@ -3,11 +3,11 @@
 ghost use Prim.Native.Nat.{_<_, _≤_};
 ghost use lib.ListN.{length};
 ghost use Rattle.meaning.specs.Tables.{at};
-ghost use Rattle.meaning.specs.Bounds.{STEPS};
-ghost use Rattle.leaf.specs.Lent.{tables};
+ghost use Rattle.meaning.specs.Bounds.{STEPS, RULES};
+ghost use Rattle.leaf.specs.Lent.{columns, tables, Placed};
 ghost use Rattle.leaf.specs.Promises.{Border, Adds, Tries};
 ghost use Rattle.newrule.specs.Lending.{Ready, LentChains};
-ghost use Rattle.newrule.specs.Kept.{BothRoom, TrialKept, AddKept};
+ghost use Rattle.newrule.specs.Kept.{BothRoom, Held, TrialKept, AddKept};
 ghost use Rattle.newrule.specs.Planning.{Lack, Plannable, Planned, Raised, Raisable};
 use meaning::Answer;
 use meaning::Counts;
@@ -79,14 +79,43 @@ fn raise_days(n: usize, gains: &[u64], days: &mut [u32]) -> u32
 {
     let mut count = 0;
     for v in 0..n {
+        let day = leaf::day_at(days, v);
         let gain = gains[v];
+        days[v] = (day + gain) as u32;
         if 0 < gain {
-            let day = leaf::day_at(days, v);
-            days[v] = (day + gain) as u32;
             count += 1;
         }
     }
     count
+}
+
+// Holds the rule x, y, c, the days being up to date with it; moved says how many of them moved.
+fn hold(
+    counts: Counts,
+    xs: &mut [u16],
+    ys: &mut [u16],
+    cs: &mut [i32],
+    x: u16,
+    y: u16,
+    c: i32,
+    moved: u32,
+) -> Reply
+    requires { ⌜ Placed (now xs) (now ys) (now cs) (counts .rules) ⌝ }
+    requires { ⌜ counts .rules < RULES ⌝ }
+    ensures { λ r. ⌜
+        Held counts (columns (now (xs .entry)) (now (ys .entry)) (now (cs .entry))) x y c moved r
+        (columns (now (xs .exit)) (now (ys .exit)) (now (cs .exit))) ⌝ }
+{
+    inside::write_rule(xs, ys, cs, counts.rules as usize, x, y, c);
+    Reply {
+        counts: Counts {
+            steps: counts.steps,
+            rules: counts.rules + 1,
+            marks: counts.marks,
+            watched: counts.watched,
+        },
+        answer: Answer::Done(moved, 0),
+    }
 }
 
 // Trial of a rule that can be asked for, with gains and by to work in.
@@ -195,16 +224,7 @@ fn add_fine(
         by,
     ) {
         let moved = raise_days(n, gains, days);
-        inside::write_rule(xs, ys, cs, m, x, y, c);
-        return Reply {
-            counts: Counts {
-                steps: counts.steps,
-                rules: counts.rules + 1,
-                marks: counts.marks,
-                watched: counts.watched,
-            },
-            answer: Answer::Done(moved, 0),
-        };
+        return hold(counts, xs, ys, cs, x, y, c, moved);
     }
     let k = spread::ring(
         n,
@@ -335,6 +355,10 @@ pub fn add(
             counts: counts,
             answer: Answer::Full,
         };
+    }
+    // A rule that the days keep already moves none of them.
+    if lack(days, x as usize, y as usize, c) == 0 {
+        return hold(counts, xs, ys, cs, x, y, c, 0);
     }
     let mut gains = [0u64; meaning::STEPS];
     let mut by = [0u16; meaning::STEPS];

@@ -63,6 +63,32 @@ module _ (s : List ℕ) (i : ℕ) (inside : Bool) where
   pub skip-on : i < length s → (passed inside (getD s i 0) ≡ 0 → ⊥) → skipped inside (drop i s) ≡ 1 + skipped (eqb (passed inside (getD s i 0)) 2) (drop (i + 1) s)
   skip-on h d = ap (skipped inside) (drop-more s i h) ∙ skipped-on inside (getD s i 0) (drop (i + 1) s) d
 
+-- A line end is white space.
+ends-white : (t e r w : Bool) → cond e true r ≡ true → cond t true (cond e true (cond r true w)) ≡ true
+ends-white true e r w h = refl
+ends-white false true r w h = refl
+ends-white false false r w h = ap (λ (z : Bool). cond z true w) h
+
+module _ (s : List ℕ) (i : ℕ) (h : i < length s) where
+  -- One byte more of white space or of a comment.
+  skip-by : (inside : Bool) (m : ℕ) → passed inside (getD s i 0) ≡ 1 + m → skipped inside (drop i s) ≡ 1 + skipped (eqb (1 + m) 2) (drop (i + 1) s)
+  skip-by inside m e = skip-on s i inside h (λ z. omega (arith, e, z)) ∙ ap (λ (n : ℕ). 1 + skipped (eqb n 2) (drop (i + 1) s)) e
+
+  pub white-on : white (getD s i 0) ≡ true → skipped false (drop i s) ≡ 1 + skipped false (drop (i + 1) s)
+  white-on e = skip-by false 0 (ap (λ (t : Bool). cond t 1 (cond (eqb (getD s i 0) 59) 2 0)) e)
+
+  pub comment-on : line-end (getD s i 0) ≡ false → skipped true (drop i s) ≡ 1 + skipped true (drop (i + 1) s)
+  comment-on e = skip-by true 1 (ap (λ (t : Bool). cond t 1 2) e)
+
+  -- What is skipped is the same inside the comment and outside it, where a comment ends and where one begins.
+  pub comment-stop : line-end (getD s i 0) ≡ true → skipped true (drop i s) ≡ skipped false (drop i s)
+  comment-stop e =
+      skip-by true 0 (ap (λ (t : Bool). cond t 1 2) e)
+      ∙ sym (white-on (ends-white (eqb (getD s i 0) 9) (eqb (getD s i 0) 10) (eqb (getD s i 0) 13) (eqb (getD s i 0) 32) e))
+
+  pub comment-start : getD s i 0 ≡ 59 → skipped true (drop i s) ≡ skipped false (drop i s)
+  comment-start e = skip-by true 1 (ap (passed true) e) ∙ sym (skip-by false 1 (ap (passed false) e))
+
 pub whole-stop : (p b : ℕ) (l : List ℕ) → class b ≤ 4 → whole p (b ∷ l) ≡ p
 unfolding whole
 whole-stop p b l h = ap (λ (t : Bool). cond t p (whole (grown p (class b)) l)) (le-leb (class b) 4 h)

@@ -1,10 +1,8 @@
 // Tokens of a script, found from a place in its bytes; words compared; numerals read.
 ghost use mathlib.Core.Path.{_≡_};
-ghost use Prim.Native.Nat.{_+_, _-_, _<_, _≤_};
-ghost use mathlib.Core.Bool.{cond};
-ghost use lib.Dec.{eqb};
-ghost use lib.ListN.{length};
-ghost use Rattle.text.specs.Lexicon.{class, white, grown, kind, piece-at, token-at, bytes, same-bytes, cut, number, line-end, start};
+ghost use Prim.Native.Nat.{_-_, _<_, _≤_};
+ghost use lib.ListN.{length, getD};
+ghost use Rattle.text.specs.Lexicon.{class, grown, kind, piece-at, token-at, bytes, same-bytes, cut, number, line-end, start};
 ghost use Rattle.text.specs.Table.{TABLE};
 
 pub mod table;
@@ -50,8 +48,8 @@ fn grow(tab: &[u8; PLACES], p: u8, k: u8) -> u8
     ensures { λ r. ⌜ (r ≡ grown p k) × (r < 16) ⌝ }
 {
     // A symbol that goes on with a letter stays one: the common case, told without waiting for the table.
-    if p == 10 {
-        if 11 < k {
+    if 11 < k {
+        if p == 10 {
             return 10;
         }
     }
@@ -74,61 +72,36 @@ fn ends_line(b: u8) -> bool
     b == 10 || b == 13
 }
 
-// What a byte is to white space and comments, where inside says whether it stands in a comment: 0, it is past them; 1, the next byte stands
-// outside comments; 2, the next byte stands in a comment.
-fn passing(tab: &[u8; PLACES], inside: bool, b: u8) -> u8
-    requires { ⌜ now tab ≡ TABLE ⌝ }
-    ensures { λ r. ⌜ r ≡ cond inside (cond (line-end b) 1 2) (cond (white b) 1 (cond (eqb b 59) 2 0)) ⌝ }
-{
-    if inside {
-        if ends_line(b) {
-            return 1;
-        }
-        return 2;
-    }
-    let k = class_of(tab, b);
-    if k == 0 {
-        return 1;
-    }
-    if k == 3 {
-        return 2;
-    }
-    0
-}
-
-// Where the white space and the comments end that stand at place at.
-fn skip(s: &[u8], tab: &[u8; PLACES], at: usize) -> usize
-    requires { ⌜ now tab ≡ TABLE ⌝ }
-    ensures { λ r. ⌜ r ≡ start (now (s .entry)) at ⌝ }
+// Where the comment ends that begins at place at: at a line feed, a carriage return or the end of the text.
+fn comment_end(s: &[u8], at: usize) -> usize
+    requires { ⌜ at < length (now s) ⌝ }
+    requires { ⌜ getD (now s) at 0 ≡ 59 ⌝ }
+    ensures { λ r. ⌜ (at < r) × (start (now (s .entry)) r ≡ start (now (s .entry)) at) ⌝ }
 {
     let mut i = at;
-    let mut inside = false;
     while i < s.len() {
-        let m = passing(tab, inside, s[i]);
-        if m == 0 {
+        if ends_line(s[i]) {
             return i;
         }
-        inside = m == 2;
         i += 1;
     }
     i
 }
 
-// The piece that stands at place f.
-fn piece(s: &[u8], tab: &[u8; PLACES], f: usize) -> Tok
+// The piece that stands at place f, where first is the class of its first byte.
+fn piece(s: &[u8], tab: &[u8; PLACES], f: usize, first: u8) -> Tok
     requires { ⌜ now tab ≡ TABLE ⌝ }
+    requires { ⌜ f < length (now s) ⌝ }
+    requires { ⌜ first ≡ class (getD (now s) f 0) ⌝ }
+    requires { ⌜ 4 < first ⌝ }
     ensures { λ r. ⌜ r ≡ piece-at (now (s .entry)) f ⌝ }
 {
-    let mut i = f;
-    let mut p = 0;
+    let mut i = f + 1;
+    let mut p = grow(tab, 0, first);
     while i < s.len() {
         let k = class_of(tab, s[i]);
         if k <= 4 {
-            return Tok {
-                kind: kind_of(tab, p),
-                from: f,
-                to: i,
-            };
+            break;
         }
         p = grow(tab, p, k);
         i += 1;
@@ -145,37 +118,44 @@ pub fn token(s: &[u8], tab: &[u8; PLACES], at: usize) -> Tok
     requires { ⌜ now tab ≡ TABLE ⌝ }
     ensures { λ r. ⌜ r ≡ token-at (now (s .entry)) at ⌝ }
 {
-    let f = skip(s, tab, at);
-    if s.len() <= f {
-        return Tok {
-            kind: END,
-            from: f,
-            to: f,
-        };
+    let mut i = at;
+    while i < s.len() {
+        let k = class_of(tab, s[i]);
+        if k == 0 {
+            i += 1;
+            continue;
+        }
+        if 4 < k {
+            return piece(s, tab, i, k);
+        }
+        if k == 1 {
+            return Tok {
+                kind: OPEN,
+                from: i,
+                to: i + 1,
+            };
+        }
+        if k == 2 {
+            return Tok {
+                kind: CLOSE,
+                from: i,
+                to: i + 1,
+            };
+        }
+        if k == 4 {
+            return Tok {
+                kind: BAD,
+                from: i,
+                to: i + 1,
+            };
+        }
+        i = comment_end(s, i);
     }
-    let k = class_of(tab, s[f]);
-    if k == 1 {
-        return Tok {
-            kind: OPEN,
-            from: f,
-            to: f + 1,
-        };
+    Tok {
+        kind: END,
+        from: i,
+        to: i,
     }
-    if k == 2 {
-        return Tok {
-            kind: CLOSE,
-            from: f,
-            to: f + 1,
-        };
-    }
-    if k == 4 {
-        return Tok {
-            kind: BAD,
-            from: f,
-            to: f + 1,
-        };
-    }
-    piece(s, tab, f)
 }
 
 // Whether the bytes from place a to place b are the word.

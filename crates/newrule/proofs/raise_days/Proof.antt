@@ -1,11 +1,11 @@
 -- `newrule::raise_days`: what is raised and counted so far is a `Raised`, one step more each turn.
-use Prim.Native.Nat.{_-_, _≤_}
+use Prim.Native.Nat.{_+_, _-_, _^_, _≤_, _<_}
 use mathlib.Core.Path.{_≡_, _∙_}
 use mathlib.Core.Logic.{⊎-elim}
-use lib.ListN.{length-set}
+use lib.ListN.{length, length-set}
 use Rattle.meaning.specs.Tables.{at}
 use Rattle.newrule.specs.Planning.{Raised}
-use Rattle.newrule.proofs.Raising.{raised-none, raised-more, raised-left}
+use Rattle.newrule.proofs.Raising.{raised-none, raised-more, raised-same}
 use borrow.Author.Needs.{needs}
 use native.Mathlib.Omega.{arith}
 use Rattle.newrule.proofs.raise_days.Statement.{statement}
@@ -23,30 +23,31 @@ abbrev μ-loop : tie.MeasureT-loop
 loop-holds : tie.Need-loop-holds Inv-loop μ-loop
 loop-holds c = (omega arith, omega arith, raised-none (c .before .before .args .days .now) (c .before .before .args .gains .now) (c .before .before .args .days .now))
 
+day-at-requires : tie.Need-day-at-requires Inv-loop μ-loop
+day-at-requires c κs = omega (arith, c .before .before .loop .inv .2 .past .same-length, c .before .before .before .before .before .pre .days-room)
+
 mul-gain : tie.Need-mul-gain Inv-loop μ-loop
 mul-gain c = search needs
 
 shared-slice-read-gain : tie.Need-shared-slice-read-gain Inv-loop μ-loop
 shared-slice-read-gain c = search needs
 
-day-at-requires : tie.Need-day-at-requires Inv-loop μ-loop
-day-at-requires c κs = omega (arith, c .before .before .before .before .loop .inv .2 .past .same-length, c .before .before .before .before .before .before .before .pre .days-room)
+-- The day and its gain fit a u32: the day is still the one from before the loop.
+fits : (c : tie.After-shared-slice-known2 Inv-loop μ-loop) → c .before .day-at .result + at (c .before .before .before .before .before .before .before .args .gains .now) (c .before .before .before .before .loop .v) < 2 ^ 32
+fits c =
+    omega (arith, c .before .day-at .ensures, c .before .before .before .before .before .before .before .pre .fits (c .before .before .before .before .loop .v) (omega arith), c .before .before .before .before .loop .inv .2 .past .kept (c .before .before .before .before .loop .v) (omega arith))
 
 add-days : tie.Need-add-days Inv-loop μ-loop
-add-days c =
-    let f = c .before .before .before .before .before .before .before .before .pre .fits (c .before .before .before .before .before .loop .v) (omega arith) in
-    omega (arith, c .day-at .ensures, f, c .before .before .before .before .before .loop .inv .2 .past .kept (c .before .before .before .before .before .loop .v) (omega arith))
+add-days c = omega (arith, fits c)
 
 cast-days : tie.Need-cast-days Inv-loop μ-loop
-cast-days c =
-    let f = c .before .before .before .before .before .before .before .before .pre .fits (c .before .before .before .before .before .loop .v) (omega arith) in
-    omega (arith, c .day-at .ensures, f, c .before .before .before .before .before .loop .inv .2 .past .kept (c .before .before .before .before .before .loop .v) (omega arith))
+cast-days c = omega (arith, fits c)
 
 mul-days : tie.Need-mul-days Inv-loop μ-loop
 mul-days c = search needs
 
 slice-write-days : tie.Need-slice-write-days Inv-loop μ-loop
-slice-write-days c = omega (arith, c .before .before .before .before .before .loop .inv .2 .past .same-length, c .before .before .before .before .before .before .before .before .pre .days-room)
+slice-write-days c = omega (arith, c .before .before .before .before .loop .inv .2 .past .same-length, c .before .before .before .before .before .before .before .pre .days-room)
 
 add-count : tie.Need-add-count Inv-loop μ-loop
 add-count c = search needs
@@ -59,20 +60,17 @@ loop-less c = search needs
 
 loop-again : tie.Need-loop-again Inv-loop μ-loop
 loop-again c =
+    let days = c .before .before .before .before .before .before .before .before .args .days .now in
+    let gains = c .before .before .before .before .before .before .before .before .args .gains .now in
+    let list = c .before .before .before .before .before .loop .days in
+    let v = c .before .before .before .before .before .loop .v in
+    let count = c .before .before .before .before .before .loop .count in
+    let so-far = c .before .before .before .before .before .loop .inv .2 in
+    let place : v < length days = omega (arith, c .before .before .before .before .before .before .before .before .pre .days-room) in
+    let day : c .before .before .day-at .result ≡ at days v = c .before .before .day-at .ensures ∙ so-far .past .kept v (omega arith) in
     ⊎-elim
-    (λ w.
-    let day : w .2 .result ≡ at (c .before .before .before .before .before .before .args .days .now) (c .before .before .before .loop .v) = w .2 .ensures ∙ c .before .before .before .loop .inv .2 .past .kept (c .before .before .before .loop .v) (omega arith) in (
-      omega arith,
-      omega (arith, w .4),
-      rw (w .3, w .4, day)
-          (raised-more (c .before .before .before .before .before .before .args .days .now) (c .before .before .before .before .before .before .args .gains .now) (c .before .before .before .before .before .before .args .days .now) (c .before .before .before .loop .days) (c .before .before .before .loop .v) (c .before .before .before .loop .count)
-          (omega (arith, c .before .before .before .before .before .before .pre .days-room)) (c .before .before .before .loop .inv .2) (omega (arith, w .0 .taken))),
-    ))
-    (λ w. (
-      omega arith,
-      omega (arith, w .2),
-      rw (w .1, w .2) (raised-left (c .before .before .before .before .before .before .args .days .now) (c .before .before .before .before .before .before .args .gains .now) (c .before .before .before .loop .days) (c .before .before .before .loop .v) (c .before .before .before .loop .count) (c .before .before .before .loop .inv .2) (omega (arith, w .0 .left))),
-    ))
+    (λ w. (omega arith, omega (arith, w .1), rw (day, w .1) (raised-more days gains days list v count place so-far (omega (arith, w .0 .taken)))))
+    (λ w. (omega arith, omega (arith, w .1), rw (day, w .1) (raised-same days gains days list v count place so-far (omega (arith, w .0 .left)))))
     (c .if1 .came)
 
 same-length : tie.Need-same-length Inv-loop μ-loop
@@ -90,9 +88,9 @@ raise-days-spec =
     Inv-loop
     μ-loop
     loop-holds
+    day-at-requires
     mul-gain
     shared-slice-read-gain
-    day-at-requires
     add-days
     cast-days
     mul-days

@@ -10,8 +10,8 @@ use Rattle.text.proofs.grow.Tie as tie
 
 returns : tie.Need-returns
 returns c =
-    let is = symbol-stays (c .before .before .args .k) (c .before .before .pre .1 .1) (c .if2 .taken) in
-    (subst (λ (p : ℕ). 10 ≡ grown p (c .before .before .args .k)) (sym (c .before .if1 .taken)) (sym is), omega arith)
+    let is = symbol-stays (c .before .before .args .k) (c .before .before .pre .1 .1) (c .before .if1 .taken) in
+    (subst (λ (p : ℕ). 10 ≡ grown p (c .before .before .args .k)) (sym (c .if2 .taken)) (sym is), omega arith)
 
 mul-result : tie.Need-mul-result
 mul-result c = search needs

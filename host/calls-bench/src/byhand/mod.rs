@@ -5,6 +5,7 @@ mod chains;
 mod sound;
 mod split;
 mod spread;
+mod waiting;
 
 use crate::calls::{Counts, Rule, Tables};
 use chains::Chains;

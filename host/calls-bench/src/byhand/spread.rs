@@ -1,7 +1,8 @@
 //! The least gains that keep the rules: each turn settles the open step of largest gain and relaxes its rules. The open steps with a gain
-//! stand in a list.
+//! wait.
 
 use super::chains::Chains;
+use super::waiting::Waiting;
 use super::{RULES, STEPS};
 
 pub struct Spread<'a> {
@@ -13,53 +14,33 @@ pub struct Spread<'a> {
     pub gains: [i64; STEPS],
     /// The rule that each gain came by.
     by: [u16; STEPS],
-    open: [u16; STEPS],
-    opened: usize,
+    waiting: Waiting,
 }
 
 impl<'a> Spread<'a> {
     pub fn new(days: &'a [u32], ys: &'a [u16], cs: &'a [i32], chains: &'a Chains<RULES>) -> Self {
-        Spread { days, ys, cs, chains, gains: [0; STEPS], by: [0; STEPS], open: [0; STEPS], opened: 0 }
+        Spread { days, ys, cs, chains, gains: [0; STEPS], by: [0; STEPS], waiting: Waiting::new() }
     }
 
     /// Takes all gains away.
     pub fn clear(&mut self) {
         self.gains[..self.days.len()].fill(0);
-        self.opened = 0;
+        self.waiting.clear();
     }
 
     /// Asks for a gain at a step that has none.
     #[inline]
     pub fn ask(&mut self, step: usize, gain: i64) {
         self.gains[step] = gain;
-        self.open[self.opened] = step as u16;
-        self.opened += 1;
+        self.waiting.enter(step, &self.gains);
     }
 
     /// Spreads the gains, until all are settled or the goal has one.
     pub fn run(&mut self, goal: Option<usize>) {
-        while self.opened > 0 && goal.map_or(true, |step| self.gains[step] == 0) {
-            let step = self.settle();
+        while !self.waiting.is_empty() && goal.map_or(true, |step| self.gains[step] == 0) {
+            let step = self.waiting.take(&self.gains);
             self.relax(step);
         }
-    }
-
-    /// Takes a step of largest gain out of the list.
-    #[inline]
-    fn settle(&mut self) -> usize {
-        let open = &mut self.open[..self.opened];
-        let (mut best, mut top) = (0, self.gains[usize::from(open[0])]);
-        for (place, &step) in open.iter().enumerate().skip(1) {
-            let gain = self.gains[usize::from(step)];
-            if gain > top {
-                best = place;
-                top = gain;
-            }
-        }
-        let step = open[best];
-        self.opened -= 1;
-        open[best] = open[self.opened];
-        usize::from(step)
     }
 
     /// Raises the second step of each rule of `x` as far as the rule asks.
@@ -78,6 +59,7 @@ impl<'a> Spread<'a> {
                 self.ask(y, asked);
             } else {
                 self.gains[y] = asked;
+                self.waiting.rise(y, &self.gains);
             }
         }
     }
