@@ -32,6 +32,8 @@ mod sequences;
 mod shapes;
 mod shorten;
 mod spoiling;
+#[path = "../src/tally.rs"]
+mod tally;
 mod tests;
 mod third;
 
@@ -47,10 +49,7 @@ pub struct Options {
 }
 
 fn main() {
-    // Trees of commands are as deep as their text, and so is the stack that drops them.
-    let worker = std::thread::Builder::new().stack_size(256 << 20).spawn(work).expect("a thread");
-    let good = worker.join().unwrap_or(false);
-    std::process::exit(i32::from(!good));
+    tally::conclude(work)
 }
 
 /// Runs all that the options ask for. True where nothing failed.
@@ -76,12 +75,9 @@ fn work() -> bool {
             _ => usage(&word),
         }
     }
-    let tally = tests::all(&options);
-    println!("{} passed, {} failed", tally.passed, tally.failed);
-    tally.failed == 0
+    tests::all(&options).tell()
 }
 
 fn usage(word: &str) -> ! {
-    eprintln!("what is {}? The head of host/calls/main.rs says what can be asked for", word);
-    std::process::exit(2)
+    tally::usage(word, "host/calls/main.rs")
 }

@@ -5,7 +5,7 @@ use crate::compare::Both;
 use crate::engine::Given;
 use crate::sequences::{Kind, Writer};
 use crate::shorten::report;
-use crate::{damage, third, Options};
+use crate::{damage, tally, third, Options};
 use std::collections::BTreeMap;
 
 /// Failures beyond these are counted and not shortened.
@@ -13,30 +13,26 @@ const SHOWN: usize = 5;
 
 #[derive(Default)]
 pub struct Tally {
-    pub passed: usize,
-    pub failed: usize,
+    tests: tally::Tally,
     /// How often each call gave each number.
     seen: BTreeMap<(&'static str, u32), u64>,
 }
 
 impl Tally {
-    /// Counts one test. Where it failed, says why.
     pub fn count(&mut self, name: &str, outcome: Result<(), String>) {
-        match outcome {
-            Ok(()) => self.passed += 1,
-            Err(why) => {
-                self.failed += 1;
-                println!("FAILED: {}\n{}", name, why);
-            }
-        }
+        self.tests.count(name, outcome);
+    }
+
+    pub fn tell(&self) -> bool {
+        self.tests.tell()
     }
 
     /// Counts one sequence, which failed where there is a reason. The first failing ones are made short and printed.
     pub fn count_sequence(&mut self, name: &str, seed: u64, acts: &[Act], failure: Option<String>) {
         match failure {
-            None => self.passed += 1,
-            Some(why) if self.failed < SHOWN => self.count(name, Err(report(seed, acts, &why))),
-            Some(_) => self.failed += 1,
+            None => self.tests.passed += 1,
+            Some(why) if self.tests.failed < SHOWN => self.count(name, Err(report(seed, acts, &why))),
+            Some(_) => self.tests.failed += 1,
         }
     }
 

@@ -25,6 +25,7 @@ mod report;
 #[allow(dead_code, unused_imports)]
 mod script;
 mod shorten;
+mod tally;
 mod tests;
 
 use std::path::PathBuf;
@@ -38,10 +39,7 @@ pub struct Options {
 }
 
 fn main() {
-    // Trees are as deep as their text, and so is the stack that drops them.
-    let worker = std::thread::Builder::new().stack_size(256 << 20).spawn(work).expect("a thread");
-    let good = worker.join().unwrap_or(false);
-    std::process::exit(i32::from(!good));
+    tally::conclude(work)
 }
 
 /// Runs all that the options ask for. True where nothing failed.
@@ -70,12 +68,9 @@ fn work() -> bool {
             _ => usage(&word),
         }
     }
-    let tally = tests::all(&options);
-    println!("{} passed, {} failed", tally.passed, tally.failed);
-    tally.failed == 0
+    tests::all(&options).tell()
 }
 
 fn usage(word: &str) -> ! {
-    eprintln!("what is {}? The head of host/src/main.rs says what can be asked for", word);
-    std::process::exit(2)
+    tally::usage(word, "host/src/main.rs")
 }

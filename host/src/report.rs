@@ -1,26 +1,7 @@
-//! Counting, and showing what failed.
+//! Showing what failed.
 
 use crate::script::{self, Answer};
 use crate::shorten::shorten;
-
-#[derive(Default)]
-pub struct Tally {
-    pub passed: usize,
-    pub failed: usize,
-}
-
-impl Tally {
-    /// Counts one test. Where it failed, says why.
-    pub fn count(&mut self, name: &str, outcome: Result<(), String>) {
-        match outcome {
-            Ok(()) => self.passed += 1,
-            Err(why) => {
-                self.failed += 1;
-                println!("FAILED: {}\n{}", name, why);
-            }
-        }
-    }
-}
 
 /// Whether an answer is the one wanted, and how it differs.
 pub fn same(wanted: &Answer, got: &Result<Answer, String>) -> Result<(), String> {

@@ -2,7 +2,8 @@
 
 use crate::engines::{Engine, Program};
 use crate::generate::Kind;
-use crate::report::{agrees, same, Tally};
+use crate::report::{agrees, same};
+use crate::tally::Tally;
 use crate::script::{self, Answer};
 use crate::{cases, peers, Options};
 use std::collections::BTreeMap;

@@ -9,6 +9,12 @@ ghost use Rattle.carry.specs.Carrying.{lent, Maintained};
 use meaning::Counts;
 use script::Notes;
 
+// One byte more than a script may have, so that a longer one is told.
+const READ: usize = meaning::TEXT + 1;
+
+// The bytes for answers: ROOM for one command's, and as many again as are gathered before they are written out.
+const ANSWERS: usize = meaning::ROOM + 4096;
+
 // Writes the first w bytes to standard output.
 fn show(out: &[u8], w: usize)
     requires { ⌜ w ≤ length (now out) ⌝ }
@@ -82,7 +88,7 @@ fn answer(
     }
 }
 
-// The script on fresh tables: STEPS steps on day 0, no rule and an empty record. 16384 is STEPS times MARKS, 8192 is NAME_BYTES times STEPS, 32768 is ROOM twice.
+// The script on fresh tables: STEPS steps on day 0, no rule and an empty record.
 fn play(s: &[u8]) {
     let tab = text::TABLE;
     let mut xs = [0u16; meaning::RULES];
@@ -95,18 +101,18 @@ fn play(s: &[u8]) {
     let wcs = [0i32; meaning::WATCHED];
     let mut heads = [0u16; meaning::STEPS];
     let mut nexts = [0u16; meaning::RULES];
-    let mut kept = [0u32; 16384];
-    let mut names = [0u8; 8192];
+    let mut kept = [0u32; levels::KEPT];
+    let mut names = [0u8; names::SHELF];
     let mut lens = [0u8; meaning::STEPS];
     let mut hashes = [0u16; meaning::STEPS];
     let mut name_heads = [0u16; names::BUCKETS];
     let mut name_nexts = [0u16; meaning::STEPS];
-    let mut out = [0u8; 32768];
+    let mut out = [0u8; ANSWERS];
     answer(
         s,
         &tab,
         Counts {
-            steps: 256,
+            steps: script::STEPS,
             rules: 0,
             marks: 0,
             watched: 0,
@@ -147,7 +153,7 @@ fn refuse(s: &[u8])
 }
 
 fn main() {
-    let mut text = [0u8; 65537];
+    let mut text = [0u8; READ];
     let n = io::read_full(0, &mut text);
     if n <= meaning::TEXT {
         play(&text[0..n]);

@@ -11,6 +11,9 @@ ghost use Rattle.newrule.specs.Lending.{LentChains};
 ghost use Rattle.levels.specs.Levels.{marked, more-marks, Popped, KeptDays, KeepsDays, Copied};
 use meaning::Counts;
 
+// How long a table is that keeps the days of every open mark: a row of STEPS days for each.
+pub const KEPT: usize = meaning::STEPS * meaning::MARKS;
+
 // Copies n days, from place a of one list on to place b of the other on.
 fn copy_days(n: usize, from: &[u32], a: usize, to: &mut [u32], b: usize)
     requires { ⌜ a + n ≤ length (now from) ⌝ }

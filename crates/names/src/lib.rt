@@ -10,6 +10,9 @@ ghost use Rattle.names.specs.Names.{name-at, hash, Shelved, IndexRoom, I
 // How many chains the index has.
 pub const BUCKETS: usize = 256;
 
+// How many bytes all names have: NAME_BYTES for each of STEPS.
+pub const SHELF: usize = meaning::STEPS * meaning::NAME_BYTES;
+
 // The hash of the bytes from place a to place b; of none where b is not past a.
 fn hash_of(s: &[u8], a: usize, b: usize) -> u16
     requires { ⌜ b ≤ length (now s) ⌝ }

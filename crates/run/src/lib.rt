@@ -299,7 +299,7 @@ pub fn advance(
     }
 }
 
-// The script on fresh tables of its own: STEPS steps on day 0, no rule and an empty record. 16384 is STEPS times MARKS, 8192 is NAME_BYTES times STEPS.
+// The script on fresh tables of its own: STEPS steps on day 0, no rule and an empty record.
 fn play_fresh(s: &[u8], out: &mut [u8]) -> Ran
     ensures { λ r. ⌜ PlaysFresh (now (s .entry)) (now (out .entry)) (r .number) (r .written) (now (out .exit)) ⌝ }
 {
@@ -314,8 +314,8 @@ fn play_fresh(s: &[u8], out: &mut [u8]) -> Ran
     let wcs = [0i32; meaning::WATCHED];
     let mut heads = [0u16; meaning::STEPS];
     let mut nexts = [0u16; meaning::RULES];
-    let mut kept = [0u32; 16384];
-    let mut names = [0u8; 8192];
+    let mut kept = [0u32; levels::KEPT];
+    let mut names = [0u8; names::SHELF];
     let mut lens = [0u8; meaning::STEPS];
     let mut hashes = [0u16; meaning::STEPS];
     let mut name_heads = [0u16; names::BUCKETS];
@@ -325,7 +325,7 @@ fn play_fresh(s: &[u8], out: &mut [u8]) -> Ran
         &tab,
         0,
         Counts {
-            steps: 256,
+            steps: script::STEPS,
             rules: 0,
             marks: 0,
             watched: 0,

@@ -2,6 +2,9 @@
 use meaning::Answer;
 use meaning::Counts;
 
+// A script has this many steps, as many as there can be.
+pub const STEPS: u32 = meaning::STEPS as u32;
+
 // The script's record: how many names are declared, whether the logic is set, the contradictory level counted from 1 (0 where there is none), and whether
 // the last check-sat printed sat and only get-value and unsupported commands came since.
 pub struct Notes {

@@ -80,7 +80,7 @@ pub fn start(
     inside::clear_days(meaning::STEPS, days);
     ScriptReply {
         counts: Counts {
-            steps: 256,
+            steps: script::STEPS,
             rules: 0,
             marks: 0,
             watched: 0,
@@ -154,10 +154,10 @@ fn names_fine(n: usize, names: &[u8], lens: &[u8], tab: &[u8; text::PLACES]) -> 
 fn notes_fine(counts: Counts, notes: Notes) -> bool
     ensures { λ r. ⌜ Decides r (NotesFine counts notes) ⌝ }
 {
-    if counts.steps != 256 {
+    if counts.steps != script::STEPS {
         return false;
     }
-    if 256 < notes.names {
+    if script::STEPS < notes.names {
         return false;
     }
     if counts.marks as u64 + 1 < notes.broken as u64 {

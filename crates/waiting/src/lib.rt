@@ -8,7 +8,7 @@ ghost use Rattle.meaning.specs.Tables.{at};
 ghost use Rattle.waiting.specs.Waiting.{Room, Searchable, LargestIn, Leadable, Promoted, LedBut, Led, New, Entered, Regroupable, Regrouped, Taken};
 
 // How many leaders there are: one for each sixteen of STEPS places.
-pub const GROUPS: usize = 16;
+pub const GROUPS: usize = (meaning::STEPS + 15) / 16;
 
 // The gain of step v.
 pub fn gain_at(gains: &[u64], v: usize) -> u64

@@ -62,7 +62,7 @@ slice-aggregate-answer-17 c = search needs
 
 answer-requires : tie.Need-answer-requires
 unfolding TABLE
-answer-requires c κs = (refl, (fresh-tables (zeros 32768), omega (arith, length-replicate {A = ℕ} 32768 0)))
+answer-requires c κs = (refl, (fresh-tables (zeros 20480), omega (arith, length-replicate {A = ℕ} 20480 0)))
 
 returns : tie.Need-returns
 returns c = search needs

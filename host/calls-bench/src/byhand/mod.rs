@@ -134,10 +134,15 @@ fn plan_afresh(steps: usize, rules: usize, t: &mut Tables) {
     }
 }
 
+/// What the days lack for a rule; 0 or less where they keep it.
+fn lack(days: &[u32], rule: Rule) -> i64 {
+    i64::from(days[usize::from(rule.first)]) - i64::from(rule.amount) - i64::from(days[usize::from(rule.second)])
+}
+
 /// Spreads what the days lack for a rule. True where the rule fits; else the gain has reached its first step.
 fn fits(spread: &mut Spread, rule: Rule) -> bool {
     let (x, y) = (usize::from(rule.first), usize::from(rule.second));
-    let lack = i64::from(spread.days[x]) - i64::from(rule.amount) - i64::from(spread.days[y]);
+    let lack = lack(spread.days, rule);
     if lack > 0 {
         spread.ask(y, lack);
         spread.run(Some(x));
@@ -158,16 +163,16 @@ fn try_add(counts: &mut Counts, t: &mut Tables, list: &mut [u32], rule: Rule, va
     test(counts, t, &mut chains)?;
     test_rule(counts, rule, counts.rules, RULES)?;
     let steps = counts.steps as usize;
-    let mut spread = Spread::new(&t.days[..steps], t.ys, t.cs, &chains);
-    if !fits(&mut spread, rule) {
-        *value = spread.ring(t.xs, rule.first.into(), rule.second.into(), counts.rules, list) as u32;
-        return Err(CONFLICT);
-    }
-    let gains = spread.gains;
-    for (day, &gain) in t.days[..steps].iter_mut().zip(&gains) {
-        if gain > 0 {
+    if lack(t.days, rule) > 0 {
+        let mut spread = Spread::new(&t.days[..steps], t.ys, t.cs, &chains);
+        if !fits(&mut spread, rule) {
+            *value = spread.ring(t.xs, rule.first.into(), rule.second.into(), counts.rules, list) as u32;
+            return Err(CONFLICT);
+        }
+        let gains = spread.gains;
+        for (day, &gain) in t.days[..steps].iter_mut().zip(&gains) {
             *day += gain as u32;
-            *value += 1;
+            *value += u32::from(gain > 0);
         }
     }
     let at = counts.rules as usize;
