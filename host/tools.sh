@@ -23,10 +23,12 @@ get_packages() { # PACKAGE..
     say "installing $*"
     local log=target/host/install.log
     mkdir -p target/host
-    if [ -z "${updated:-}" ]; then
-        if [[ " $* " == *:amd64* ]]; then dpkg --add-architecture amd64 >>"$log" 2>&1; fi
+    local lists=own
+    [[ " $* " != *:amd64* ]] || lists=both
+    if [ "${updated:-}" != both ] && [ "${updated:-}" != "$lists" ]; then
+        if [ "$lists" = both ]; then dpkg --add-architecture amd64 >>"$log" 2>&1; fi
         apt-get update >>"$log" 2>&1 || say "apt-get update failed; trying with the lists that are there"
-        [[ " $* " != *:amd64* ]] || updated=yes
+        updated=$lists
     fi
     DEBIAN_FRONTEND=noninteractive apt-get install -y --no-install-recommends "$@" >>"$log" 2>&1 ||
         { say "apt-get could not install $*; the end of $log:"; tail -n 3 "$log"; return 1; }
