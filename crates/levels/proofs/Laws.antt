@@ -1,12 +1,12 @@
 -- What levels do to sound tables and to the days that are kept: for whoever keeps both from command to command.
-use Prim.Native.Nat.{ℕ, zero, suc, _+_, _*_, _-_, _≤_, _<_}
+use Prim.Native.Nat.{ℕ, zero, suc, _+_, _-_, _≤_, _<_}
 use native.Mathlib.Omega.{arith}
 use mathlib.Core.Path.{_≡_, refl, sym, _∙_, ap, subst}
 use mathlib.Core.List.{List}
 use lib.ListN.{set}
 use lib.IntN.{ℤ}
 use Rattle.meaning.specs.declared.Counts.{Counts}
-use Rattle.meaning.specs.Bounds.{STEPS, MARKS, DONE}
+use Rattle.meaning.specs.Bounds.{MARKS, DONE}
 use Rattle.meaning.specs.Rules.{Rule, Earliest}
 use Rattle.meaning.specs.Tables.{Tables, at, Sound, with-rule, with-mark, with-days}
 use Rattle.meaning.specs.Promise.{Given, Planned}
@@ -19,7 +19,7 @@ use Rattle.meaning.proofs.Put.{put-old}
 use Rattle.meaning.proofs.Sequences.{Kept, call-keeps}
 use Rattle.leaf.specs.Lent.{tables}
 use Rattle.leaf.specs.Promises.{Border}
-use Rattle.levels.specs.Levels.{with-marks, marked, more-marks, fewer-marks, without-marks, Popped, KeptDays}
+use Rattle.levels.specs.Levels.{with-marks, marked, more-marks, fewer-marks, without-marks, row-of, Popped, KeptDays}
 
 -- ---- marks set
 
@@ -174,7 +174,7 @@ popped-border (suc n) {t} {u} b some p =
 module _ {steps base marks-open : ℕ} {kept : List ℕ} where
   -- What is kept of the open marks is kept of fewer.
   pub kept-fewer : {R : ℕ → Rule} {marks : List ℕ} {fewer : ℕ} → fewer ≤ marks-open → KeptDays R steps base marks-open marks kept → KeptDays R steps base fewer marks kept
-  kept-fewer few k = record { kept-room = k .kept-room; kept-earliest = λ j based j-in. k .kept-earliest j based (omega arith) }
+  kept-fewer few k = record { kept-earliest = λ j held j-in. k .kept-earliest j held (omega arith) }
 
   -- Only the open marks and the rules below them count.
   pub kept-same :
@@ -182,10 +182,9 @@ module _ {steps base marks-open : ℕ} {kept : List ℕ} where
       ((k i : ℕ) → base ≤ k → k < marks-open → i < at marks k → R i ≡ R′ i) →
       KeptDays R steps base marks-open marks kept → KeptDays R′ steps base marks-open marks′ kept
   kept-same {R} {R′} {marks} {marks′} same-marks same-rules k = record {
-    kept-room = k .kept-room;
-    kept-earliest = λ j based j-in.
-        subst (λ (m : ℕ). Earliest steps R′ (λ i. i < m) (λ v. at kept (STEPS * j + v))) (same-marks j based j-in)
-        (earliest-same {H = λ i. i < at marks j} {G = λ i. i < at marks j} (λ i i-in. i-in) (λ i i-in. i-in) (λ i i-in. same-rules j i based j-in i-in) (k .kept-earliest j based j-in));
+    kept-earliest = λ j held j-in.
+        subst (λ (m : ℕ). Earliest steps R′ (λ i. i < m) (λ v. at kept (row-of j + v))) (same-marks j (held .has-row .from-base) j-in)
+        (earliest-same {H = λ i. i < at marks j} {G = λ i. i < at marks j} (λ i i-in. i-in) (λ i i-in. i-in) (λ i i-in. same-rules j i (held .has-row .from-base) j-in i-in) (k .kept-earliest j held j-in));
   }
 
 -- A rule that is written after those held changes no days kept.

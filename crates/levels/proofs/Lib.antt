@@ -1,5 +1,6 @@
 -- Laws of the levels of a script.
 pub mod Copying
+pub mod Filing
 pub mod Pushing
 pub mod Dropping
 pub mod Popping

@@ -1,5 +1,5 @@
 -- Setting marks one by one: what the marks then hold, and which days are kept.
-use Prim.Native.Nat.{ℕ, zero, suc, _+_, _*_, _-_, _≤_, _<_}
+use Prim.Native.Nat.{ℕ, zero, suc, _+_, _-_, _≤_, _<_}
 use native.Mathlib.Omega.{arith}
 use native.Mathlib.Decide.{ℕ-discrete, decLt}
 use mathlib.Core.Path.{_≡_, refl, sym, _∙_, ap, subst}
@@ -11,7 +11,8 @@ use Rattle.meaning.specs.Bounds.{STEPS, MARKS}
 use Rattle.meaning.specs.Rules.{Earliest}
 use Rattle.meaning.specs.Tables.{rule-at, at}
 use Rattle.meaning.proofs.Theory.{earliest-ext}
-use Rattle.levels.specs.Levels.{marked, more-marks, KeepsDays, Copied}
+use Rattle.levels.specs.Levels.{marked, more-marks, row-of, HasRow, Holds, KeepsDays, Filed}
+use Rattle.levels.proofs.Filing.{held-before, days-before}
 
 -- Marks that are set keep the length of their list.
 pub marked-length : (n r k : ℕ) (marks : List ℕ) → length (marked n r k marks) ≡ length marks
@@ -53,48 +54,52 @@ pub marked-end : {n : ℕ} (r k : ℕ) (marks : List ℕ) → n ≡ 0 → marked
 unfolding marked
 marked-end r k marks e = ap (λ (x : ℕ). marked x r k marks) e
 
--- Of the marks from first up to k the days are kept, and those kept of older marks stay.
+-- Where a row names one of the marks from first up to k, it holds the days; where it names an older mark, it did so before and its days stayed.
 pub record KeptFrom (steps base first k : ℕ) (days kept kept′ : List ℕ) : Type 0 where
   pub same-length : length kept′ ≡ length kept
-  pub older : (j v : ℕ) → j < first → v < STEPS → at kept′ (STEPS * j + v) ≡ at kept (STEPS * j + v)
-  pub newer : (j v : ℕ) → base ≤ j → first ≤ j → j < k → v < steps → at kept′ (STEPS * j + v) ≡ at days v
+  pub older-held : (j : ℕ) → j < first → Holds base j kept′ → Holds base j kept
+  pub older : (j v : ℕ) → j < first → Holds base j kept′ → v < STEPS → at kept′ (row-of j + v) ≡ at kept (row-of j + v)
+  pub newer : (j v : ℕ) → first ≤ j → j < k → Holds base j kept′ → v < steps → at kept′ (row-of j + v) ≡ at days v
 
--- Before the first of them nothing is kept.
+-- Before the first of them every row is as it was.
 pub kept-none : (steps base first : ℕ) (days kept : List ℕ) → KeptFrom steps base first first days kept kept
-kept-none steps base first days kept = record { same-length = refl; older = λ j v j-in v-in. refl; newer = λ j v based from j-in v-in. absurd (omega arith) }
+kept-none steps base first days kept =
+    record { same-length = refl; older-held = λ j j-in held. held; older = λ j v j-in held v-in. refl; newer = λ j v from j-in held v-in. absurd (omega arith) }
 
 module _ {steps base first k : ℕ} {days kept kept′ : List ℕ} (passed : KeptFrom steps base first k days kept kept′) where
-  -- The days of a mark below base are not kept.
-  pub kept-skip : k < base → KeptFrom steps base first (k + 1) days kept kept′
-  kept-skip skipped = record {
+  -- A mark without a row is named by none.
+  pub kept-skip : (HasRow base k (length kept′) → ⊥) → KeptFrom steps base first (k + 1) days kept kept′
+  kept-skip no-row = record {
     same-length = passed .same-length;
+    older-held = passed .older-held;
     older = passed .older;
-    newer = λ j v based from j-in v-in. passed .newer j v based from (omega arith) v-in;
-  }
-
-  -- The days of one mark more are kept.
-  pub kept-more : {kept″ : List ℕ} → first ≤ k → steps ≤ STEPS → Copied steps days 0 kept′ (STEPS * k) kept″ → KeptFrom steps base first (k + 1) days kept kept″
-  kept-more {kept″} from-first few copy = record {
-    same-length = copy .same-length ∙ passed .same-length;
-    older = λ j v j-in v-in. copy .below (STEPS * j + v) (omega arith) ∙ passed .older j v j-in v-in;
-    newer = λ j v based from j-in v-in. told j v based from j-in v-in (ℕ-discrete j k);
+    newer = λ j v from j-in held v-in. told j v from j-in held v-in (ℕ-discrete j k);
   }
     where
-      told : (j v : ℕ) → base ≤ j → first ≤ j → j < k + 1 → v < steps → Dec (j ≡ k) → at kept″ (STEPS * j + v) ≡ at days v
-      told j v based from j-in v-in (yes e) = ap (λ (x : ℕ). at kept″ (STEPS * x + v)) e ∙ copy .copied v v-in ∙ ap (at days) from-0
-        where
-          from-0 : 0 + v ≡ v
-          from-0 = omega arith
-      told j v based from j-in v-in (no e) = copy .below (STEPS * j + v) (omega arith) ∙ passed .newer j v based from (omega arith) v-in
+      told : (j v : ℕ) → first ≤ j → j < k + 1 → Holds base j kept′ → v < steps → Dec (j ≡ k) → at kept′ (row-of j + v) ≡ at days v
+      told j v from j-in held v-in (yes e) = absurd (no-row (subst (λ (x : ℕ). HasRow base x (length kept′)) e (held .has-row)))
+      told j v from j-in held v-in (no e) = passed .newer j v from (omega arith) held v-in
 
--- Once the days of n new marks are kept, those of all open marks are.
+  -- The days of one mark more are kept; the mark that had its row before is named no longer.
+  pub kept-more : {kept″ : List ℕ} → first ≤ k → steps ≤ STEPS → Filed steps days k kept′ kept″ → KeptFrom steps base first (k + 1) days kept kept″
+  kept-more {kept″} from-first few f = record {
+    same-length = f .same-length ∙ passed .same-length;
+    older-held = λ j j-in held. passed .older-held j j-in (held-before f j (λ e. omega arith) held);
+    older = λ j v j-in held v-in. days-before f j (λ e. omega arith) held v v-in ∙ passed .older j v j-in (held-before f j (λ e. omega arith) held) v-in;
+    newer = λ j v from j-in held v-in. told j v from j-in held v-in (ℕ-discrete j k);
+  }
+    where
+      told : (j v : ℕ) → first ≤ j → j < k + 1 → Holds base j kept″ → v < steps → Dec (j ≡ k) → at kept″ (row-of j + v) ≡ at days v
+      told j v from j-in held v-in (yes e) = ap (λ (x : ℕ). at kept″ (row-of x + v)) e ∙ f .filed v v-in
+      told j v from j-in held v-in (no e) = days-before f j e held v (omega arith) ∙ passed .newer j v from (omega arith) (held-before f j e held) v-in
+
+-- Once n new marks are passed, the row of each open mark that it names holds its days.
 pub keeps-days :
     (n : ℕ) {c : Counts} {base : ℕ} {days marks kept kept′ : List ℕ} → MARKS ≤ length marks → c .marks + n ≤ MARKS →
     KeptFrom (c .steps) base (c .marks) (c .marks + n) days kept kept′ →
     KeepsDays c base days marks kept (more-marks n c) (marked n (c .rules) (c .marks) marks) kept′
 keeps-days n {c} {base} {days} {marks} {kept} {kept′} room few passed rules watched sound before = record {
-  kept-room = λ k based k-in. omega (arith, before .kept-room k based k-in, passed .same-length);
-  kept-earliest = λ k based k-in. told k based k-in (decLt k (c .marks));
+  kept-earliest = λ k held k-in. told k held k-in (decLt k (c .marks));
 }
   where
     plan : (k : ℕ) → (ℕ → ℕ) → Type 0
@@ -107,15 +112,15 @@ keeps-days n {c} {base} {days} {marks} {kept} {kept′} room few passed rules wa
     same-plan : (m : ℕ) (p q : ℕ → ℕ) → m ≤ c .rules → ((v : ℕ) → v < c .steps → p v ≡ q v) → plan m p → plan m q
     same-plan m p q held = earliest-ext (c .steps) (rule-at rules) (λ i. i < m) p q (λ i i-in. sound .rules-good i (omega arith) .steps-in)
 
-    told : (k : ℕ) → base ≤ k → k < c .marks + n → Dec (k < c .marks) → plan (at marks′ k) (λ v. at kept′ (STEPS * k + v))
-    told k based k-in (yes older) =
-        subst (λ (m : ℕ). plan m (λ v. at kept′ (STEPS * k + v))) (sym (marked-old n (c .rules) (c .marks) marks k older))
-        (same-plan (at marks k) (λ v. at kept (STEPS * k + v)) (λ v. at kept′ (STEPS * k + v)) (sound .marks-held k older)
-        (λ v v-in. sym (passed .older k v older (omega (arith, sound .counts-in .steps-in)))) (before .kept-earliest k based older))
-    told k based k-in (no newer) =
-        subst (λ (m : ℕ). plan m (λ v. at kept′ (STEPS * k + v))) (sym (marked-new n (c .rules) (c .marks) marks k (omega arith) k-in (omega arith)))
-        (same-plan (c .rules) (at days) (λ v. at kept′ (STEPS * k + v)) (omega arith)
-        (λ v v-in. sym (passed .newer k v based (omega arith) k-in v-in)) (sound .days-earliest))
+    told : (k : ℕ) → Holds base k kept′ → k < c .marks + n → Dec (k < c .marks) → plan (at marks′ k) (λ v. at kept′ (row-of k + v))
+    told k held k-in (yes older) =
+        subst (λ (m : ℕ). plan m (λ v. at kept′ (row-of k + v))) (sym (marked-old n (c .rules) (c .marks) marks k older))
+        (same-plan (at marks k) (λ v. at kept (row-of k + v)) (λ v. at kept′ (row-of k + v)) (sound .marks-held k older)
+        (λ v v-in. sym (passed .older k v older held (omega (arith, sound .counts-in .steps-in)))) (before .kept-earliest k (passed .older-held k older held) older))
+    told k held k-in (no newer) =
+        subst (λ (m : ℕ). plan m (λ v. at kept′ (row-of k + v))) (sym (marked-new n (c .rules) (c .marks) marks k (omega arith) k-in (omega arith)))
+        (same-plan (c .rules) (at days) (λ v. at kept′ (row-of k + v)) (omega arith)
+        (λ v v-in. sym (passed .newer k v (omega arith) k-in held v-in)) (sound .days-earliest))
 
 -- No mark is left to be set: all are as they should be, and so are the days kept.
 pub pushed :

@@ -1,10 +1,10 @@
 -- Levels of a script: several marks set or dropped at once, and the days that are kept of open marks.
-use Prim.Native.Nat.{ℕ, zero, suc, _+_, _*_, _-_, _≤_, _<_}
+use Prim.Native.Nat.{ℕ, zero, suc, _+_, _*_, _-_, _%_, _≤_, _<_}
 use mathlib.Core.Path.{_≡_}
 use mathlib.Core.List.{List}
 use lib.ListN.{length, set}
 use Rattle.meaning.specs.declared.Counts.{Counts}
-use Rattle.meaning.specs.Bounds.{STEPS, MARKS}
+use Rattle.meaning.specs.Bounds.{STEPS}
 use Rattle.meaning.specs.Rules.{Rule, Earliest}
 use Rattle.meaning.specs.Tables.{Columns, Tables, rule-at, at, Sound, with-mark, without-mark, with-days}
 use Rattle.meaning.specs.Promise.{Planned}
@@ -43,10 +43,31 @@ pub record Popped (n : ℕ) (before after : Tables) : Type 0 where
   pub dropped : after ≡ with-days (after .days) (without-marks n before)
   pub planned : Planned (before .counts .steps) (rules-of before) (held-in (without-marks n before)) (before .days) (after .days)
 
--- The days kept of each of the open marks from place base on are the earliest plan of the rules held when it was set.
+-- Kept days stand in so many rows, which the marks use in turn.
+abbrev pub ROWS : ℕ
+ROWS = 16
+
+-- A row has STEPS days and one place more, which names the mark whose days they are.
+abbrev pub ROW : ℕ
+ROW = STEPS + 1
+
+-- Where the row of the mark at place k begins. The mark that is ROWS places later has the same row.
+abbrev pub row-of : ℕ → ℕ
+row-of k = ROW * (k % ROWS)
+
+-- The mark at place k is at place base or later, and its row is within a table with so many places.
+pub record HasRow (base k room : ℕ) : Type 0 where
+  pub from-base : base ≤ k
+  pub row-room : row-of k + STEPS < room
+
+-- The mark at place k has a row, and the row names it: after the days stands k + 1, so that 0 names no mark.
+pub record Holds (base k : ℕ) (kept : List ℕ) : Type 0 where
+  pub has-row : HasRow base k (length kept)
+  pub named : at kept (row-of k + STEPS) ≡ k + 1
+
+-- Where the row of an open mark names it, the days in the row are the earliest plan of the rules held when the mark was set. A row that names no open mark tells nothing.
 pub record KeptDays (R : ℕ → Rule) (steps base open-marks : ℕ) (marks kept : List ℕ) : Type 0 where
-  pub kept-room : (k : ℕ) → base ≤ k → k < MARKS → STEPS * k + STEPS ≤ length kept
-  pub kept-earliest : (k : ℕ) → base ≤ k → k < open-marks → Earliest steps R (λ i. i < at marks k) (λ v. at kept (STEPS * k + v))
+  pub kept-earliest : (k : ℕ) → Holds base k kept → k < open-marks → Earliest steps R (λ i. i < at marks k) (λ v. at kept (row-of k + v))
 
 -- Whatever rules the tables were sound with: where the days of the marks then open were kept, those of the marks now open are kept.
 abbrev pub KeepsDays : Counts → (base : ℕ) (days marks kept : List ℕ) → Counts → (marks′ kept′ : List ℕ) → Type 0
@@ -60,3 +81,11 @@ pub record Copied (n : ℕ) (from : List ℕ) (a : ℕ) (to : List ℕ) (b : ℕ
   pub copied : (v : ℕ) → v < n → at to′ (b + v) ≡ at from (a + v)
   pub below : (i : ℕ) → i < b → at to′ i ≡ at to i
   pub above : (i : ℕ) → b + n ≤ i → at to′ i ≡ at to i
+
+-- n days were written to the row of the mark at place k, and the row names that mark; what is outside the row is as before.
+pub record Filed (n : ℕ) (days : List ℕ) (k : ℕ) (kept kept′ : List ℕ) : Type 0 where
+  pub same-length : length kept′ ≡ length kept
+  pub filed : (v : ℕ) → v < n → at kept′ (row-of k + v) ≡ at days v
+  pub names : at kept′ (row-of k + STEPS) ≡ k + 1
+  pub below : (i : ℕ) → i < row-of k → at kept′ i ≡ at kept i
+  pub above : (i : ℕ) → row-of k + STEPS < i → at kept′ i ≡ at kept i

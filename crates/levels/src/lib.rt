@@ -1,4 +1,5 @@
 // Levels of a script: setting and dropping several marks at once. Where the days of an open mark are kept a pop copies them, else it plans afresh.
+// A table of kept days has ROWS rows, which the marks use in turn: mark k has row k % ROWS, and a later mark takes it over.
 ghost use mathlib.Core.Path.{_≡_};
 ghost use Prim.Native.Nat.{ℕ, _+_, _-_, _*_, _≤_, _<_};
 ghost use lib.ListN.{length};
@@ -7,12 +8,47 @@ ghost use Rattle.meaning.specs.Tables.{at, rule-at};
 ghost use Rattle.meaning.specs.Promise.{Planned};
 ghost use Rattle.leaf.specs.Lent.{columns, tables};
 ghost use Rattle.leaf.specs.Promises.{Border};
+ghost use Rattle.leaf.specs.Decides.{Decides};
 ghost use Rattle.newrule.specs.Lending.{LentChains};
-ghost use Rattle.levels.specs.Levels.{marked, more-marks, Popped, KeptDays, KeepsDays, Copied};
+ghost use Rattle.levels.specs.Levels.{marked, more-marks, row-of, Popped, HasRow, Holds, KeptDays, KeepsDays, Copied, Filed};
 use meaning::Counts;
 
-// How long a table is that keeps the days of every open mark: a row of STEPS days for each.
-pub const KEPT: usize = meaning::STEPS * meaning::MARKS;
+// So many rows of kept days are used in turn.
+pub const ROWS: usize = 16;
+
+// A row has STEPS days and one place more, for the mark whose days they are: k + 1 names mark k, and 0 none.
+pub const ROW: usize = meaning::STEPS + 1;
+
+// The length of the table of kept days beside fresh tables.
+pub const KEPT: usize = ROWS * ROW;
+
+// Where the row of mark k begins.
+fn row_of(k: usize) -> usize
+    ensures { λ r. ⌜ r ≡ row-of k ⌝ }
+{
+    ROW * (k % ROWS)
+}
+
+// Whether mark k is at place base or later and has its row in a table with so many places.
+fn has_row(base: usize, k: usize, room: usize) -> bool
+    ensures { λ r. ⌜ Decides r (HasRow base k room) ⌝ }
+{
+    if k < base {
+        return false;
+    }
+    row_of(k) + meaning::STEPS < room
+}
+
+// Whether the days of mark k are kept: it has a row, which names it.
+fn holds(base: usize, k: usize, kept: &[u32]) -> bool
+    requires { ⌜ k < MARKS ⌝ }
+    ensures { λ r. ⌜ Decides r (Holds base k (now (kept .entry))) ⌝ }
+{
+    if has_row(base, k, kept.len()) {
+        return kept[row_of(k) + meaning::STEPS] == (k + 1) as u32;
+    }
+    false
+}
 
 // Copies n days, from place a of one list on to place b of the other on.
 fn copy_days(n: usize, from: &[u32], a: usize, to: &mut [u32], b: usize)
@@ -25,7 +61,20 @@ fn copy_days(n: usize, from: &[u32], a: usize, to: &mut [u32], b: usize)
     }
 }
 
-// Sets n marks. The days of the marks from place base on are kept.
+// Keeps n days in the row of mark k, and names the mark there.
+fn keep_days(n: usize, days: &[u32], kept: &mut [u32], k: usize)
+    requires { ⌜ n ≤ STEPS ⌝ }
+    requires { ⌜ STEPS ≤ length (now days) ⌝ }
+    requires { ⌜ k < MARKS ⌝ }
+    requires { ⌜ row-of k + STEPS < length (now kept) ⌝ }
+    ensures { λ _. ⌜ Filed n (now (days .entry)) k (now (kept .entry)) (now (kept .exit)) ⌝ }
+{
+    let row = row_of(k);
+    copy_days(n, days, 0, kept, row);
+    kept[row + meaning::STEPS] = (k + 1) as u32;
+}
+
+// Sets n marks. The days of those from place base on that have a row are kept there.
 pub fn push(
     counts: Counts,
     days: &[u32],
@@ -38,7 +87,6 @@ pub fn push(
     requires { ⌜ STEPS ≤ length (now days) ⌝ }
     requires { ⌜ MARKS ≤ length (now marks) ⌝ }
     requires { ⌜ counts .marks + n ≤ MARKS ⌝ }
-    requires { ⌜ ((k : ℕ) → base ≤ k → k < MARKS → STEPS * k + STEPS ≤ length (now kept)) ⌝ }
     ensures { λ r. ⌜ r ≡ more-marks n counts ⌝ }
     ensures { λ r. ⌜ now (marks .exit) ≡ marked n (counts .rules) (counts .marks) (now (marks .entry)) ⌝ }
     ensures { λ r. ⌜ KeepsDays counts base (now (days .entry)) (now (marks .entry)) (now (kept .entry)) r (now (marks .exit)) (now (kept .exit)) ⌝ }
@@ -47,8 +95,8 @@ pub fn push(
     let steps = counts.steps as usize;
     for k in first..first + n {
         marks[k] = counts.rules;
-        if base <= k {
-            copy_days(steps, days, 0, kept, meaning::STEPS * k);
+        if has_row(base, k, kept.len()) {
+            keep_days(steps, days, kept, k);
         }
     }
     Counts {
@@ -151,8 +199,8 @@ fn days_at_mark(
         (now (days .entry)) (now (days .exit)) ⌝ }
 {
     let k = counts.marks as usize - 1;
-    if base <= k {
-        copy_days(counts.steps as usize, kept, meaning::STEPS * k, days, 0);
+    if holds(base, k, kept) {
+        copy_days(counts.steps as usize, kept, row_of(k), days, 0);
         return;
     }
     goback::back(counts, xs, ys, cs, days, marks, wxs, wys, wcs);

@@ -1,11 +1,11 @@
 -- Fresh tables are sound: no rule, mark or name is there that could be out of bounds, every chain is empty, and every day is 0.
-use Prim.Native.Nat.{ℕ, _+_, _*_, _≤_, _<_}
+use Prim.Native.Nat.{ℕ, _≤_, _<_}
 use native.Mathlib.Omega.{arith}
 use mathlib.Core.Path.{_≡_, refl}
 use mathlib.Core.Bool.{false}
 use mathlib.Core.List.{List}
 use lib.ListN.{length, replicate, length-replicate, getD-replicate}
-use Rattle.meaning.specs.Bounds.{STEPS, RULES, MARKS, NAME-BYTES}
+use Rattle.meaning.specs.Bounds.{STEPS, RULES}
 use Rattle.meaning.specs.Tables.{at}
 use Rattle.chains.specs.Chains.{Empty}
 use Rattle.chains.proofs.Laws.{chained-none}
@@ -28,10 +28,10 @@ first-notes = record { names = 0; logic = false; broken = 0; sat = false }
 pub fresh-maintained :
     (xs ys : List ℕ) (cs : List ℤ) (days marks wxs wys : List ℕ) (wcs : List ℤ) (names lens out heads nexts kept hashes name-heads name-nexts : List ℕ) →
     StartRoom (lent first-counts xs ys cs days marks wxs wys wcs first-notes names lens out) →
-    ((v : ℕ) → v < STEPS → at days v ≡ 0) → Empty STEPS heads → STEPS ≤ length heads → RULES ≤ length nexts → STEPS * MARKS ≤ length kept →
+    ((v : ℕ) → v < STEPS → at days v ≡ 0) → Empty STEPS heads → STEPS ≤ length heads → RULES ≤ length nexts →
     IndexRoom hashes name-heads name-nexts → Empty BUCKETS name-heads →
     Maintained 0 (lent first-counts xs ys cs days marks wxs wys wcs first-notes names lens out) heads nexts kept hashes name-heads name-nexts
-fresh-maintained xs ys cs days marks wxs wys wcs names lens out heads nexts kept hashes name-heads name-nexts room zeros none heads-room nexts-room kept-room index-room no-names =
+fresh-maintained xs ys cs days marks wxs wys wcs names lens out heads nexts kept hashes name-heads name-nexts room zeros none heads-room nexts-room index-room no-names =
     record {
       room = room;
       sound = record {
@@ -53,7 +53,7 @@ fresh-maintained xs ys cs days marks wxs wys wcs names lens out heads nexts kept
       };
       chained = record { chained = chained-none STEPS xs heads nexts none; heads-room = heads-room; nexts-room = omega arith };
       nexts-room = nexts-room;
-      days-kept = record { kept-room = λ k lo h. omega (arith, kept-room); kept-earliest = λ k lo h. absurd (omega arith) };
+      days-kept = record { kept-earliest = λ k held h. absurd (omega arith) };
       indexed = record { room = index-room; hashes-are = λ k h. absurd (omega arith); chained = chained-none BUCKETS hashes name-heads name-nexts no-names };
     }
 
@@ -67,10 +67,10 @@ long n = omega (arith, length-replicate {A = ℕ} n 0)
 none-set : (v : ℕ) → v < 256 → at (zeros 256) v ≡ 0
 none-set v h = getD-replicate {A = ℕ} 256 v 0 0 h
 
--- Tables of zeros are sound, with the links, the kept days and the index of the names that are lent beside them.
-pub fresh-tables : (out : List ℕ) → Maintained 0 (blank out) (zeros 256) (zeros 4096) (zeros 16384) (zeros 256) (zeros 256) (zeros 256)
-fresh-tables out =
+-- Tables of zeros are sound, with the links and the index of the names that are lent beside them, and any table for kept days: no mark is open.
+pub fresh-tables : (out : List ℕ) {kept : List ℕ} → Maintained 0 (blank out) (zeros 256) (zeros 4096) kept (zeros 256) (zeros 256) (zeros 256)
+fresh-tables out {kept} =
     let l = blank out in
     let t = l .tables in
-    fresh-maintained (t .rules .firsts) (t .rules .seconds) (t .rules .amounts) (t .days) (t .marks) (t .watched .firsts) (t .watched .seconds) (t .watched .amounts) (l .names) (l .lens) out (zeros 256) (zeros 4096) (zeros 16384) (zeros 256) (zeros 256) (zeros 256)
-    (blank-fresh out .room) (blank-fresh out .day-0) none-set (long 256) (long 4096) (long 16384) (record { hashes-room = long 256; heads-room = long 256; nexts-room = long 256 }) none-set
+    fresh-maintained (t .rules .firsts) (t .rules .seconds) (t .rules .amounts) (t .days) (t .marks) (t .watched .firsts) (t .watched .seconds) (t .watched .amounts) (l .names) (l .lens) out (zeros 256) (zeros 4096) kept (zeros 256) (zeros 256) (zeros 256)
+    (blank-fresh out .room) (blank-fresh out .day-0) none-set (long 256) (long 4096) (record { hashes-room = long 256; heads-room = long 256; nexts-room = long 256 }) none-set

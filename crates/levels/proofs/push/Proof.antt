@@ -40,15 +40,13 @@ mul-marks c = search needs
 slice-write-marks : tie.Need-slice-write-marks Inv-loop μ-loop
 slice-write-marks c = omega (arith, c .before .loop .inv .2)
 
-mul-copy-days : tie.Need-mul-copy-days Inv-loop μ-loop
-mul-copy-days c = search needs
+has-row-requires : tie.Need-has-row-requires Inv-loop μ-loop
+has-row-requires c κs = search needs
 
-copy-days-requires : tie.Need-copy-days-requires Inv-loop μ-loop
-copy-days-requires c κs =
-    let start = c .before .before .before .before .before .before .before .before .before in (
-      omega (arith, start .pre .0, start .pre .1 .0),
-      omega (arith, start .pre .0, start .pre .1 .1 .1 .1 (c .before .before .before .loop .k) (c .before .if1 .taken) (omega (arith, start .pre .1 .1 .1 .0, c .before .before .loop-test .taken)), c .before .before .before .loop .inv .4 .same-length),
-    )
+keep-days-requires : tie.Need-keep-days-requires Inv-loop μ-loop
+keep-days-requires c κs =
+    let start = c .before .before .before .before .before .before .before .before .before .before in
+    (start .pre .0, (start .pre .1 .0, (omega (arith, start .pre .1 .1 .1, c .before .before .before .loop-test .taken), c .before .before .has-row .ensures .so (c .before .if1 .taken) .row-room)))
 
 add-k : tie.Need-add-k Inv-loop μ-loop
 add-k c = search needs
@@ -58,14 +56,14 @@ loop-less c = search needs
 
 loop-again : tie.Need-loop-again Inv-loop μ-loop
 loop-again c =
-    let start = c .before .before .before .before .before .before .before .before in
-    let turn = c .before .before .loop in
-    let next : start .args .counts .marks + start .args .n - turn .k ≡ suc (start .args .counts .marks + start .args .n - (turn .k + 1)) = omega (arith, c .before .loop-test .taken) in (
+    let start = c .before .before .before .before .before .before .before .before .before in
+    let turn = c .before .before .before .loop in
+    let next : start .args .counts .marks + start .args .n - turn .k ≡ suc (start .args .counts .marks + start .args .n - (turn .k + 1)) = omega (arith, c .before .before .loop-test .taken) in (
       omega (arith, turn .inv .0),
-      omega (arith, c .before .loop-test .taken),
+      omega (arith, c .before .before .loop-test .taken),
       length-set (turn .marks) (turn .k) (start .args .counts .rules) ∙ turn .inv .2,
       sym (marked-next (start .args .counts .rules) (turn .k) (turn .marks) next) ∙ turn .inv .3,
-      ⊎-elim (λ w. rw (w .5) (kept-more (turn .inv .4) (turn .inv .0) (start .pre .0) (w .2 .ensures))) (λ w. rw (w .1) (kept-skip (turn .inv .4) (omega (arith, w .0 .left)))) (c .if1 .came),
+      ⊎-elim (λ w. rw (w .5) (kept-more (turn .inv .4) (turn .inv .0) (start .pre .0) (w .2 .ensures))) (λ w. rw (w .1) (kept-skip (turn .inv .4) (c .before .has-row .ensures .not-so (w .0 .left)))) (c .if1 .came),
     )
 
 add-t18 : tie.Need-add-t18 Inv-loop μ-loop
@@ -84,7 +82,7 @@ returns : tie.Need-returns Inv-loop μ-loop
 returns c =
     let start = c .before .before .before .before .before .before .before in
     let turn = c .before .loop in
-    let told = pushed (start .args .n) {c = start .args .counts} (start .pre .1 .1 .0) (start .pre .1 .1 .1 .0) (omega (arith, turn .inv .1, c .loop-test .left)) (turn .inv .3) (turn .inv .4) in
+    let told = pushed (start .args .n) {c = start .args .counts} (start .pre .1 .1 .0) (start .pre .1 .1 .1) (omega (arith, turn .inv .1, c .loop-test .left)) (turn .inv .3) (turn .inv .4) in
     (refl, (told .0, told .1))
 
 pub push-spec : {M : Type 1} → statement M
@@ -99,8 +97,8 @@ push-spec =
     loop-holds
     mul-marks
     slice-write-marks
-    mul-copy-days
-    copy-days-requires
+    has-row-requires
+    keep-days-requires
     add-k
     loop-less
     loop-again

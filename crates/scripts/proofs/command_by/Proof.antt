@@ -89,7 +89,7 @@ carry-requires : tie.Need-carry-requires
 carry-requires c κs =
     let z : c .before .before .before .before .before .before .before .before .before .before .before .before .before .before .before .before .before .before .before .before .before .before .verdict .result ≡ 0 = omega (arith, c .before .before .before .before .before .before .before .before .before .before .before .before .before .before .before .before .if1 .left) in
     let st = c .before .before .before .before .before .before .before .before .before .before .before .before .before .before .before .before .before .before .before .before .before .before .verdict .ensures .stands z in
-    (c .before .before .before .before .before .before .before .before .before .before .before .before .before .before .before .before .before .before .before .before .before .before .before .before .before .before .before .before .before .before .before .before .before .before .before .before .before .before .before .before .before .before .before .before .before .before .pre, (record { room = c .before .before .before .before .before .before .before .before .before .before .before .before .before .before .before .before .before .before .before .before .before .before .verdict .ensures .room z .start-room; sound = st .sound; chained = st .chained; nexts-room = omega (arith, c .before .before .before .before .before .before .before .before .before .before .before .before .before .before .before .before .before .before .before .before .before .before .verdict .kept .1 .1 .1 .1 .1 .1 .1 .1 .1 .1 .1 .1 .1 .1 .1 .1 .0, length-replicate {A = ℕ} RULES 0); days-kept = record { kept-room = λ k a b. absurd (omega (arith, a, b)); kept-earliest = λ k a b. absurd (omega (arith, a, b, st .sound .tables-sound .counts-in .marks-in)) }; indexed = st .indexed }, c .before .before .before .before .before .before .before .before .before .before .before .before .before .before .before .before .before .before .before .before .before .before .verdict .ensures .room z .out-room))
+    (c .before .before .before .before .before .before .before .before .before .before .before .before .before .before .before .before .before .before .before .before .before .before .before .before .before .before .before .before .before .before .before .before .before .before .before .before .before .before .before .before .before .before .before .before .before .before .pre, (record { room = c .before .before .before .before .before .before .before .before .before .before .before .before .before .before .before .before .before .before .before .before .before .before .verdict .ensures .room z .start-room; sound = st .sound; chained = st .chained; nexts-room = omega (arith, c .before .before .before .before .before .before .before .before .before .before .before .before .before .before .before .before .before .before .before .before .before .before .verdict .kept .1 .1 .1 .1 .1 .1 .1 .1 .1 .1 .1 .1 .1 .1 .1 .1 .0, length-replicate {A = ℕ} RULES 0); days-kept = record { kept-earliest = λ k held b. absurd (omega (arith, held .has-row .from-base, b, st .sound .tables-sound .counts-in .marks-in)) }; indexed = st .indexed }, c .before .before .before .before .before .before .before .before .before .before .before .before .before .before .before .before .before .before .before .before .before .before .verdict .ensures .room z .out-room))
 
 read-of-requires : tie.Need-read-of-requires
 read-of-requires c κs = search needs

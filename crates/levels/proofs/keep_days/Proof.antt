@@ -1,0 +1,48 @@
+-- `levels::keep_days` meets its contract: a copy of the days, and the name after it.
+use Rattle.levels.proofs.Filing.{filed-by}
+use borrow.Author.Needs.{needs}
+use Rattle.levels.proofs.keep_days.Statement.{statement}
+use Rattle.levels.proofs.keep_days.Tie as tie
+
+row-of-requires : tie.Need-row-of-requires
+row-of-requires c κs = search needs
+
+copy-days-requires : tie.Need-copy-days-requires
+copy-days-requires c κs = search needs
+
+add-kept : tie.Need-add-kept
+add-kept c = search needs
+
+cast-kept : tie.Need-cast-kept
+cast-kept c = search needs
+
+add-kept-2 : tie.Need-add-kept-2
+add-kept-2 c = search needs
+
+mul-kept : tie.Need-mul-kept
+mul-kept c = search needs
+
+slice-write-kept : tie.Need-slice-write-kept
+slice-write-kept c = search needs
+
+same-length : tie.Need-same-length
+same-length c = search needs
+
+returns : tie.Need-returns
+returns c =
+    let start = c .before .before .before .before .before .before .before in
+    filed-by (start .args .k) (start .pre .0) (start .pre .1 .1 .1) (c .before .before .before .before .row-of .ensures) (c .before .before .copy-days .ensures)
+
+pub keep-days-spec : {M : Type 1} → statement M
+keep-days-spec =
+    tie.close
+    (tie.spec
+    row-of-requires
+    copy-days-requires
+    add-kept
+    cast-kept
+    add-kept-2
+    mul-kept
+    slice-write-kept
+    same-length
+    returns)
