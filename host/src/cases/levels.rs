@@ -35,21 +35,22 @@ pub fn cases(c: &mut Cases) {
     // A term that conflicts in its second rule: the first goes with the level too.
     c.xy("(push 1)(assert (and (<= (- x y) (- 9)) (< (- x x) 0) (<= (- x y) (- 11))))(check-sat)(pop 1)(check-sat)(get-value (y))", "unsat\nsat\n((y 0))\n");
     c.xy("(assert (<= (- x y) (- 2)))(push 1)(assert (and (<= (- x y) (- 5)) (<= (- y x) 4)))(check-sat)(pop 1)(assert (<= (- y x) 4))(check-sat)(get-value (x y))", "unsat\nsat\n((x 0) (y 2))\n");
-    // Twelve marks, set one by one: after mark k the day of y is k. They go one by one, in one go, and in parts.
-    let twelve: String = (1..=12).map(|k| format!("(push 1)(assert (<= (- x y) (- {})))", k)).collect();
+    // Twenty marks, set one by one: after mark k the day of y is k. They go one by one, in one go, and in parts.
+    let twenty: String = (1..=20).map(|k| format!("(push 1)(assert (<= (- x y) (- {})))", k)).collect();
     let y = "(check-sat)(get-value (y))";
     let pop_y = format!("(pop 1){}", y);
     c.xy(
-        format!("{}{}{}", twelve, y, pop_y.repeat(12)),
-        "sat\n((y 12))\nsat\n((y 11))\nsat\n((y 10))\nsat\n((y 9))\nsat\n((y 8))\nsat\n((y 7))\nsat\n((y 6))\nsat\n((y 5))\nsat\n((y 4))\nsat\n((y 3))\nsat\n((y 2))\nsat\n((y 1))\nsat\n((y 0))\n",
+        format!("{}{}{}", twenty, y, pop_y.repeat(20)),
+        "sat\n((y 20))\nsat\n((y 19))\nsat\n((y 18))\nsat\n((y 17))\nsat\n((y 16))\nsat\n((y 15))\nsat\n((y 14))\nsat\n((y 13))\nsat\n((y 12))\nsat\n((y 11))\n\
+         sat\n((y 10))\nsat\n((y 9))\nsat\n((y 8))\nsat\n((y 7))\nsat\n((y 6))\nsat\n((y 5))\nsat\n((y 4))\nsat\n((y 3))\nsat\n((y 2))\nsat\n((y 1))\nsat\n((y 0))\n",
     );
-    c.xy(format!("{}(pop 12){}", twelve, y), "sat\n((y 0))\n");
-    c.xy(format!("{}(pop 3){}(pop 8){}{}", twelve, y, y, pop_y), "sat\n((y 9))\nsat\n((y 1))\nsat\n((y 0))\n");
+    c.xy(format!("{}(pop 20){}", twenty, y), "sat\n((y 0))\n");
+    c.xy(format!("{}(pop 3){}(pop 16){}{}", twenty, y, y, pop_y), "sat\n((y 17))\nsat\n((y 1))\nsat\n((y 0))\n");
     // Marks that are set again where others were dropped: each has the days of its own time, also those that stayed open below.
-    c.xy(format!("{}(pop 12)(assert (<= (- x y) (- 20))){}(pop 12){}", twelve, twelve, y), "sat\n((y 20))\n");
+    c.xy(format!("{}(pop 20)(assert (<= (- x y) (- 30))){}(pop 20){}", twenty, twenty, y), "sat\n((y 30))\n");
     c.xy(
-        format!("{}(pop 9)(assert (<= (- x y) (- 20)))(push 12)(assert (<= (- x y) (- 30))){}{}(pop 10){}{}", twelve, y, pop_y, y, pop_y.repeat(4)),
-        "sat\n((y 30))\nsat\n((y 20))\nsat\n((y 20))\nsat\n((y 20))\nsat\n((y 2))\nsat\n((y 1))\nsat\n((y 0))\n",
+        format!("{}(pop 17)(assert (<= (- x y) (- 30)))(push 20)(assert (<= (- x y) (- 40))){}{}(pop 18){}{}", twenty, y, pop_y, y, pop_y.repeat(4)),
+        "sat\n((y 40))\nsat\n((y 30))\nsat\n((y 30))\nsat\n((y 30))\nsat\n((y 2))\nsat\n((y 1))\nsat\n((y 0))\n",
     );
     // Declared names stay after a pop, also those declared while contradictory.
     c.xy(format!("(push 1){}(declare-fun z () Int)(pop 1)(assert (< (- x z) 0))(check-sat)(get-value (z))", no), "sat\n((z 1))\n");
