@@ -140,6 +140,32 @@ module _ (n m : ℕ) (R : ℕ → Rule) (H : ℕ → Type 0) (held? : (i : ℕ) 
 pub arrangement-of-earliest : (n : ℕ) (R : ℕ → Rule) (H : ℕ → Type 0) → (p : ℕ → ℕ) × Earliest n R H p → (d : ℕ → ℤ) × Arrangement R H d
 arrangement-of-earliest n R H (p, earliest) = ((λ v. pos (p v)), earliest .plan)
 
+-- A new rule that fits has an earliest plan together with the rules held, under whatever number.
+pub earliest-of-fit :
+    (n m : ℕ) (R : ℕ → Rule) (H : ℕ → Type 0)
+    → ((i : ℕ) → Dec (H i))
+    → ((i : ℕ) → H i → i < m)
+    → ((i : ℕ) → H i → InSteps n (R i))
+    → (k : ℕ) (r : Rule)
+    → InSteps n r
+    → Fits R H r
+    → (p : ℕ → ℕ) × Earliest n (more R k r) (plus H k) p
+earliest-of-fit n m R H held? numbered steps k r new fits =
+    earliest-of-arrangement
+    n
+    (suc (m + k))
+    (more R k r)
+    (plus H k)
+    (λ i. either? (ℕ-discrete i k) (held? i))
+    below
+    (more-all (InSteps n) R H k r new steps)
+    (fits .days)
+    (fits-more R H k r fits)
+  where
+    below : (i : ℕ) → plus H k i → i < suc (m + k)
+    below i (inl e) = omega arith
+    below i (inr held) = omega (arith, numbered i held)
+
 -- ---- the rules with a number below m
 
 -- Rules over n steps that have an arrangement have an earliest plan.
@@ -158,25 +184,11 @@ pub earliest-iff-arrangement :
     → ((d : ℕ → ℤ) × Arrangement R (λ i. i < m) d) ↔ ((p : ℕ → ℕ) × Earliest n R (λ i. i < m) p)
 earliest-iff-arrangement n m R steps = (λ (d, kept). earliest-exists n m R steps d kept, arrangement-of-earliest n R (λ i. i < m))
 
--- A new rule that does not conflict with the rules held has an earliest plan together with them.
-pub conflict-or-plan :
+-- A new rule that fits the rules with a number below m has an earliest plan together with them, under the number m.
+pub plan-of-fit :
     (n m : ℕ) (R : ℕ → Rule) (r : Rule)
     → ((i : ℕ) → i < m → InSteps n (R i))
     → InSteps n r
     → Fits R (λ i. i < m) r
     → (p : ℕ → ℕ) × Earliest n (more R m r) (plus (λ i. i < m) m) p
-conflict-or-plan n m R r steps new fits =
-    earliest-of-arrangement
-    n
-    (suc m)
-    (more R m r)
-    (plus (λ i. i < m) m)
-    (λ i. either? (ℕ-discrete i m) (decLt i m))
-    numbered
-    (more-all (InSteps n) R (λ i. i < m) m r new steps)
-    (fits .days)
-    (fits-more R (λ i. i < m) m r fits)
-  where
-    numbered : (i : ℕ) → plus (λ i. i < m) m i → i < suc m
-    numbered i (inl e) = omega arith
-    numbered i (inr below) = omega arith
+plan-of-fit n m R r steps new = earliest-of-fit n m R (λ i. i < m) (λ i. decLt i m) (λ i below. below) steps m r new

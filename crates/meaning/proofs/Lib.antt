@@ -15,6 +15,7 @@ pub mod Put
 pub mod Sequences
 pub mod Tests
 pub mod Rings
+pub mod Reason
 pub mod Possible
 pub mod AsAdd
 pub mod Starred
