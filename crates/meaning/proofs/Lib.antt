@@ -1,6 +1,6 @@
 -- What follows from the meaning alone.
-pub mod Whole
 pub mod Below
+pub mod Whole
 pub mod More
 pub mod Counting
 pub mod Theory
@@ -16,6 +16,7 @@ pub mod Sequences
 pub mod Tests
 pub mod Rings
 pub mod Reason
+pub mod Decided
 pub mod Possible
 pub mod AsAdd
 pub mod Starred

@@ -199,3 +199,12 @@ exactly-leave P n l e np =
       where
         same : j ≡ n
         same = omega arith
+
+-- Where it can be told of each number whether it has P, there is such a list.
+pub exactly-some : (P : ℕ → Type 0) → ((j : ℕ) → Dec (P j)) → (n : ℕ) → (l : List ℕ) × Exactly P n l
+exactly-some P tell zero = ([], exactly-none P)
+exactly-some P tell (suc n) = next (tell n) (exactly-some P tell n)
+  where
+    next : Dec (P n) → (l : List ℕ) × Exactly P n l → (l : List ℕ) × Exactly P (suc n) l
+    next (yes h) (l, e) = (l ++ (n ∷ []), exactly-take P n l e h)
+    next (no h) (l, e) = (l, exactly-leave P n l e h)

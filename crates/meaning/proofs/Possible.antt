@@ -1,21 +1,30 @@
--- No promise is empty: where the earliest plan is known DONE is allowed, where a ring is known CONFLICT is, and each refusal on its inputs.
+-- No promise is empty: every input has an outcome that its call's promise allows. What the call needs is told need by need; the first that is not met
+-- is refused by its number, and where all are met the earliest plan, the ring or the lists are found.
 use Prim.Native.Nat.{ℕ, _-_, _≤_, _<_}
 use native.Mathlib.Omega.{arith}
+use native.Mathlib.Decide.{decLe, decLt}
 use mathlib.Core.Path.{_≡_, refl, sym, _∙_, ap, subst}
 use mathlib.Core.List.{List, [], _∷_}
 use mathlib.Core.Logic.{_⊎_, inl, inr}
+use mathlib.Core.Bool.{Bool, not, _&&_}
+use lib.Dec.{T, eqb, eqb-refl, T-not}
 use lib.IntN.{pos}
 use lib.ListN.{length}
-use Rattle.meaning.specs.Bounds.{STEPS, RULES, MARKS, WATCHED, DONE, CONFLICT}
-use Rattle.meaning.specs.Rules.{Rule, InSteps, InAmount, All, Different, Earliest, Always, Never, Fits, Refutes}
+use Rattle.meaning.specs.Bounds.{STEPS, RULES, MARKS, WATCHED, DONE, SHORT, DAMAGED, STEP, AMOUNT, FULL, CONFLICT, NOMARK}
+use Rattle.meaning.specs.Rules.{Rule, InSteps, InAmount, negation, All, Different, Earliest, Always, Never, Fits, Refutes}
 use Rattle.meaning.specs.Tables.{Tables, rule-at, at, Room, Sound, opened, with-watched, with-rule, with-mark, newest-mark, without-mark, with-days}
-use Rattle.meaning.specs.Promise.{Given, bare, Meaning, First, Obeys, Past, Filled, Planned, moved, Rising, Exactly}
-use Rattle.meaning.specs.Calls.{WithList, WithLists, rules-of, held-in, next-in, rules-and, held-and, RingIn, WatchedThat, IsRingFor, open-meaning, watch-meaning, add-needs, add-meaning, mark-meaning, back-meaning, trial-meaning, consequences-meaning, ring-check-meaning}
+use Rattle.meaning.specs.Promise.{Given, bare, Meaning, Need, needs, First, Obeys, Past, Filled, Planned, moved, Rising, Exactly}
+use Rattle.meaning.specs.Calls.{WithList, WithLists, rules-of, held-in, next-in, rules-and, held-and, RingIn, WatchedThat, IsRingFor, rule-needs, open-meaning, watch-meaning, add-needs, add-meaning, mark-meaning, back-meaning, trial-meaning, consequences-meaning, ring-check-meaning}
 use Rattle.meaning.proofs.More.{more-all}
-use Rattle.meaning.proofs.Theory.{all-implies, earliest-ext, ring-excludes, more-fits}
+use Rattle.meaning.proofs.Theory.{all-implies, earliest-ext, ring-excludes, more-fits, always-is, never-is}
 use Rattle.meaning.proofs.Counting.{different-short, ring-length}
 use Rattle.meaning.proofs.Needs.{AllMet, obeys-done, obeys-conflict, obeys-refused}
-use Rattle.meaning.proofs.Lists.{over, over-filled, over-past, over-front, values, values-length, values-at}
+use Rattle.meaning.proofs.Below.{both?, not?, in-words?}
+use Rattle.meaning.proofs.Tests.{both}
+use Rattle.meaning.proofs.Circle.{earliest-exists}
+use Rattle.meaning.proofs.Reason.{fits?, conflict-or-plan}
+use Rattle.meaning.proofs.Decided.{in-steps?, in-amount?, room?, sound?, refutes?}
+use Rattle.meaning.proofs.Lists.{exactly-some, over, over-filled, over-past, over-front, values, values-length, values-at}
 
 -- Some outcome with the number k keeps the promise.
 pub record Allowed {S : Type 0} (m : Meaning S) (before : S) (k : ℕ) : Type 0 where
@@ -23,6 +32,15 @@ pub record Allowed {S : Type 0} (m : Meaning S) (before : S) (k : ℕ) : Type 0 
   pub after : S
   pub keeps : Obeys m before answer after
   pub number-is : answer .number ≡ k
+
+-- Some outcome keeps the promise.
+pub record Outcome {S : Type 0} (m : Meaning S) (before : S) : Type 0 where
+  pub answer : Given
+  pub after : S
+  pub keeps : Obeys m before answer after
+
+pub allowed-outcome : {S : Type 0} {m : Meaning S} {before : S} {k : ℕ} → Allowed m before k → Outcome m before
+allowed-outcome a = record { answer = a .answer; after = a .after; keeps = a .keeps }
 
 -- Each refusal is allowed on its inputs: where its need is the first that is not met.
 pub refusal-met : {S : Type 0} (m : Meaning S) (before : S) (k : ℕ) → (k ≡ DONE → ⊥) → (k ≡ CONFLICT → ⊥) → First (m .asks) k → Allowed m before k
@@ -134,6 +152,24 @@ module _ (r : Rule) (t : Tables) (a : Asked r t) where
       (omega (arith, long, a .sound .counts-in .steps-in, ring-length (t .counts .steps) (rules-of t) (held-in t) (next-in t) r l (λ i h. a .sound .rules-good i h .steps-in) (a .steps-in) ring))
       ring
 
+  -- On sound tables a rule that can be asked for fits, with an earliest plan of all rules, or has a refuting ring.
+  pub plan-or-ring : ((p : ℕ → ℕ) × Earliest (t .counts .steps) (rules-and r t) (held-and t) p) ⊎ ((l : List ℕ) × Refutes (rules-of t) (held-in t) (next-in t) r l)
+  plan-or-ring =
+      conflict-or-plan
+      (t .counts .steps)
+      (t .counts .rules)
+      (rules-of t)
+      (held-in t)
+      (λ i. decLt i (t .counts .rules))
+      (λ i held. held)
+      (λ i held. a .sound .rules-good i held .steps-in)
+      (λ v. pos (at (t .days) v))
+      (a .sound .days-earliest .plan)
+      (next-in t)
+      (λ held. omega arith)
+      r
+      (a .steps-in)
+
 -- Add, where the earliest plan with the rule is known, and where a ring is known.
 pub add-met : (r : Rule) (t : Tables) (l : List ℕ) → Asked r t → STEPS ≤ length l → (p : ℕ → ℕ) → Earliest (t .counts .steps) (rules-and r t) (held-and t) p → Allowed (add-meaning r (record { tables = t; list = l })) (record { tables = t; list = l }) DONE
 add-met r t l a long p e =
@@ -233,3 +269,170 @@ ring-check-met r t l room sound st am known = tell known
     tell : Dec (IsRingFor r s) → Allowed (ring-check-meaning r s) s DONE
     tell (yes h) = allowed-done (ring-check-meaning r s) s 1 0 s (room, (sound, (st, (am, tt)))) (record { verdict = inl (refl, h); no-second = refl; all-stays = refl })
     tell (no h) = allowed-done (ring-check-meaning r s) s 0 0 s (room, (sound, (st, (am, tt)))) (record { verdict = inr (refl, h); no-second = refl; all-stays = refl })
+
+-- ---- every input has an outcome
+
+-- A number that is neither DONE nor CONFLICT.
+abbrev plain : ℕ → Bool
+plain k = not (eqb k DONE) && not (eqb k CONFLICT)
+
+is-not : (k j : ℕ) → T (not (eqb k j)) → k ≡ j → ⊥
+is-not k j h e = T-not (eqb k j) h (subst (λ (i : ℕ). T (eqb k i)) e (eqb-refl k))
+
+module _ {S : Type 0} (m : Meaning S) (before : S) where
+  -- The needs l are the last of the call: all before them are met.
+  abbrev Last : List Need → Type 0
+  Last l = (g : ℕ) → First l g → First (m .asks) g
+
+  -- Where it can be told whether the next need is met: the call is refused by its number, or goes on.
+  look : (k : ℕ) (P : Type 0) (l : List Need) → T (plain k) → Last (needs k P ∷ l) → Dec P → (P → Last l → Outcome m before) → Outcome m before
+  look k P l refusal last (yes met) go-on = go-on met (λ g f. last g (inr (met, f)))
+  look k P l refusal last (no unmet) go-on =
+      let (not-done, not-conflict) = both (not (eqb k DONE)) (not (eqb k CONFLICT)) refusal in
+      allowed-outcome (refusal-met m before k (is-not k DONE not-done) (is-not k CONFLICT not-conflict) (last k (inl (refl, unmet))))
+
+  -- The needs that most calls have first: that there is room, and that the tables are sound.
+  look-at-tables : (t : Tables) (P : Type 0) (l : List Need) → Last (needs SHORT P ∷ needs DAMAGED (Sound t) ∷ l) → Dec P → (P → Sound t → Last l → Outcome m before) → Outcome m before
+  look-at-tables t P l last enough? go-on =
+      look SHORT P (needs DAMAGED (Sound t) ∷ l) tt last enough? λ enough last-1.
+      look DAMAGED (Sound t) l tt last-1 (sound? t) λ sound last-2.
+      go-on enough sound last-2
+
+  -- Those of a call that is handed a rule.
+  look-at-rule : (r : Rule) (t : Tables) (l : List Need) → Last (rule-needs r t l) → (InSteps (t .counts .steps) r → InAmount (r .amount) → Last l → Outcome m before) → Outcome m before
+  look-at-rule r t l last go-on =
+      look STEP (InSteps (t .counts .steps) r) (needs AMOUNT (InAmount (r .amount)) ∷ l) tt last (in-steps? (t .counts .steps) r) λ steps last-1.
+      look AMOUNT (InAmount (r .amount)) l tt last-1 (in-amount? (r .amount)) λ amount last-2.
+      go-on steps amount last-2
+
+pub open-possible : (n : ℕ) (t : Tables) → Outcome (open-meaning n t) t
+open-possible n t =
+    look m t SHORT (Room t) (needs STEP ((1 ≤ n) × (n ≤ STEPS)) ∷ []) tt (λ g f. f) (room? t) λ room last.
+    look m t STEP ((1 ≤ n) × (n ≤ STEPS)) [] tt last (both? (decLe 1 n) (decLe n STEPS)) λ count last-1.
+    allowed-outcome (open-met n t room (count .0) (count .1))
+  where
+    m : Meaning Tables
+    m = open-meaning n t
+
+pub watch-possible : (r : Rule) (t : Tables) → Outcome (watch-meaning r t) t
+watch-possible r t =
+    look-at-tables m t t (Room t) (rule-needs r t (needs FULL (t .counts .watched < WATCHED) ∷ [])) (λ g f. f) (room? t) λ room sound last.
+    look-at-rule m t r t (needs FULL (t .counts .watched < WATCHED) ∷ []) last λ steps amount last-1.
+    look m t FULL (t .counts .watched < WATCHED) [] tt last-1 (decLt _ _) λ place last-2.
+    allowed-outcome (watch-met r t room sound steps amount place)
+  where
+    m : Meaning Tables
+    m = watch-meaning r t
+
+pub mark-possible : (t : Tables) → Outcome (mark-meaning t) t
+mark-possible t =
+    look-at-tables m t t (Room t) (needs FULL (t .counts .marks < MARKS) ∷ []) (λ g f. f) (room? t) λ room sound last.
+    look m t FULL (t .counts .marks < MARKS) [] tt last (decLt _ _) λ place last-1.
+    allowed-outcome (mark-met t room sound place)
+  where
+    m : Meaning Tables
+    m = mark-meaning t
+
+pub back-possible : (t : Tables) → Outcome (back-meaning t) t
+back-possible t =
+    look-at-tables m t t (Room t) (needs NOMARK (1 ≤ t .counts .marks) ∷ []) (λ g f. f) (room? t) λ room sound last.
+    look m t NOMARK (1 ≤ t .counts .marks) [] tt last (decLe _ _) λ some last-1.
+    let left : newest-mark t ≤ t .counts .rules = sound .marks-held (t .counts .marks - 1) (omega arith) in
+    let (p, earliest) = earliest-exists (t .counts .steps) (newest-mark t) (rules-of t) (λ i below. sound .rules-good i (omega arith) .steps-in) (λ v. pos (at (t .days) v)) (λ i below. sound .days-earliest .plan i (omega arith)) in
+    allowed-outcome (back-met t room sound some p earliest)
+  where
+    m : Meaning Tables
+    m = back-meaning t
+
+-- What Add and Trial need before the last need, where what must have room is given.
+look-as-add : {S : Type 0} (m : Meaning S) (before : S) (r : Rule) (t : Tables) (P : Type 0) → (P → Room t) → Last m before (add-needs r t P) → Dec P → (P → Asked r t → Outcome m before) → Outcome m before
+look-as-add m before r t P room-of last enough? go-on =
+    look-at-tables m before t P (rule-needs r t rest) last enough? λ enough sound last-1.
+    look-at-rule m before r t rest last-1 λ steps amount last-2.
+    look m before FULL (t .counts .rules < RULES) (needs CONFLICT (Fits (rules-of t) (held-in t) r) ∷ []) tt last-2 (decLt _ _) λ place last-3.
+    go-on enough (record { room = room-of enough; sound = sound; steps-in = steps; amount-in = amount; not-full = place })
+  where
+    rest : List Need
+    rest = needs FULL (t .counts .rules < RULES) ∷ needs CONFLICT (Fits (rules-of t) (held-in t) r) ∷ []
+
+pub add-possible : (r : Rule) (s : WithList) → Outcome (add-meaning r s) s
+add-possible r s =
+    look-as-add (add-meaning r s) s r t (Room t × (STEPS ≤ length l)) (λ enough. enough .0) (λ g f. f) (both? (room? t) (decLe _ _)) λ enough a.
+    answered a (enough .1) (plan-or-ring r t a)
+  where
+    t : Tables
+    t = s .tables
+
+    l : List ℕ
+    l = s .list
+
+    answered :
+        Asked r t
+        → STEPS ≤ length l
+        → ((p : ℕ → ℕ) × Earliest (t .counts .steps) (rules-and r t) (held-and t) p) ⊎ ((x : List ℕ) × Refutes (rules-of t) (held-in t) (next-in t) r x)
+        → Outcome (add-meaning r s) s
+    answered a long (inl (p, earliest)) = allowed-outcome (add-met r t l a long p earliest)
+    answered a long (inr (x, refutes)) = allowed-outcome (add-conflict-met r t l x a long refutes)
+
+pub trial-possible : (r : Rule) (s : WithLists) → Outcome (trial-meaning r s) s
+trial-possible r s =
+    look-as-add (trial-meaning r s) s r t (Room t × (STEPS ≤ length l) × (STEPS ≤ length m)) (λ enough. enough .0) (λ g f. f)
+    (in-words? (λ h. (h .0, h .1 .0, h .1 .1)) (λ h. (h .0, (h .1, h .2))) (both? (room? t) (both? (decLe STEPS (length l)) (decLe STEPS (length m))))) λ enough a.
+    answered a (enough .1) (enough .2) (plan-or-ring r t a)
+  where
+    t : Tables
+    t = s .tables
+
+    l : List ℕ
+    l = s .one
+
+    m : List ℕ
+    m = s .two
+
+    answered :
+        Asked r t
+        → STEPS ≤ length l
+        → STEPS ≤ length m
+        → ((p : ℕ → ℕ) × Earliest (t .counts .steps) (rules-and r t) (held-and t) p) ⊎ ((x : List ℕ) × Refutes (rules-of t) (held-in t) (next-in t) r x)
+        → Outcome (trial-meaning r s) s
+    answered a long-one long-two (inl (p, earliest)) = allowed-outcome (trial-met r t l m a long-one long-two p earliest)
+    answered a long-one long-two (inr (x, refutes)) = allowed-outcome (trial-conflict-met r t l m x a long-one long-two refutes)
+
+-- On sound tables it can be told of every rule whether it holds in every arrangement, and whether in none.
+module _ (t : Tables) (sound : Sound t) (r : Rule) where
+  fits-in? : (q : Rule) → Dec (Fits (rules-of t) (held-in t) q)
+  fits-in? =
+      fits? (t .counts .steps) (t .counts .rules) (rules-of t) (held-in t) (λ i. decLt i (t .counts .rules)) (λ i held. held) (λ i held. sound .rules-good i held .steps-in)
+      (λ v. pos (at (t .days) v)) (sound .days-earliest .plan) (next-in t) (λ held. omega arith)
+
+  pub always? : Dec (Always (rules-of t) (held-in t) r)
+  always? = in-words? (always-is (rules-of t) (held-in t) r .1) (always-is (rules-of t) (held-in t) r .0) (not? (fits-in? (negation r)))
+
+  pub never? : Dec (Never (rules-of t) (held-in t) r)
+  never? = in-words? (never-is (rules-of t) (held-in t) r .1) (never-is (rules-of t) (held-in t) r .0) (not? (fits-in? r))
+
+pub consequences-possible : (s : WithLists) → Outcome (consequences-meaning s) s
+consequences-possible s =
+    look-at-tables (consequences-meaning s) s t (Room t × (w ≤ length (s .one)) × (w ≤ length (s .two))) [] (λ g f. f)
+    (in-words? (λ h. (h .0, h .1 .0, h .1 .1)) (λ h. (h .0, (h .1, h .2))) (both? (room? t) (both? (decLe w (length (s .one))) (decLe w (length (s .two)))))) λ enough sound last.
+    let (all, always) = exactly-some (λ j. Always (rules-of t) (held-in t) (rule-at (t .watched) j)) (λ j. always? t sound (rule-at (t .watched) j)) w in
+    let (none, never) = exactly-some (λ j. Never (rules-of t) (held-in t) (rule-at (t .watched) j)) (λ j. never? t sound (rule-at (t .watched) j)) w in
+    allowed-outcome (consequences-met t (s .one) (s .two) all none (enough .0) sound (enough .1) (enough .2) always never)
+  where
+    t : Tables
+    t = s .tables
+
+    w : ℕ
+    w = t .counts .watched
+
+pub ring-check-possible : (r : Rule) (s : WithList) → Outcome (ring-check-meaning r s) s
+ring-check-possible r s =
+    look-at-tables m s t (Room t) (rule-needs r t []) (λ g f. f) (room? t) λ room sound last.
+    look-at-rule m s r t [] last λ steps amount last-1.
+    allowed-outcome (ring-check-met r t (s .list) room sound steps amount (refutes? (rules-of t) (held-in t) (λ i. decLt i (t .counts .rules)) (next-in t) r (s .list)))
+  where
+    t : Tables
+    t = s .tables
+
+    m : Meaning WithList
+    m = ring-check-meaning r s

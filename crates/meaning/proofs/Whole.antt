@@ -1,13 +1,14 @@
 -- Whole numbers as differences of natural numbers: z is up z - dn z. With these laws `omega` decides what is linear in whole numbers.
 use Prim.Native.Nat.{ℕ, zero, suc, _+_, _-_, _≤_, _<_}
 use native.Mathlib.Omega.{arith}
-use native.Mathlib.Decide.{decLe}
+use native.Mathlib.Decide.{decLe, decLt}
 use mathlib.Core.Path.{_≡_, refl, sym, _∙_, ap}
 use mathlib.Core.Bool.{Bool, true, false, not, cond}
 use lib.Dec.{T, leb, ltb, leb→le, le→leb, ltb→lt, lt→ltb, nltb→le, not-T}
 use lib.IntN.{ℤ, pos, negsuc, negℤ, subℕ, _+ℤ_, _-ℤ_}
 use lib.Signed.{_≤ℤ_, _<ℤ_, leZ, ltZ}
 use Rattle.meaning.specs.Rules.{Rule, Keeps, Tight}
+use Rattle.meaning.proofs.Below.{in-words?}
 
 abbrev pub up : ℤ → ℕ
 up (pos n) = n
@@ -110,10 +111,13 @@ tight→ p r h = omega (arith, minus-is (pos (p (r .first))) (pos (p (r .second)
 pub →tight : (p : ℕ → ℕ) (r : Rule) → p (r .first) + dn (r .amount) ≡ p (r .second) + up (r .amount) → Tight p r
 →tight p r h = →eq (pos (p (r .first)) -ℤ pos (p (r .second))) (r .amount) (omega (arith, minus-is (pos (p (r .first))) (pos (p (r .second)))))
 
+-- The order of two whole numbers can be told.
+pub le? : (a b : ℤ) → Dec (a ≤ℤ b)
+le? a b = in-words? (→le a b) (le→ a b) (decLe _ _)
+
+pub lt? : (a b : ℤ) → Dec (a <ℤ b)
+lt? a b = in-words? (→lt a b) (lt→ a b) (decLt _ _)
+
 -- Whether days keep a rule can be told.
 pub keeps? : (d : ℕ → ℤ) (r : Rule) → Dec (Keeps d r)
-keeps? d r = tell (decLe _ _)
-  where
-    tell : Dec (up (d (r .first)) + dn (d (r .second)) + dn (r .amount) ≤ dn (d (r .first)) + up (d (r .second)) + up (r .amount)) → Dec (Keeps d r)
-    tell (yes h) = yes (→keeps d r h)
-    tell (no h) = no (λ k. h (keeps→ d r k))
+keeps? d r = le? (d (r .first) -ℤ d (r .second)) (r .amount)
