@@ -114,6 +114,12 @@ pub all-map : (P Q : ℕ → Type 0) (f : ℕ → ℕ) → ((i : ℕ) → P i �
 all-map P Q f leads [] all = tt
 all-map P Q f leads (i ∷ l) all = (leads i (all .0), all-map P Q f leads l (all .1))
 
+-- A list that refutes a rule starts no two rules from one step.
+pub refutes-different : (R : ℕ → Rule) (H : ℕ → Type 0) (k : ℕ) (r : Rule) (l : List ℕ) → Refutes R H k r l → Different (map (λ i. more R k r i .first) l)
+refutes-different R H k r [] refutes = absurd refutes
+refutes-different R H k r (j ∷ l) refutes =
+    subst (λ (i : ℕ). Different (map (λ i. more R k r i .first) (i ∷ l))) (sym (refutes .0)) (refutes .1 .ring .no-step-twice)
+
 -- A ring has at most as many rules as there are steps: their first steps are different.
 pub ring-length :
     (n : ℕ) (R : ℕ → Rule) (H : ℕ → Type 0) (k : ℕ) (r : Rule) (l : List ℕ) → ((i : ℕ) → H i → InSteps n (R i)) → InSteps n r → Refutes R H k r l → length l ≤ n

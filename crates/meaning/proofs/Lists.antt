@@ -73,12 +73,15 @@ over-past l before h = record { same-length = over-length l before h; kept = kep
         whole : length l + (i - length l) ≡ i
         whole = omega arith
 
-pub over-filled : {P : List ℕ → Type 0} (l before : List ℕ) → length l ≤ length before → P l → Filled (length l) P before (over l before)
+pub over-take : (l before : List ℕ) → take (length l) (over l before) ≡ l
 unfolding over
+over-take l before = take-append-seam l (drop (length l) before)
+
+pub over-filled : {P : List ℕ → Type 0} (l before : List ℕ) → length l ≤ length before → P l → Filled (length l) P before (over l before)
 over-filled {P} l before h p =
     record {
       within = h;
-      holds = subst P (sym (take-append-seam l (drop (length l) before))) p;
+      holds = subst P (sym (over-take l before)) p;
       past = over-past l before h;
     }
 

@@ -54,10 +54,10 @@ allowed-conflict m before a after f c = record { answer = record { number = CONF
 
 -- ---- lists with the days of a plan
 
-written : ℕ → (ℕ → ℕ) → List ℕ → List ℕ
+pub written : ℕ → (ℕ → ℕ) → List ℕ → List ℕ
 written n p before = over (values n p) before
 
-written-at : (n : ℕ) (p : ℕ → ℕ) (before : List ℕ) (v : ℕ) → v < n → at (written n p before) v ≡ p v
+pub written-at : (n : ℕ) (p : ℕ → ℕ) (before : List ℕ) (v : ℕ) → v < n → at (written n p before) v ≡ p v
 unfolding written
 written-at n p before v h = over-front (values n p) before v (omega (arith, values-length n p)) ∙ values-at n p v h
 

@@ -1,42 +1,118 @@
--- Engines that the promises shut out: each would be a function that keeps its call's promise on all inputs, and a worked case stands against it.
+-- Engines that the promises shut out. An engine is any function that gives and leaves something on every input. Of each fault that the paper names it is
+-- shown that no engine that keeps the promise has it, by a worked case; and, so that this says something of the fault, that an engine has it that does all
+-- else as one does that keeps the promise.
 use Prim.Native.Nat.{ℕ, zero, suc, _+_, _≤_, _<_}
 use native.Mathlib.Omega.{arith}
+use native.Mathlib.Decide.{ℕ-discrete}
 use mathlib.Core.Path.{_≡_, refl, sym, _∙_, ap, subst}
-use mathlib.Core.List.{List, [], _∷_}
+use mathlib.Core.List.{List, [], _∷_, map}
 use mathlib.Core.Logic.{_⊎_, inl, inr}
+use mathlib.Core.Bool.{cond}
 use lib.IntN.{ℤ, pos, negℤ}
 use lib.ListN.{length, replicate, take, length-replicate}
-use Rattle.meaning.specs.Bounds.{STEPS, RULES, MARKS, WATCHED, DONE, CONFLICT}
-use Rattle.meaning.specs.Rules.{Rule, Keeps, Plan, Earliest, Leads, total, Tight}
-use Rattle.meaning.specs.Tables.{Tables, Columns, rule-at, at, ColumnsRoom, Room}
-use Rattle.meaning.specs.Promise.{Given, Obeys, In}
-use Rattle.meaning.specs.Calls.{WithList, WithLists, add-meaning, back-meaning, consequences-meaning}
+use Rattle.meaning.specs.Bounds.{STEPS, RULES, MARKS, WATCHED, DONE, FULL, CONFLICT}
+use Rattle.meaning.specs.declared.Counts.{Counts}
+use Rattle.meaning.specs.Rules.{Rule, Keeps, Plan, Earliest, Leads, Different, total, more, Refutes, Tight}
+use Rattle.meaning.specs.Tables.{Tables, Columns, rule-at, at, ColumnsRoom, Room, with-days}
+use Rattle.meaning.specs.Promise.{Given, bare, Meaning, Obeys, In, Exactly}
+use Rattle.meaning.specs.Calls.{WithList, WithLists, rules-of, held-in, next-in, rules-and, add-meaning, back-meaning, consequences-meaning}
 use Rattle.meaning.specs.Runs.{Call, Made}
 use Rattle.meaning.specs.Cases.{Row, Days, Done, Says}
-use Rattle.meaning.proofs.Whole.{up, dn, keeps→, →plan}
-use lib.Dec.{T}
+use Rattle.meaning.proofs.Whole.{up, dn, keeps→, →plan, keeps?}
+use Rattle.meaning.proofs.Counting.{refutes-different}
+use Rattle.meaning.proofs.Lists.{over, over-take, exactly-some}
+use lib.Dec.{T, eqb}
+use borrow.Author.Tests.{eq-eqb, ne-eqb}
+use Rattle.meaning.proofs.Possible.{Outcome, written, written-at, add-possible, back-possible, consequences-possible}
 use Rattle.meaning.proofs.Tests.{both, nth, Below, plan-test→}
 use Rattle.meaning.proofs.Starred.{Shown, Shows, next-shown, row-test, rows-test, fresh-shown, row-holds, fresh-holds}
 
 -- ---- engines
 
 -- What a call gives and leaves.
-pub record Outcome (S : Type 0) : Type 0 where
+pub record Answered (S : Type 0) : Type 0 where
   pub answer : Given
   pub after : S
 
--- A function that keeps the call's promise on all inputs.
-pub record AddEngine : Type 0 where
-  pub run : Rule → WithList → Outcome WithList
-  pub keeps : (r : Rule) (s : WithList) → Obeys (add-meaning r s) s (run r s .answer) (run r s .after)
+-- Engines for Add, Back and Consequences, right or wrong.
+abbrev pub AddEngine : Type 0
+AddEngine = Rule → WithList → Answered WithList
 
-pub record BackEngine : Type 0 where
-  pub run : Tables → Outcome Tables
-  pub keeps : (t : Tables) → Obeys (back-meaning t) t (run t .answer) (run t .after)
+abbrev pub BackEngine : Type 0
+BackEngine = Tables → Answered Tables
 
-pub record ConsequencesEngine : Type 0 where
-  pub run : WithLists → Outcome WithLists
-  pub keeps : (s : WithLists) → Obeys (consequences-meaning s) s (run s .answer) (run s .after)
+abbrev pub ConsequencesEngine : Type 0
+ConsequencesEngine = WithLists → Answered WithLists
+
+-- The engine keeps its call's promise on all inputs.
+abbrev pub AddKeeps : AddEngine → Type 0
+AddKeeps e = (r : Rule) (s : WithList) → Obeys (add-meaning r s) s (e r s .answer) (e r s .after)
+
+abbrev pub BackKeeps : BackEngine → Type 0
+BackKeeps e = (t : Tables) → Obeys (back-meaning t) t (e t .answer) (e t .after)
+
+abbrev pub ConsequencesKeeps : ConsequencesEngine → Type 0
+ConsequencesKeeps e = (s : WithLists) → Obeys (consequences-meaning s) s (e s .answer) (e s .after)
+
+-- A fault is shut out: no engine that keeps the promise has it. Some engine keeps the promise, and some engine has the fault and does all else as that one
+-- does; `Else` says what all else is.
+pub record Excluded {E : Type 0} (Keeps Fault : E → Type 0) (Else : E → E → Type 0) : Type 0 where
+  pub never : (e : E) → Keeps e → Fault e → ⊥
+  pub right : E
+  pub right-keeps : Keeps right
+  pub wrong : E
+  pub wrong-has : Fault wrong
+  pub all-else : Else wrong right
+
+-- The first does as the second does, but where the second gives the number k: there they are alike in Same.
+abbrev pub But : {S : Type 0} → ℕ → (Answered S → Answered S → Type 0) → Answered S → Answered S → Type 0
+But k Same x y = (y .answer .number ≡ k → Same x y) × ((y .answer .number ≡ k → ⊥) → x ≡ y)
+
+-- ---- right engines, and how they are spoiled
+
+answered : {S : Type 0} {m : Meaning S} {before : S} → Outcome m before → Answered S
+answered o = record { answer = o .answer; after = o .after }
+
+right-add : AddEngine
+right-add r s = answered (add-possible r s)
+
+right-add-keeps : AddKeeps right-add
+unfolding right-add answered
+right-add-keeps r s = add-possible r s .keeps
+
+right-back : BackEngine
+right-back t = answered (back-possible t)
+
+right-back-keeps : BackKeeps right-back
+unfolding right-back answered
+right-back-keeps t = back-possible t .keeps
+
+right-consequences : ConsequencesEngine
+right-consequences s = answered (consequences-possible s)
+
+right-consequences-keeps : ConsequencesKeeps right-consequences
+unfolding right-consequences answered
+right-consequences-keeps s = consequences-possible s .keeps
+
+-- Where a number is k the one, else the other.
+either-has : {A : Type 0} (n k : ℕ) (x y : A) (P : A → Type 0) → (n ≡ k → P x) → ((n ≡ k → ⊥) → P y) → P (cond (eqb n k) x y)
+either-has n k x y P there elsewhere = tell (ℕ-discrete n k)
+  where
+    tell : Dec (n ≡ k) → P (cond (eqb n k) x y)
+    tell (yes e) = rw (eq-eqb n k e) (there e)
+    tell (no e) = rw (ne-eqb n k e) (elsewhere e)
+
+-- Something else is given and left where the number is k.
+module _ {S : Type 0} (k : ℕ) (f : Answered S → Answered S) (x : Answered S) where
+  spoiled : Answered S
+  spoiled = cond (eqb (x .answer .number) k) (f x) x
+
+  spoiled-has : (P : Answered S → Type 0) → (x .answer .number ≡ k → P (f x)) → ((x .answer .number ≡ k → ⊥) → P x) → P spoiled
+  unfolding spoiled
+  spoiled-has P = either-has (x .answer .number) k (f x) x P
+
+  spoiled-but : (Same : Answered S → Answered S → Type 0) → (x .answer .number ≡ k → Same (f x) x) → But k Same spoiled x
+  spoiled-but Same same = spoiled-has (λ y. But k Same y x) (λ e. (same, λ other. absurd (other e))) (λ other. ((λ e. absurd (other e)), λ h. refl))
 
 -- ---- tables to try them on
 
@@ -119,131 +195,294 @@ dry = Row.add (rule 0 1 (minus 2)) 1 (0 ∷ 2 ∷ 0 ∷ 0 ∷ [])
 abbrev press : Row
 press = Row.add (rule 1 2 (minus 3)) 1 (0 ∷ 2 ∷ 5 ∷ 0 ∷ [])
 
--- ---- what an engine must do at tables that show the lists
+-- ---- what an engine that keeps its promise must do at tables that show the lists
 
--- Add, at a row that passes its test.
-module _ (e : AddEngine) (m : Shown) (w : Reached m) where
-  lent : WithList
-  lent = record { tables = w .tables; list = scratch }
+abbrev lent : {m : Shown} → Reached m → WithList
+lent w = record { tables = w .tables; list = scratch }
 
-  must-add : (r : Rule) (k : ℕ) (days : List ℕ) → T (row-test m (Row.add r k days)) → Done k 0 (e .run r lent .answer) × Days (e .run r lent .after .tables) days × Shows (e .run r lent .after .tables) (next-shown m (Row.add r k days))
-  unfolding lent
+module _ (e : AddEngine) (keeps : AddKeeps e) (m : Shown) (w : Reached m) where
+  -- Add, at a row that passes its test.
+  must-add : (r : Rule) (k : ℕ) (days : List ℕ) → T (row-test m (Row.add r k days)) → Done k 0 (e r (lent w) .answer) × Days (e r (lent w) .after .tables) days × Shows (e r (lent w) .after .tables) (next-shown m (Row.add r k days))
   must-add r k days h =
       row-holds (Row.add r k days) m h (w .tables) (w .shows) (λ u. Shows u (next-shown m (Row.add r k days))) (λ u s. s) scratch scratch-long .0
-      (e .run r lent .answer) (e .run r lent .after .tables) (e .run r lent .after .list) (e .keeps r lent)
+      (e r (lent w) .answer) (e r (lent w) .after .tables) (e r (lent w) .after .list) (keeps r (lent w))
 
-  must-refuse : (r : Rule) (ring : List ℕ) (sum : ℤ) → T (row-test m (Row.refuse r ring sum)) → (e .run r lent .answer .number ≡ CONFLICT) × (take (e .run r lent .answer .one) (e .run r lent .after .list) ≡ ring)
-  unfolding lent
+  must-refuse : (r : Rule) (ring : List ℕ) (sum : ℤ) → T (row-test m (Row.refuse r ring sum)) → e r (lent w) .answer .number ≡ CONFLICT
   must-refuse r ring sum h =
-      let c = row-holds (Row.refuse r ring sum) m h (w .tables) (w .shows) (λ u. Unit {0}) (λ u s. tt) scratch scratch-long .0 (e .run r lent .answer) (e .run r lent .after .tables) (e .run r lent .after .list) (e .keeps r lent) in
-      (c .0, c .1)
+      row-holds (Row.refuse r ring sum) m h (w .tables) (w .shows) (λ u. Unit {0}) (λ u s. tt) scratch scratch-long .0
+      (e r (lent w) .answer) (e r (lent w) .after .tables) (e r (lent w) .after .list) (keeps r (lent w)) .0
 
--- Consequences likewise, with lists just long enough.
-module _ (e : ConsequencesEngine) (m : Shown) (w : Reached m) where
-  places : List ℕ
-  places = replicate (w .tables .counts .watched) 0
+-- Consequences, with lists just long enough.
+abbrev places : Tables → List ℕ
+places t = replicate (t .counts .watched) 0
 
-  asked : WithLists
-  asked = record { tables = w .tables; one = places; two = places }
+abbrev asked : {m : Shown} → Reached m → WithLists
+asked w = record { tables = w .tables; one = places (w .tables); two = places (w .tables) }
 
-  must-split : (all none : List ℕ) → T (row-test m (Row.split all none)) → Done (length all) (length none) (e .run asked .answer) × (take (length all) (e .run asked .after .one) ≡ all)
-  unfolding asked places
-  must-split all none h =
-      let enough : w .tables .counts .watched ≤ length (replicate {A = ℕ} (w .tables .counts .watched) 0) = omega (arith, length-replicate {A = ℕ} (w .tables .counts .watched) 0) in
-      let c =
-      row-holds (Row.split all none) m h (w .tables) (w .shows) (λ u. Unit {0}) (λ u s. tt) places places enough enough .0
-      (e .run asked .answer) (e .run asked .after .tables) (e .run asked .after .one) (e .run asked .after .two) (e .keeps asked)
-      in
-      (c .0, c .1)
+must-split :
+    (e : ConsequencesEngine) → ConsequencesKeeps e → (m : Shown) (w : Reached m) (all none : List ℕ)
+    → T (row-test m (Row.split all none))
+    → Done (length all) (length none) (e (asked w) .answer) × (take (e (asked w) .answer .one) (e (asked w) .after .one) ≡ all)
+must-split e keeps m w all none h =
+    let enough : w .tables .counts .watched ≤ length (replicate {A = ℕ} (w .tables .counts .watched) 0) = omega (arith, length-replicate {A = ℕ} (w .tables .counts .watched) 0) in
+    let c =
+    row-holds (Row.split all none) m h (w .tables) (w .shows) (λ u. Unit {0}) (λ u s. tt) (places (w .tables)) (places (w .tables)) enough enough .0
+    (e (asked w) .answer) (e (asked w) .after .tables) (e (asked w) .after .one) (e (asked w) .after .two) (keeps (asked w))
+    in
+    (c .0, ap (λ (k : ℕ). take k (e (asked w) .after .one)) (ap (λ (g : Given). g .one) (c .0)) ∙ c .1)
+
+-- The answer is DONE, so its number is.
+number-done : {g : Given} {a b : ℕ} → Done a b g → g .number ≡ DONE
+number-done e = ap (λ (h : Given). h .number) e
 
 -- ---- the engines that the paper names
 
--- One that refuses each rule.
-pub refuses-each-rule : (e : AddEngine) → ((r : Rule) (s : WithList) → e .run r s .answer .number ≡ DONE → ⊥) → ⊥
-refuses-each-rule e never = never (rule 0 1 (minus 2)) (lent e (fresh-shown four) opened-four) (ap (λ g. g .number) (must-add e (fresh-shown four) opened-four (rule 0 1 (minus 2)) 1 (0 ∷ 2 ∷ 0 ∷ 0 ∷ []) tt .0))
+-- What two answers of Add have the same that differ in the days left, in the count given, in the ring.
+abbrev pub SameButDays : Answered WithList → Answered WithList → Type 0
+SameButDays x y = (x .answer ≡ y .answer) × (x .after .list ≡ y .after .list) × (with-days [] (x .after .tables) ≡ with-days [] (y .after .tables))
+
+abbrev pub SameButCount : Answered WithList → Answered WithList → Type 0
+SameButCount x y = (x .answer .number ≡ y .answer .number) × (x .answer .two ≡ y .answer .two) × (x .after ≡ y .after)
+
+abbrev pub SameButRing : Answered WithList → Answered WithList → Type 0
+SameButRing x y = (x .answer .number ≡ y .answer .number) × (x .answer .two ≡ y .answer .two) × (x .after .tables ≡ y .after .tables)
+
+-- The answer with other days left.
+abbrev other-days : List ℕ → Answered WithList → Answered WithList
+other-days l x = record { answer = x .answer; after = record { tables = with-days l (x .after .tables); list = x .after .list } }
+
+-- One that refuses each rule. It is enough that it refuses the rule 0, 1, -2.
+abbrev pub Refuses : AddEngine → Type 0
+Refuses e = (s : WithList) → e (rule 0 1 (minus 2)) s .answer .number ≡ DONE → ⊥
+
+pub refuses-each-rule : Excluded AddKeeps Refuses (λ x y. (r : Rule) (s : WithList) → But DONE (λ a b. a .after ≡ s) (x r s) (y r s))
+refuses-each-rule = record {
+  never = λ e keeps refuses. refuses (lent opened-four) (number-done (must-add e keeps (fresh-shown four) opened-four (rule 0 1 (minus 2)) 1 (0 ∷ 2 ∷ 0 ∷ 0 ∷ []) tt .0));
+  right = right-add;
+  right-keeps = right-add-keeps;
+  wrong = λ r s. spoiled DONE (refused s) (right-add r s);
+  wrong-has = λ s. spoiled-has DONE (refused s) (right-add (rule 0 1 (minus 2)) s) (λ x. x .answer .number ≡ DONE → ⊥) (λ e h. omega arith) (λ other. other);
+  all-else = λ r s. spoiled-but DONE (refused s) (right-add r s) (λ a b. a .after ≡ s) (λ e. refl);
+}
+  where
+    refused : WithList → Answered WithList → Answered WithList
+    refused s x = record { answer = bare FULL; after = s }
 
 -- One with a constant plan.
-pub constant-plan : (e : AddEngine) (p : ℕ → ℕ) → ((r : Rule) (s : WithList) (v : ℕ) → v < s .tables .counts .steps → at (e .run r s .after .tables .days) v ≡ p v) → ⊥
-unfolding lent
-constant-plan e p same = omega (arith, same (rule 0 1 (minus 2)) (lent e (fresh-shown four) opened-four) 1 step, same (rule 3 3 (pos 0)) (lent e (fresh-shown four) opened-four) 1 step, moves .1 .each 1 (omega arith), stays .1 .each 1 (omega arith))
+abbrev pub ConstantPlan : AddEngine → Type 0
+ConstantPlan e = (p : ℕ → ℕ) × ((r : Rule) (s : WithList) → e r s .answer .number ≡ DONE → (v : ℕ) → v < s .tables .counts .steps → at (e r s .after .tables .days) v ≡ p v)
+
+pub constant-plan : Excluded AddKeeps ConstantPlan (λ x y. (r : Rule) (s : WithList) → But DONE SameButDays (x r s) (y r s))
+constant-plan = record {
+  never = never;
+  right = right-add;
+  right-keeps = right-add-keeps;
+  wrong = λ r s. spoiled DONE (zeros s) (right-add r s);
+  wrong-has = (
+    (λ v. 0),
+    λ r s.
+        spoiled-has DONE (zeros s) (right-add r s) (λ x. x .answer .number ≡ DONE → (v : ℕ) → v < s .tables .counts .steps → at (x .after .tables .days) v ≡ 0)
+        (λ e h. written-at (s .tables .counts .steps) (λ v. 0) (right-add r s .after .tables .days)) (λ other h. absurd (other h)),
+  );
+  all-else = λ r s. spoiled-but DONE (zeros s) (right-add r s) SameButDays (λ e. (refl, refl, refl));
+}
   where
-    step : 1 < opened-four .tables .counts .steps
-    step = omega (arith, opened-four .shows .steps)
+    zeros : WithList → Answered WithList → Answered WithList
+    zeros s x = other-days (written (s .tables .counts .steps) (λ v. 0) (x .after .tables .days)) x
 
-    moves : Done 1 0 (e .run (rule 0 1 (minus 2)) (lent e (fresh-shown four) opened-four) .answer) × Days (e .run (rule 0 1 (minus 2)) (lent e (fresh-shown four) opened-four) .after .tables) (0 ∷ 2 ∷ 0 ∷ 0 ∷ []) × Shows (e .run (rule 0 1 (minus 2)) (lent e (fresh-shown four) opened-four) .after .tables) (next-shown (fresh-shown four) dry)
-    moves = must-add e (fresh-shown four) opened-four (rule 0 1 (minus 2)) 1 (0 ∷ 2 ∷ 0 ∷ 0 ∷ []) tt
-
-    stays : Done 0 0 (e .run (rule 3 3 (pos 0)) (lent e (fresh-shown four) opened-four) .answer) × Days (e .run (rule 3 3 (pos 0)) (lent e (fresh-shown four) opened-four) .after .tables) four × Shows (e .run (rule 3 3 (pos 0)) (lent e (fresh-shown four) opened-four) .after .tables) (next-shown (fresh-shown four) (Row.add (rule 3 3 (pos 0)) 0 four))
-    stays = must-add e (fresh-shown four) opened-four (rule 3 3 (pos 0)) 0 four tt
+    never : (e : AddEngine) → AddKeeps e → ConstantPlan e → ⊥
+    never e keeps (p, same) =
+        let step : 1 < opened-four .tables .counts .steps = omega (arith, opened-four .shows .steps) in
+        let moves = must-add e keeps (fresh-shown four) opened-four (rule 0 1 (minus 2)) 1 (0 ∷ 2 ∷ 0 ∷ 0 ∷ []) tt in
+        let stays = must-add e keeps (fresh-shown four) opened-four (rule 3 3 (pos 0)) 0 four tt in
+        omega (
+          arith,
+          same (rule 0 1 (minus 2)) (lent opened-four) (number-done (moves .0)) 1 step,
+          same (rule 3 3 (pos 0)) (lent opened-four) (number-done (stays .0)) 1 step,
+          moves .1 .each 1 (omega arith),
+          stays .1 .each 1 (omega arith),
+        )
 
 -- One with constant lists.
-pub constant-lists : (e : ConsequencesEngine) (g : Given) → ((s : WithLists) → e .run s .answer ≡ g) → ⊥
-constant-lists e g same = omega (arith, ap (λ x. x .one) (sym (same _) ∙ must-split e _ empty [] [] tt .0), ap (λ x. x .one) (sym (same _) ∙ must-split e _ full (0 ∷ []) [] tt .0))
+abbrev pub ConstantLists : ConsequencesEngine → Type 0
+ConstantLists e = (all : List ℕ) × (none : List ℕ) × ((s : WithLists) → e s .answer .number ≡ DONE → (take (e s .answer .one) (e s .after .one) ≡ all) × (take (e s .answer .two) (e s .after .two) ≡ none))
+
+pub constant-lists : Excluded ConsequencesKeeps ConstantLists (λ x y. (s : WithLists) → But DONE (λ a b. a .after .tables ≡ b .after .tables) (x s) (y s))
+constant-lists = record {
+  never = never;
+  right = right-consequences;
+  right-keeps = right-consequences-keeps;
+  wrong = λ s. spoiled DONE (empty s) (right-consequences s);
+  wrong-has = (
+    [],
+    [],
+    λ s.
+        spoiled-has DONE (empty s) (right-consequences s) (λ x. x .answer .number ≡ DONE → (take (x .answer .one) (x .after .one) ≡ []) × (take (x .answer .two) (x .after .two) ≡ []))
+        (λ e h. (refl, refl)) (λ other h. absurd (other h)),
+  );
+  all-else = λ s. spoiled-but DONE (empty s) (right-consequences s) (λ a b. a .after .tables ≡ b .after .tables) (λ e. sym (right-consequences-keeps s .when-done e .tables-stay));
+}
   where
-    empty : Reached (fresh-shown four)
-    empty = opened-four
+    empty : WithLists → Answered WithLists → Answered WithLists
+    empty s x = record { answer = record { number = DONE; one = 0; two = 0 }; after = s }
 
-    full : Reached (shown-after (fresh-shown four) (Row.watch (rule 3 3 (pos 0)) ∷ []))
-    full = after (Row.watch (rule 3 3 (pos 0)) ∷ []) tt
+    never : (e : ConsequencesEngine) → ConsequencesKeeps e → ConstantLists e → ⊥
+    never e keeps (all, none, same) =
+        let watching : Reached (shown-after (fresh-shown four) (Row.watch (rule 3 3 (pos 0)) ∷ [])) = after (Row.watch (rule 3 3 (pos 0)) ∷ []) tt in
+        let nothing = must-split e keeps (fresh-shown four) opened-four [] [] tt in
+        let one = must-split e keeps (shown-after (fresh-shown four) (Row.watch (rule 3 3 (pos 0)) ∷ [])) watching (0 ∷ []) [] tt in
+        omega (
+          arith,
+          ap length (sym (same (asked opened-four) (number-done (nothing .0)) .0) ∙ nothing .1),
+          ap length (sym (same (asked watching) (number-done (one .0)) .0) ∙ one .1),
+        )
 
--- One that touches nothing.
-pub touches-nothing : (e : AddEngine) → ((r : Rule) (s : WithList) → e .run r s .after ≡ s) → ⊥
-unfolding lent
-touches-nothing e same =
-    omega (
-      arith,
-      ap (λ s. at (s .tables .days) 1) (same (rule 0 1 (minus 2)) (lent e (fresh-shown four) opened-four)),
-      must-add e (fresh-shown four) opened-four (rule 0 1 (minus 2)) 1 (0 ∷ 2 ∷ 0 ∷ 0 ∷ []) tt .1 .each 1 (omega arith),
-      opened-four .shows .each-day 1 (omega (arith, opened-four .shows .steps)),
-    )
+-- One that touches nothing. It is enough that it leaves the days as they were.
+abbrev pub TouchesNoDay : AddEngine → Type 0
+TouchesNoDay e = (r : Rule) (s : WithList) → e r s .answer .number ≡ DONE → e r s .after .tables .days ≡ s .tables .days
 
--- One that works at the first Add and coasts afterwards: with a rule held, Consequences goes on answering as before the Add.
-pub coasts-afterwards :
-    (a : AddEngine) (c : ConsequencesEngine)
-    → ((r : Rule) (s : WithList) (l m : List ℕ)
+pub touches-nothing : Excluded AddKeeps TouchesNoDay (λ x y. (r : Rule) (s : WithList) → But DONE SameButDays (x r s) (y r s))
+touches-nothing = record {
+  never = never;
+  right = right-add;
+  right-keeps = right-add-keeps;
+  wrong = λ r s. spoiled DONE (other-days (s .tables .days)) (right-add r s);
+  wrong-has = λ r s.
+      spoiled-has DONE (other-days (s .tables .days)) (right-add r s) (λ x. x .answer .number ≡ DONE → x .after .tables .days ≡ s .tables .days)
+      (λ e h. refl) (λ other h. absurd (other h));
+  all-else = λ r s. spoiled-but DONE (other-days (s .tables .days)) (right-add r s) SameButDays (λ e. (refl, refl, refl));
+}
+  where
+    never : (e : AddEngine) → AddKeeps e → TouchesNoDay e → ⊥
+    never e keeps same =
+        let must = must-add e keeps (fresh-shown four) opened-four (rule 0 1 (minus 2)) 1 (0 ∷ 2 ∷ 0 ∷ 0 ∷ []) tt in
+        omega (
+          arith,
+          ap (λ (l : List ℕ). at l 1) (same (rule 0 1 (minus 2)) (lent opened-four) (number-done (must .0))),
+          must .1 .each 1 (omega arith),
+          opened-four .shows .each-day 1 (omega (arith, opened-four .shows .steps)),
+        )
+
+-- One that works at the first Add and coasts afterwards: once a rule is held, Consequences answers after an accepted Add what it answered before it.
+abbrev pub Coasts : AddEngine × ConsequencesEngine → Type 0
+Coasts (a, c) =
+    (r : Rule) (s : WithList) (l m : List ℕ)
     → 1 ≤ s .tables .counts .rules
-    → c .run (record { tables = a .run r s .after .tables; one = l; two = m }) .answer ≡ c .run (record { tables = s .tables; one = l; two = m }) .answer)
-    → ⊥
-unfolding lent asked places
-coasts-afterwards a c same = omega (arith, ap (λ g. g .one) (sym first-answer ∙ sym coasting ∙ ap (λ z. c .run (record { tables = w′ .tables; one = replicate z 0; two = replicate z 0 }) .answer) watched-same ∙ second-answer))
+    → a r s .answer .number ≡ DONE
+    → c (record { tables = s .tables; one = l; two = m }) .answer .number ≡ DONE
+    → c (record { tables = a r s .after .tables; one = l; two = m }) .answer .number ≡ DONE
+    → c (record { tables = a r s .after .tables; one = l; two = m }) .answer ≡ c (record { tables = s .tables; one = l; two = m }) .answer
+
+-- The wrong one that is shown accepts what a right one accepts and then changes nothing; at the first Add, and in Consequences, it is right.
+pub coasts-afterwards :
+    Excluded (λ (a, c). AddKeeps a × ConsequencesKeeps c) Coasts
+    (λ (a, c) (b, d). ((r : Rule) (s : WithList) → s .tables .counts .rules ≡ 0 → a r s ≡ b r s)
+    × ((r : Rule) (s : WithList) → But DONE (λ x y. x .answer .number ≡ y .answer .number) (a r s) (b r s))
+    × ((s : WithLists) → c s ≡ d s))
+coasts-afterwards = record {
+  never = never;
+  right = (right-add, right-consequences);
+  right-keeps = (right-add-keeps, right-consequences-keeps);
+  wrong = (coasting, right-consequences);
+  wrong-has = λ r s l m some.
+      either-has (s .tables .counts .rules) 0 (right-add r s) (spoiled DONE (idle s) (right-add r s)) (Unmoved s l m)
+      (λ e. absurd (omega arith)) (λ e. spoiled-has DONE (idle s) (right-add r s) (Unmoved s l m) (λ h done before later. refl) (λ other done. absurd (other done)));
+  all-else = (
+    (λ r s first. either-has (s .tables .counts .rules) 0 (right-add r s) (spoiled DONE (idle s) (right-add r s)) (λ x. x ≡ right-add r s) (λ e. refl) (λ other. absurd (other first))),
+    (λ r s.
+        either-has (s .tables .counts .rules) 0 (right-add r s) (spoiled DONE (idle s) (right-add r s))
+        (λ x. But DONE (λ x y. x .answer .number ≡ y .answer .number) x (right-add r s)) (λ e. ((λ h. refl), λ h. refl))
+        (λ e. spoiled-but DONE (idle s) (right-add r s) (λ x y. x .answer .number ≡ y .answer .number) sym)),
+    λ s. refl,
+  );
+}
   where
-    m : Shown
-    m = shown-after (fresh-shown four) (dry ∷ Row.watch (rule 0 2 (minus 5)) ∷ [])
+    idle : WithList → Answered WithList → Answered WithList
+    idle s x = record { answer = record { number = DONE; one = 0; two = 0 }; after = s }
 
-    w : Reached m
-    w = after (dry ∷ Row.watch (rule 0 2 (minus 5)) ∷ []) tt
+    coasting : AddEngine
+    coasting r s = cond (eqb (s .tables .counts .rules) 0) (right-add r s) (spoiled DONE (idle s) (right-add r s))
 
-    w′ : Reached (next-shown m press)
-    w′ = record { tables = a .run (rule 1 2 (minus 3)) (lent a m w) .after .tables; shows = must-add a m w (rule 1 2 (minus 3)) 1 (0 ∷ 2 ∷ 5 ∷ 0 ∷ []) tt .2 }
+    Unmoved : WithList → List ℕ → List ℕ → Answered WithList → Type 0
+    Unmoved s l m x =
+        x .answer .number ≡ DONE
+        → right-consequences (record { tables = s .tables; one = l; two = m }) .answer .number ≡ DONE
+        → right-consequences (record { tables = x .after .tables; one = l; two = m }) .answer .number ≡ DONE
+        → right-consequences (record { tables = x .after .tables; one = l; two = m }) .answer ≡ right-consequences (record { tables = s .tables; one = l; two = m }) .answer
 
-    first-answer : Done 0 0 (c .run (asked c m w) .answer)
-    first-answer = must-split c m w [] [] tt .0
+    never : (e : AddEngine × ConsequencesEngine) → AddKeeps (e .0) × ConsequencesKeeps (e .1) → Coasts e → ⊥
+    never (a, c) (keeps-a, keeps-c) coasts =
+        omega (arith, ap (λ (g : Given). g .one) (sym (before .0) ∙ sym (coasts (rule 1 2 (minus 3)) (lent w) _ _ (omega (arith, w .shows .rules)) (number-done (pressed .0)) (number-done (before .0)) (number-done later)) ∙ later))
+      where
+        m : Shown
+        m = shown-after (fresh-shown four) (dry ∷ Row.watch (rule 0 2 (minus 5)) ∷ [])
 
-    second-answer : Done 1 0 (c .run (asked c (next-shown m press) w′) .answer)
-    second-answer = must-split c (next-shown m press) w′ (0 ∷ []) [] tt .0
+        w : Reached m
+        w = after (dry ∷ Row.watch (rule 0 2 (minus 5)) ∷ []) tt
 
-    watched-same : w .tables .counts .watched ≡ w′ .tables .counts .watched
-    watched-same = w .shows .watched ∙ sym (w′ .shows .watched)
+        pressed : Done 1 0 (a (rule 1 2 (minus 3)) (lent w) .answer) × Days (a (rule 1 2 (minus 3)) (lent w) .after .tables) (0 ∷ 2 ∷ 5 ∷ 0 ∷ []) × Shows (a (rule 1 2 (minus 3)) (lent w) .after .tables) (next-shown m press)
+        pressed = must-add a keeps-a m w (rule 1 2 (minus 3)) 1 (0 ∷ 2 ∷ 5 ∷ 0 ∷ []) tt
 
-    coasting : c .run (record { tables = w′ .tables; one = places c m w; two = places c m w }) .answer ≡ c .run (asked c m w) .answer
-    coasting = same (rule 1 2 (minus 3)) (lent a m w) (places c m w) (places c m w) (omega (arith, w .shows .rules))
+        u : Reached (next-shown m press)
+        u = record { tables = a (rule 1 2 (minus 3)) (lent w) .after .tables; shows = pressed .2 }
 
--- One that invents its count of moved steps: the count hangs on the rule alone.
-pub invents-its-count : (e : AddEngine) (count : Rule → ℕ) → ((r : Rule) (s : WithList) → e .run r s .answer .one ≡ count r) → ⊥
-invents-its-count e count same =
-    omega (
-      arith,
-      same r (lent e (fresh-shown four) opened-four),
-      ap (λ g. g .one) (must-add e (fresh-shown four) opened-four r 1 (0 ∷ 2 ∷ 0 ∷ 0 ∷ []) tt .0),
-      same r (lent e (shown-after (fresh-shown four) (dry ∷ [])) again),
-      ap (λ g. g .one) (must-add e (shown-after (fresh-shown four) (dry ∷ [])) again r 0 (0 ∷ 2 ∷ 0 ∷ 0 ∷ []) tt .0),
-    )
+        before : Done 0 0 (c (asked w) .answer) × (take (c (asked w) .answer .one) (c (asked w) .after .one) ≡ [])
+        before = must-split c keeps-c m w [] [] tt
+
+        watched-same : u .tables .counts .watched ≡ w .tables .counts .watched
+        watched-same = u .shows .watched ∙ sym (w .shows .watched)
+
+        later : Done 1 0 (c (record { tables = u .tables; one = places (w .tables); two = places (w .tables) }) .answer)
+        later = subst (λ (k : ℕ). Done 1 0 (c (record { tables = u .tables; one = replicate k 0; two = replicate k 0 }) .answer)) watched-same (must-split c keeps-c (next-shown m press) u (0 ∷ []) [] tt .0)
+
+-- One that invents its count of moved steps: the count hangs on the rule and the counts of the tables alone.
+abbrev pub InventsCount : AddEngine → Type 0
+InventsCount e = (count : Rule → Counts → ℕ) × ((r : Rule) (s : WithList) → e r s .answer .number ≡ DONE → e r s .answer .one ≡ count r (s .tables .counts))
+
+pub invents-its-count : Excluded AddKeeps InventsCount (λ x y. (r : Rule) (s : WithList) → But DONE SameButCount (x r s) (y r s))
+invents-its-count = record {
+  never = never;
+  right = right-add;
+  right-keeps = right-add-keeps;
+  wrong = λ r s. spoiled DONE one (right-add r s);
+  wrong-has = ((λ r c. 1), λ r s. spoiled-has DONE one (right-add r s) (λ x. x .answer .number ≡ DONE → x .answer .one ≡ 1) (λ e h. refl) (λ other h. absurd (other h)));
+  all-else = λ r s. spoiled-but DONE one (right-add r s) SameButCount (λ e. (refl, refl, refl));
+}
   where
+    one : Answered WithList → Answered WithList
+    one x = record { answer = record { number = x .answer .number; one = 1; two = x .answer .two }; after = x .after }
+
     r : Rule
     r = rule 0 1 (minus 2)
 
-    again : Reached (shown-after (fresh-shown four) (dry ∷ []))
-    again = after (dry ∷ []) tt
+    -- Cutting and drying is held already; and another rule is held instead.
+    held : Reached (shown-after (fresh-shown four) (dry ∷ []))
+    held = after (dry ∷ []) tt
+
+    not-held : Reached (shown-after (fresh-shown four) (Row.add (rule 3 3 (pos 0)) 0 four ∷ []))
+    not-held = after (Row.add (rule 3 3 (pos 0)) 0 four ∷ []) tt
+
+    same-counts : held .tables .counts ≡ not-held .tables .counts
+    same-counts i =
+        record {
+          steps = (held .shows .steps ∙ sym (not-held .shows .steps)) i;
+          rules = (held .shows .rules ∙ sym (not-held .shows .rules)) i;
+          marks = (held .shows .marks ∙ sym (not-held .shows .marks)) i;
+          watched = (held .shows .watched ∙ sym (not-held .shows .watched)) i;
+        }
+
+    never : (e : AddEngine) → AddKeeps e → InventsCount e → ⊥
+    never e keeps (count, same) =
+        let none = must-add e keeps (shown-after (fresh-shown four) (dry ∷ [])) held r 0 (0 ∷ 2 ∷ 0 ∷ 0 ∷ []) tt in
+        let some = must-add e keeps (shown-after (fresh-shown four) (Row.add (rule 3 3 (pos 0)) 0 four ∷ [])) not-held r 1 (0 ∷ 2 ∷ 0 ∷ 0 ∷ []) tt in
+        omega (
+          arith,
+          same r (lent held) (number-done (none .0)),
+          same r (lent not-held) (number-done (some .0)),
+          ap (count r) same-counts,
+          ap (λ (g : Given). g .one) (none .0),
+          ap (λ (g : Given). g .one) (some .0),
+        )
 
 -- ---- the wrong roads
 
@@ -256,23 +495,38 @@ pub distances-below-0 : (d : ℕ → ℤ) → d 0 ≡ minus 2 → d 1 ≡ pos 0 
 distances-below-0 d a b p same = omega (arith, ap dn (same 0 (omega arith) ∙ a))
 
 -- Keeping the days after Back because they still satisfy the rules.
-pub keeps-days-after-back : (e : BackEngine) → ((t : Tables) → e .run t .after .days ≡ t .days) → ⊥
-keeps-days-after-back e same =
-    omega (
-      arith,
-      ap (λ l. at l 2) (same (w .tables)),
-      w .shows .each-day 2 (omega (arith, w .shows .steps)),
-      must .2 .each 2 (omega arith),
-    )
+abbrev pub KeepsDays : BackEngine → Type 0
+KeepsDays e = (t : Tables) → e t .answer .number ≡ DONE → e t .after .days ≡ t .days
+
+pub keeps-days-after-back :
+    Excluded BackKeeps KeepsDays (λ x y. (t : Tables) → But DONE (λ a b. (a .answer ≡ b .answer) × (with-days [] (a .after) ≡ with-days [] (b .after))) (x t) (y t))
+keeps-days-after-back = record {
+  never = never;
+  right = right-back;
+  right-keeps = right-back-keeps;
+  wrong = λ t. spoiled DONE (old-days t) (right-back t);
+  wrong-has = λ t. spoiled-has DONE (old-days t) (right-back t) (λ x. x .answer .number ≡ DONE → x .after .days ≡ t .days) (λ e h. refl) (λ other h. absurd (other h));
+  all-else = λ t. spoiled-but DONE (old-days t) (right-back t) (λ a b. (a .answer ≡ b .answer) × (with-days [] (a .after) ≡ with-days [] (b .after))) (λ e. (refl, refl));
+}
   where
+    old-days : Tables → Answered Tables → Answered Tables
+    old-days t x = record { answer = x .answer; after = with-days (t .days) (x .after) }
+
     m : Shown
     m = shown-after (fresh-shown four) (dry ∷ Row.mark ∷ press ∷ [])
 
     w : Reached m
     w = after (dry ∷ Row.mark ∷ press ∷ []) tt
 
-    must : Done 0 0 (e .run (w .tables) .answer) × (e .run (w .tables) .after .counts .rules ≡ 1) × Days (e .run (w .tables) .after) (0 ∷ 2 ∷ 0 ∷ 0 ∷ []) × Unit {0}
-    must = row-holds (Row.back 1 (0 ∷ 2 ∷ 0 ∷ 0 ∷ [])) m tt (w .tables) (w .shows) (λ u. Unit {0}) (λ u s. tt) .0 (e .run (w .tables) .answer) (e .run (w .tables) .after) (e .keeps (w .tables))
+    never : (e : BackEngine) → BackKeeps e → KeepsDays e → ⊥
+    never e keeps same =
+        let must = row-holds (Row.back 1 (0 ∷ 2 ∷ 0 ∷ 0 ∷ [])) m tt (w .tables) (w .shows) (λ u. Unit {0}) (λ u s. tt) .0 (e (w .tables) .answer) (e (w .tables) .after) (keeps (w .tables)) in
+        omega (
+          arith,
+          ap (λ (l : List ℕ). at l 2) (same (w .tables) (number-done (must .0))),
+          w .shows .each-day 2 (omega (arith, w .shows .steps)),
+          must .2 .each 2 (omega arith),
+        )
 
 -- Taking "each day is 0 or forced by some rule with nothing to spare" as the test for earliest.
 abbrev pub HeldUp : (ℕ → Rule) → (ℕ → Type 0) → (ℕ → ℕ) → ℕ → Type 0
@@ -304,42 +558,101 @@ with-loop = rule 0 1 (pos 0) ∷ rule 1 0 (pos 0) ∷ rule 1 1 (minus 1) ∷ []
 pub walk-leads-back : Leads (nth with-loop) (2 ∷ 1 ∷ 0 ∷ []) 1 1 × (total (nth with-loop) (2 ∷ 1 ∷ 0 ∷ []) ≡ minus 1)
 walk-leads-back = ((refl, (refl, (refl, refl))), refl)
 
-pub reports-a-walk : (e : AddEngine) → ((r : Rule) (s : WithList) → s .tables .counts .rules ≡ 2 → take (e .run r s .answer .one) (e .run r s .after .list) ≡ 2 ∷ 1 ∷ 0 ∷ []) → ⊥
-unfolding lent
-reports-a-walk e walks = omega (arith, ap length (sym (must .1) ∙ walks (rule 1 1 (minus 1)) (lent e m w) (w .shows .rules)))
+-- The engine is asked for one rule on one set of tables, says CONFLICT, and the list that it reports meets a step twice.
+abbrev pub ReportsWalk : AddEngine → Type 0
+ReportsWalk e =
+    (r : Rule) × (s : WithList) × (e r s .answer .number ≡ CONFLICT)
+    × (Different (map (λ i. rules-and r (s .tables) i .first) (take (e r s .answer .one) (e r s .after .list))) → ⊥)
+
+pub reports-a-walk : Excluded AddKeeps ReportsWalk (λ x y. (r : Rule) (s : WithList) → But CONFLICT SameButRing (x r s) (y r s))
+reports-a-walk = record {
+  never = λ e keeps (r, s, conflict, twice). twice (refutes-different (rules-of (s .tables)) (held-in (s .tables)) (next-in (s .tables)) r (take (e r s .answer .one) (e r s .after .list)) (keeps r s .on-conflict conflict .0 .ring-given .holds));
+  right = right-add;
+  right-keeps = right-add-keeps;
+  wrong = λ r s. spoiled CONFLICT (walks s) (right-add r s);
+  wrong-has = (new, lent w, parts .0, parts .1);
+  all-else = λ r s. spoiled-but CONFLICT (walks s) (right-add r s) SameButRing (λ e. (refl, refl, refl));
+}
   where
+    walk : List ℕ
+    walk = 2 ∷ 1 ∷ 0 ∷ []
+
+    walks : WithList → Answered WithList → Answered WithList
+    walks s x = record { answer = record { number = x .answer .number; one = length walk; two = x .answer .two }; after = record { tables = x .after .tables; list = over walk (s .list) } }
+
+    new : Rule
+    new = rule 1 1 (minus 1)
+
     m : Shown
     m = shown-after (fresh-shown four) (Row.add (rule 0 1 (pos 0)) 0 four ∷ Row.add (rule 1 0 (pos 0)) 0 four ∷ [])
 
     w : Reached m
     w = after (Row.add (rule 0 1 (pos 0)) 0 four ∷ Row.add (rule 1 0 (pos 0)) 0 four ∷ []) tt
 
-    must : (e .run (rule 1 1 (minus 1)) (lent e m w) .answer .number ≡ CONFLICT) × (take (e .run (rule 1 1 (minus 1)) (lent e m w) .answer .one) (e .run (rule 1 1 (minus 1)) (lent e m w) .after .list) ≡ 2 ∷ [])
-    must = must-refuse e m w (rule 1 1 (minus 1)) (2 ∷ []) (minus 1) tt
+    F : ℕ → ℕ
+    F i = rules-and new (w .tables) i .first
+
+    -- Step 1 is the first step of the refused rule, under number 2, and of the rule under number 1.
+    twice : F 2 ≡ F 1
+    twice =
+        ap (λ (k : ℕ). more (rules-of (w .tables)) k new 2 .first) (w .shows .rules)
+        ∙ sym (ap (λ (k : ℕ). more (rules-of (w .tables)) k new 1 .first) (w .shows .rules) ∙ ap (λ (q : Rule). q .first) (w .shows .each-rule 1 (omega (arith, w .shows .rules))))
+
+    parts : (spoiled CONFLICT (walks (lent w)) (right-add new (lent w)) .answer .number ≡ CONFLICT)
+        × (Different (map F (take (spoiled CONFLICT (walks (lent w)) (right-add new (lent w)) .answer .one) (spoiled CONFLICT (walks (lent w)) (right-add new (lent w)) .after .list))) → ⊥)
+    parts =
+        spoiled-has CONFLICT (walks (lent w)) (right-add new (lent w)) (λ x. (x .answer .number ≡ CONFLICT) × (Different (map F (take (x .answer .one) (x .after .list))) → ⊥))
+        (λ e. (e, λ d. subst (λ (l : List ℕ). Different (map F l)) (over-take walk scratch) d .0 .0 twice))
+        (λ other. absurd (other (must-refuse right-add right-add-keeps m w new (2 ∷ []) (minus 1) tt)))
 
 -- Finding consequences from the days alone: a watched rule that the days keep is put into the first list.
-pub consequences-from-days :
-    (e : ConsequencesEngine)
-    → ((s : WithLists) (j : ℕ) → j < s .tables .counts .watched → Keeps (λ v. pos (at (s .tables .days) v)) (rule-at (s .tables .watched) j) → 1 ≤ e .run s .answer .one)
-    → ⊥
-unfolding asked
-consequences-from-days e from-days =
-    omega (
-      arith,
-      ap (λ g. g .one) (must-split e m w [] [] tt .0),
-      from-days (asked e m w) 0 (omega (arith, w .shows .watched)) kept,
-    )
+abbrev pub FromDays : ConsequencesEngine → Type 0
+FromDays e =
+    (s : WithLists)
+    → e s .answer .number ≡ DONE
+    → (j : ℕ)
+    → j < s .tables .counts .watched
+    → Keeps (λ v. pos (at (s .tables .days) v)) (rule-at (s .tables .watched) j)
+    → In j (take (e s .answer .one) (e s .after .one))
+
+abbrev pub SameButFirst : Answered WithLists → Answered WithLists → Type 0
+SameButFirst x y = (x .answer .number ≡ y .answer .number) × (x .answer .two ≡ y .answer .two) × (x .after .two ≡ y .after .two) × (x .after .tables ≡ y .after .tables)
+
+pub consequences-from-days : Excluded ConsequencesKeeps FromDays (λ x y. (s : WithLists) → But DONE SameButFirst (x s) (y s))
+consequences-from-days = record {
+  never = λ e keeps from-days.
+      let must = must-split e keeps m w [] [] tt in
+      subst (In 0) (must .1) (from-days (asked w) (number-done (must .0)) 0 (omega (arith, w .shows .watched)) kept);
+  right = right-consequences;
+  right-keeps = right-consequences-keeps;
+  wrong = λ s. spoiled DONE (from s) (right-consequences s);
+  wrong-has = λ s.
+      spoiled-has DONE (from s) (right-consequences s)
+      (λ x. x .answer .number ≡ DONE → (j : ℕ) → j < s .tables .counts .watched → Kept s j → In j (take (x .answer .one) (x .after .one)))
+      (λ e h j below keeps. subst (In j) (sym (over-take (all s .0) (s .one))) (all s .1 .all-there j below keeps)) (λ other h. absurd (other h));
+  all-else = λ s. spoiled-but DONE (from s) (right-consequences s) SameButFirst (λ e. (refl, refl, refl, refl));
+}
   where
-    rows : List Row
-    rows = dry ∷ press ∷ Row.watch (rule 2 0 (pos 5)) ∷ []
+    Kept : WithLists → ℕ → Type 0
+    Kept s j = Keeps (λ v. pos (at (s .tables .days) v)) (rule-at (s .tables .watched) j)
+
+    all : (s : WithLists) → (l : List ℕ) × Exactly (Kept s) (s .tables .counts .watched) l
+    all s = exactly-some (Kept s) (λ j. keeps? (λ v. pos (at (s .tables .days) v)) (rule-at (s .tables .watched) j)) (s .tables .counts .watched)
+
+    from : WithLists → Answered WithLists → Answered WithLists
+    from s x =
+        record {
+          answer = record { number = x .answer .number; one = length (all s .0); two = x .answer .two };
+          after = record { tables = x .after .tables; one = over (all s .0) (s .one); two = x .after .two };
+        }
 
     m : Shown
-    m = shown-after (fresh-shown four) rows
+    m = shown-after (fresh-shown four) (dry ∷ press ∷ Row.watch (rule 2 0 (pos 5)) ∷ [])
 
     w : Reached m
-    w = after rows tt
+    w = after (dry ∷ press ∷ Row.watch (rule 2 0 (pos 5)) ∷ []) tt
 
-    kept : Keeps (λ v. pos (at (w .tables .days) v)) (rule-at (w .tables .watched) 0)
+    kept : Kept (asked w) 0
     kept =
         subst
         (Keeps (λ v. pos (at (w .tables .days) v)))
