@@ -105,7 +105,7 @@ module _ (n m : ℕ) (R : ℕ → Rule) (H : ℕ → Type 0) (held? : (i : ℕ) 
                 sum-less q (later q (R i .second)) n (λ v lower. omega arith) (R i .second) (steps i held .second-in)
                 (omega (arith, later-here q (R i .second) (R i .second) refl));
           })
-      found (no none) = inl (record { plan = λ i held. kept i held (keeps? (λ v. pos (q v)) (R i)); no-later = under })
+      found (no none) = inl (record { plan = λ i held. kept i held (keeps? (λ v. pos (q v)) (R i)); no-later = λ p plan v below. omega (arith, under p plan v below) })
         where
           kept : (i : ℕ) → H i → Dec (Keeps (λ v. pos (q v)) (R i)) → Keeps (λ v. pos (q v)) (R i)
           kept i held (yes h) = h

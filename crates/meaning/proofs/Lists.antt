@@ -80,7 +80,7 @@ over-take l before = take-append-seam l (drop (length l) before)
 pub over-filled : {P : List ℕ → Type 0} (l before : List ℕ) → length l ≤ length before → P l → Filled (length l) P before (over l before)
 over-filled {P} l before h p =
     record {
-      within = h;
+      within = omega arith;
       holds = subst P (sym (over-take l before)) p;
       past = over-past l before h;
     }

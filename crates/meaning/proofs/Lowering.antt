@@ -86,5 +86,5 @@ grounded-no-later R H p q plan (forced i held tight from) =
 pub grounded-earliest : (n : ℕ) (R : ℕ → Rule) (H : ℕ → Type 0) (p : ℕ → ℕ) → Plan R H p → ((v : ℕ) → v < n → Grounded R H p v) → Earliest n R H p
 grounded-earliest n R H p plan grounded = record {
   plan = plan;
-  no-later = λ q other v below. grounded-no-later R H p q other (grounded v below);
+  no-later = λ q other v below. omega (arith, grounded-no-later R H p q other (grounded v below));
 }

@@ -337,8 +337,8 @@ pub back-possible : (t : Tables) → Outcome (back-meaning t) t
 back-possible t =
     look-at-tables m t t (Room t) (needs NOMARK (1 ≤ t .counts .marks) ∷ []) (λ g f. f) (room? t) λ room sound last.
     look m t NOMARK (1 ≤ t .counts .marks) [] tt last (decLe _ _) λ some last-1.
-    let left : newest-mark t ≤ t .counts .rules = sound .marks-held (t .counts .marks - 1) (omega arith) in
-    let (p, earliest) = earliest-exists (t .counts .steps) (newest-mark t) (rules-of t) (λ i below. sound .rules-good i (omega arith) .steps-in) (λ v. pos (at (t .days) v)) (λ i below. sound .days-earliest .plan i (omega arith)) in
+    let fewer : newest-mark t ≤ t .counts .rules = sound .marks-held (t .counts .marks - 1) (omega arith) in
+    let (p, earliest) = earliest-exists (t .counts .steps) (without-mark t .counts .rules) (rules-of t) (λ i below. sound .rules-good i (omega arith) .steps-in) (λ v. pos (at (t .days) v)) (λ i below. sound .days-earliest .plan i (omega arith)) in
     allowed-outcome (back-met t room sound some p earliest)
   where
     m : Meaning Tables

@@ -196,7 +196,7 @@ back-kept t u k some is p = subst Kept (sym is) kept
                 rules-good = λ i h. s .rules-good i (omega (arith, fewer));
                 watched-good = s .watched-good;
                 marks-never-fall = λ i j h g. s .marks-never-fall i j h (omega arith);
-                marks-held = λ i h. s .marks-never-fall i (t .counts .marks - 1) (omega arith) (omega arith);
+                marks-held = λ i h. omega (arith, fewer, s .marks-never-fall i (t .counts .marks - 1) (omega arith) (omega arith));
                 days-earliest = p .earliest;
               };
           room =

@@ -1,7 +1,6 @@
 -- Laws of rules, plans and rings: the earliest plan is unique, negation is exact, a negative ring excludes every arrangement.
 use Prim.Native.Nat.{ℕ, zero, suc, _+_, _≤_, _<_}
 use native.Mathlib.Omega.{arith}
-use native.Mathlib.Nat.{le-antisymm}
 use mathlib.Core.Path.{_≡_, refl, sym, _∙_, ap, subst}
 use mathlib.Core.List.{List, [], _∷_}
 use mathlib.Core.Logic.{_⊎_, inl, inr, _↔_}
@@ -15,7 +14,7 @@ use Rattle.meaning.proofs.Whole.{up, dn, le→, →le, lt→, →eq, ad
 
 -- Two earliest plans of the same rules have the same days below n.
 pub earliest-unique : {n : ℕ} {R : ℕ → Rule} {H : ℕ → Type 0} {p q : ℕ → ℕ} → Earliest n R H p → Earliest n R H q → (v : ℕ) → v < n → p v ≡ q v
-earliest-unique {p} {q} a b v h = le-antisymm (a .no-later q (b .plan) v h) (b .no-later p (a .plan) v h)
+earliest-unique {p} {q} a b v h = omega (arith, a .no-later q (b .plan) v h, b .no-later p (a .plan) v h)
 
 -- What is said of the rules held is said of any family with the same rules under the numbers held.
 pub arrangement-same : {R S : ℕ → Rule} {H G : ℕ → Type 0} (d : ℕ → ℤ) → ((i : ℕ) → G i → H i) → ((i : ℕ) → G i → R i ≡ S i) → Arrangement R H d → Arrangement S G d
@@ -119,7 +118,7 @@ all-implies f (i ∷ l) h = (f i (h .0), all-implies f l (h .1))
 pub ring-excludes : (R : ℕ → Rule) (H : ℕ → Type 0) (k : ℕ) (r : Rule) (l : List ℕ) → Refutes R H k r l → Fits R H r → ⊥
 ring-excludes R H k r [] h f = h
 ring-excludes R H k r (j ∷ l) h f =
-    omega (arith, walk-bound (more R k r) (f .days) (k ∷ l) start start (h .1 .ring .leads-back) kept, lt→ (total (more R k r) (k ∷ l)) (pos 0) (h .1 .negative))
+    omega (arith, walk-bound (more R k r) (f .days) (k ∷ l) start start (h .1 .ring .leads-back) kept, lt→ (total (more R k r) (k ∷ l)) _ (h .1 .negative))
   where
     start : ℕ
     start = more R k r k .first
