@@ -9,17 +9,20 @@ use mathlib.Core.List.{List, [], _∷_, map}
 use mathlib.Core.Logic.{_⊎_, inl, inr}
 use mathlib.Core.Bool.{cond}
 use lib.IntN.{ℤ, pos, negℤ}
+use lib.Signed.{_<ℤ_}
 use lib.ListN.{length, replicate, take, length-replicate}
 use Rattle.meaning.specs.Bounds.{STEPS, RULES, MARKS, WATCHED, DONE, FULL, CONFLICT}
 use Rattle.meaning.specs.declared.Counts.{Counts}
-use Rattle.meaning.specs.Rules.{Rule, Keeps, Plan, Earliest, Leads, Different, total, more, Refutes, Tight}
+use Rattle.meaning.specs.Rules.{Rule, Keeps, Plan, Earliest, Leads, All, Different, total, more, Tight}
 use Rattle.meaning.specs.Tables.{Tables, Columns, rule-at, at, ColumnsRoom, Room, with-days}
 use Rattle.meaning.specs.Promise.{Given, bare, Meaning, Obeys, In, Exactly}
-use Rattle.meaning.specs.Calls.{WithList, WithLists, rules-of, held-in, next-in, rules-and, add-meaning, back-meaning, consequences-meaning}
+use Rattle.meaning.specs.Calls.{WithList, WithLists, rules-of, held-in, next-in, rules-and, held-and, add-meaning, back-meaning, consequences-meaning}
 use Rattle.meaning.specs.Runs.{Call, Made}
 use Rattle.meaning.specs.Cases.{Row, Days, Done, Says}
 use Rattle.meaning.proofs.Whole.{up, dn, keeps→, →plan, keeps?}
+use Rattle.meaning.proofs.More.{more-new, more-old}
 use Rattle.meaning.proofs.Counting.{refutes-different}
+use Rattle.meaning.proofs.Rings.{leads-same, total-same}
 use Rattle.meaning.proofs.Lists.{over, over-take, exactly-some}
 use lib.Dec.{T, eqb}
 use borrow.Author.Tests.{eq-eqb, ne-eqb}
@@ -247,6 +250,13 @@ SameButCount x y = (x .answer .number ≡ y .answer .number) × (x .answer .two 
 abbrev pub SameButRing : Answered WithList → Answered WithList → Type 0
 SameButRing x y = (x .answer .number ≡ y .answer .number) × (x .answer .two ≡ y .answer .two) × (x .after .tables ≡ y .after .tables)
 
+-- The same of two answers of Consequences that differ in the lists, in the first list.
+abbrev pub SameButLists : Answered WithLists → Answered WithLists → Type 0
+SameButLists x y = (x .answer .number ≡ y .answer .number) × (x .after .tables ≡ y .after .tables)
+
+abbrev pub SameButFirst : Answered WithLists → Answered WithLists → Type 0
+SameButFirst x y = (x .answer .number ≡ y .answer .number) × (x .answer .two ≡ y .answer .two) × (x .after .two ≡ y .after .two) × (x .after .tables ≡ y .after .tables)
+
 -- The answer with other days left.
 abbrev other-days : List ℕ → Answered WithList → Answered WithList
 other-days l x = record { answer = x .answer; after = record { tables = with-days l (x .after .tables); list = x .after .list } }
@@ -307,7 +317,7 @@ constant-plan = record {
 abbrev pub ConstantLists : ConsequencesEngine → Type 0
 ConstantLists e = (all : List ℕ) × (none : List ℕ) × ((s : WithLists) → e s .answer .number ≡ DONE → (take (e s .answer .one) (e s .after .one) ≡ all) × (take (e s .answer .two) (e s .after .two) ≡ none))
 
-pub constant-lists : Excluded ConsequencesKeeps ConstantLists (λ x y. (s : WithLists) → But DONE (λ a b. a .after .tables ≡ b .after .tables) (x s) (y s))
+pub constant-lists : Excluded ConsequencesKeeps ConstantLists (λ x y. (s : WithLists) → But DONE SameButLists (x s) (y s))
 constant-lists = record {
   never = never;
   right = right-consequences;
@@ -320,11 +330,11 @@ constant-lists = record {
         spoiled-has DONE (empty s) (right-consequences s) (λ x. x .answer .number ≡ DONE → (take (x .answer .one) (x .after .one) ≡ []) × (take (x .answer .two) (x .after .two) ≡ []))
         (λ e h. (refl, refl)) (λ other h. absurd (other h)),
   );
-  all-else = λ s. spoiled-but DONE (empty s) (right-consequences s) (λ a b. a .after .tables ≡ b .after .tables) (λ e. sym (right-consequences-keeps s .when-done e .tables-stay));
+  all-else = λ s. spoiled-but DONE (empty s) (right-consequences s) SameButLists (λ e. (refl, sym (right-consequences-keeps s .when-done e .tables-stay)));
 }
   where
     empty : WithLists → Answered WithLists → Answered WithLists
-    empty s x = record { answer = record { number = DONE; one = 0; two = 0 }; after = s }
+    empty s x = record { answer = record { number = x .answer .number; one = 0; two = 0 }; after = s }
 
     never : (e : ConsequencesEngine) → ConsequencesKeeps e → ConstantLists e → ⊥
     never e keeps (all, none, same) =
@@ -558,19 +568,25 @@ with-loop = rule 0 1 (pos 0) ∷ rule 1 0 (pos 0) ∷ rule 1 1 (minus 1) ∷ []
 pub walk-leads-back : Leads (nth with-loop) (2 ∷ 1 ∷ 0 ∷ []) 1 1 × (total (nth with-loop) (2 ∷ 1 ∷ 0 ∷ []) ≡ minus 1)
 walk-leads-back = ((refl, (refl, (refl, refl))), refl)
 
--- The engine is asked for one rule on one set of tables, says CONFLICT, and the list that it reports meets a step twice.
+-- All that is asked of the ring of a refused rule but that it starts no two rules from one step.
+abbrev pub Walk : Rule → Tables → List ℕ → Type 0
+Walk r t l = Leads (rules-and r t) l (r .first) (r .first) × (total (rules-and r t) l <ℤ pos 0) × All (held-and t) l
+
+-- On some input the engine says CONFLICT and reports such a walk, which meets a step twice.
 abbrev pub ReportsWalk : AddEngine → Type 0
 ReportsWalk e =
     (r : Rule) × (s : WithList) × (e r s .answer .number ≡ CONFLICT)
+    × Walk r (s .tables) (take (e r s .answer .one) (e r s .after .list))
     × (Different (map (λ i. rules-and r (s .tables) i .first) (take (e r s .answer .one) (e r s .after .list))) → ⊥)
 
 pub reports-a-walk : Excluded AddKeeps ReportsWalk (λ x y. (r : Rule) (s : WithList) → But CONFLICT SameButRing (x r s) (y r s))
 reports-a-walk = record {
-  never = λ e keeps (r, s, conflict, twice). twice (refutes-different (rules-of (s .tables)) (held-in (s .tables)) (next-in (s .tables)) r (take (e r s .answer .one) (e r s .after .list)) (keeps r s .on-conflict conflict .0 .ring-given .holds));
+  never = λ e keeps (r, s, conflict, leads, twice).
+      twice (refutes-different (rules-of (s .tables)) (held-in (s .tables)) (next-in (s .tables)) r (take (e r s .answer .one) (e r s .after .list)) (keeps r s .on-conflict conflict .0 .ring-given .holds));
   right = right-add;
   right-keeps = right-add-keeps;
   wrong = λ r s. spoiled CONFLICT (walks s) (right-add r s);
-  wrong-has = (new, lent w, parts .0, parts .1);
+  wrong-has = (new, lent w, reported .0, reported .1, reported .2);
   all-else = λ r s. spoiled-but CONFLICT (walks s) (right-add r s) SameButRing (λ e. (refl, refl, refl));
 }
   where
@@ -589,20 +605,36 @@ reports-a-walk = record {
     w : Reached m
     w = after (Row.add (rule 0 1 (pos 0)) 0 four ∷ Row.add (rule 1 0 (pos 0)) 0 four ∷ []) tt
 
-    F : ℕ → ℕ
-    F i = rules-and new (w .tables) i .first
+    F : ℕ → Rule
+    F = rules-and new (w .tables)
 
-    -- Step 1 is the first step of the refused rule, under number 2, and of the rule under number 1.
-    twice : F 2 ≡ F 1
-    twice =
-        ap (λ (k : ℕ). more (rules-of (w .tables)) k new 2 .first) (w .shows .rules)
-        ∙ sym (ap (λ (k : ℕ). more (rules-of (w .tables)) k new 1 .first) (w .shows .rules) ∙ ap (λ (q : Rule). q .first) (w .shows .each-rule 1 (omega (arith, w .shows .rules))))
+    old : (i : ℕ) → i < 2 → nth (m .rules) i ≡ F i
+    old i below =
+        sym (more-old (rules-of (w .tables)) (next-in (w .tables)) new i (λ e. omega (arith, w .shows .rules)) ∙ w .shows .each-rule i (omega (arith, w .shows .rules)))
 
-    parts : (spoiled CONFLICT (walks (lent w)) (right-add new (lent w)) .answer .number ≡ CONFLICT)
-        × (Different (map F (take (spoiled CONFLICT (walks (lent w)) (right-add new (lent w)) .answer .one) (spoiled CONFLICT (walks (lent w)) (right-add new (lent w)) .after .list))) → ⊥)
-    parts =
-        spoiled-has CONFLICT (walks (lent w)) (right-add new (lent w)) (λ x. (x .answer .number ≡ CONFLICT) × (Different (map F (take (x .answer .one) (x .after .list))) → ⊥))
-        (λ e. (e, λ d. subst (λ (l : List ℕ). Different (map F l)) (over-take walk scratch) d .0 .0 twice))
+    -- The rules under the numbers of the walk.
+    same : All (λ i. nth with-loop i ≡ F i) walk
+    same = (subst (λ (k : ℕ). new ≡ more (rules-of (w .tables)) k new 2) (sym (w .shows .rules)) (sym (more-new (rules-of (w .tables)) 2 new)), (old 1 (omega arith), (old 0 (omega arith), tt)))
+
+    is-walk : Walk new (w .tables) walk × (Different (map (λ i. F i .first) walk) → ⊥)
+    is-walk = (
+      (
+        leads-same (nth with-loop) F walk 1 1 same (walk-leads-back .0),
+        subst (λ (t : ℤ). t <ℤ pos 0) (sym (walk-leads-back .1) ∙ total-same (nth with-loop) F walk same) (record { lt = tt }),
+        (inl (sym (w .shows .rules)), (inr (omega (arith, w .shows .rules)), (inr (omega (arith, w .shows .rules)), tt))),
+      ),
+      λ different. different .0 .0 (ap (λ (q : Rule). q .first) (sym (same .0)) ∙ ap (λ (q : Rule). q .first) (same .1 .0)),
+    )
+
+    Reports : Answered WithList → Type 0
+    Reports x = (x .answer .number ≡ CONFLICT) × Walk new (w .tables) (take (x .answer .one) (x .after .list)) × (Different (map (λ i. F i .first) (take (x .answer .one) (x .after .list))) → ⊥)
+
+    reported : Reports (spoiled CONFLICT (walks (lent w)) (right-add new (lent w)))
+    reported =
+        spoiled-has CONFLICT (walks (lent w)) (right-add new (lent w)) Reports
+        (λ e.
+        let there = subst (λ (l : List ℕ). Walk new (w .tables) l × (Different (map (λ i. F i .first) l) → ⊥)) (sym (over-take walk scratch)) is-walk in
+        (e, there .0, there .1))
         (λ other. absurd (other (must-refuse right-add right-add-keeps m w new (2 ∷ []) (minus 1) tt)))
 
 -- Finding consequences from the days alone: a watched rule that the days keep is put into the first list.
@@ -614,9 +646,6 @@ FromDays e =
     → j < s .tables .counts .watched
     → Keeps (λ v. pos (at (s .tables .days) v)) (rule-at (s .tables .watched) j)
     → In j (take (e s .answer .one) (e s .after .one))
-
-abbrev pub SameButFirst : Answered WithLists → Answered WithLists → Type 0
-SameButFirst x y = (x .answer .number ≡ y .answer .number) × (x .answer .two ≡ y .answer .two) × (x .after .two ≡ y .after .two) × (x .after .tables ≡ y .after .tables)
 
 pub consequences-from-days : Excluded ConsequencesKeeps FromDays (λ x y. (s : WithLists) → But DONE SameButFirst (x s) (y s))
 consequences-from-days = record {
