@@ -25,6 +25,10 @@ past-same k before a b pa pb low = ext-getD 0 a b (pa .same-length ∙ sym (pb .
 pub past-refl : (k : ℕ) (l : List ℕ) → Past k l l
 past-refl k l = record { same-length = refl; kept = λ i h. refl }
 
+-- And the one is kept of the other where the other is of the one.
+pub past-back : {k : ℕ} {l m : List ℕ} → Past k l m → Past k m l
+past-back p = record { same-length = sym (p .same-length); kept = λ i h. sym (p .kept i h) }
+
 -- The count of moved steps reads only the places below n.
 pub moved-same : (n : ℕ) (a b c d : List ℕ) → ((v : ℕ) → v < n → at a v ≡ at b v) → ((v : ℕ) → v < n → at c v ≡ at d v) → moved n a c ≡ moved n b d
 moved-same zero a b c d e f = refl

@@ -61,7 +61,7 @@ pub written-at : (n : ℕ) (p : ℕ → ℕ) (before : List ℕ) (v : ℕ) → v
 unfolding written
 written-at n p before v h = over-front (values n p) before v (omega (arith, values-length n p)) ∙ values-at n p v h
 
-written-past : (n : ℕ) (p : ℕ → ℕ) (before : List ℕ) → n ≤ length before → Past n before (written n p before)
+pub written-past : (n : ℕ) (p : ℕ → ℕ) (before : List ℕ) → n ≤ length before → Past n before (written n p before)
 unfolding written
 written-past n p before h = subst (λ k. Past k before (over (values n p) before)) (values-length n p) (over-past (values n p) before (omega (arith, values-length n p)))
 

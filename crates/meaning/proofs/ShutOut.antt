@@ -15,7 +15,7 @@ use Rattle.meaning.specs.Bounds.{STEPS, RULES, MARKS, WATCHED, DONE, FUL
 use Rattle.meaning.specs.declared.Counts.{Counts}
 use Rattle.meaning.specs.Rules.{Rule, Keeps, Plan, Earliest, Leads, All, Different, total, more, Tight}
 use Rattle.meaning.specs.Tables.{Tables, Columns, rule-at, at, ColumnsRoom, Room, with-days}
-use Rattle.meaning.specs.Promise.{Given, bare, Meaning, Obeys, In, Exactly}
+use Rattle.meaning.specs.Promise.{Given, bare, Meaning, Obeys, Past, In, Exactly}
 use Rattle.meaning.specs.Calls.{WithList, WithLists, rules-of, held-in, next-in, rules-and, held-and, add-meaning, back-meaning, consequences-meaning}
 use Rattle.meaning.specs.Runs.{Call, Made}
 use Rattle.meaning.specs.Cases.{Row, Days, Done, Says}
@@ -23,10 +23,11 @@ use Rattle.meaning.proofs.Whole.{up, dn, keeps→, →plan, keeps?}
 use Rattle.meaning.proofs.More.{more-new, more-old}
 use Rattle.meaning.proofs.Counting.{refutes-different}
 use Rattle.meaning.proofs.Rings.{leads-same, total-same}
-use Rattle.meaning.proofs.Lists.{over, over-take, exactly-some}
+use Rattle.meaning.proofs.Needs.{done-met, add-rises}
+use Rattle.meaning.proofs.Lists.{past-back, over, over-take, exactly-some}
 use lib.Dec.{T, eqb}
 use borrow.Author.Tests.{eq-eqb, ne-eqb}
-use Rattle.meaning.proofs.Possible.{Outcome, written, written-at, add-possible, back-possible, consequences-possible}
+use Rattle.meaning.proofs.Possible.{Outcome, written, written-at, written-past, add-possible, back-possible, consequences-possible}
 use Rattle.meaning.proofs.Tests.{both, nth, Below, plan-test→}
 use Rattle.meaning.proofs.Starred.{Shown, Shows, next-shown, row-test, rows-test, fresh-shown, row-holds, fresh-holds}
 
@@ -240,22 +241,26 @@ number-done e = ap (λ (h : Given). h .number) e
 
 -- ---- the engines that the paper names
 
--- What two answers of Add have the same that differ in the days left, in the count given, in the ring.
-abbrev pub SameButDays : Answered WithList → Answered WithList → Type 0
-SameButDays x y = (x .answer ≡ y .answer) × (x .after .list ≡ y .after .list) × (with-days [] (x .after .tables) ≡ with-days [] (y .after .tables))
+-- Tables that differ in the days of the first n steps alone.
+abbrev pub SameButDays : ℕ → Tables → Tables → Type 0
+SameButDays n t u = (with-days [] t ≡ with-days [] u) × Past n (u .days) (t .days)
 
-abbrev pub SameButCount : Answered WithList → Answered WithList → Type 0
-SameButCount x y = (x .answer .number ≡ y .answer .number) × (x .answer .two ≡ y .answer .two) × (x .after ≡ y .after)
+-- What two answers of Add have the same that differ in the days left of n steps, in the count given, in the ring.
+abbrev pub DaysDiffer : ℕ → Answered WithList → Answered WithList → Type 0
+DaysDiffer n x y = (x .answer ≡ y .answer) × (x .after .list ≡ y .after .list) × SameButDays n (x .after .tables) (y .after .tables)
 
-abbrev pub SameButRing : Answered WithList → Answered WithList → Type 0
-SameButRing x y = (x .answer .number ≡ y .answer .number) × (x .answer .two ≡ y .answer .two) × (x .after .tables ≡ y .after .tables)
+abbrev pub CountDiffers : Answered WithList → Answered WithList → Type 0
+CountDiffers x y = (x .answer .number ≡ y .answer .number) × (x .answer .two ≡ y .answer .two) × (x .after ≡ y .after)
+
+abbrev pub RingDiffers : Answered WithList → Answered WithList → Type 0
+RingDiffers x y = (x .answer .number ≡ y .answer .number) × (x .answer .two ≡ y .answer .two) × (x .after .tables ≡ y .after .tables)
 
 -- The same of two answers of Consequences that differ in the lists, in the first list.
-abbrev pub SameButLists : Answered WithLists → Answered WithLists → Type 0
-SameButLists x y = (x .answer .number ≡ y .answer .number) × (x .after .tables ≡ y .after .tables)
+abbrev pub ListsDiffer : Answered WithLists → Answered WithLists → Type 0
+ListsDiffer x y = (x .answer .number ≡ y .answer .number) × (x .after .tables ≡ y .after .tables)
 
-abbrev pub SameButFirst : Answered WithLists → Answered WithLists → Type 0
-SameButFirst x y = (x .answer .number ≡ y .answer .number) × (x .answer .two ≡ y .answer .two) × (x .after .two ≡ y .after .two) × (x .after .tables ≡ y .after .tables)
+abbrev pub FirstDiffers : Answered WithLists → Answered WithLists → Type 0
+FirstDiffers x y = (x .answer .number ≡ y .answer .number) × (x .answer .two ≡ y .answer .two) × (x .after .two ≡ y .after .two) × (x .after .tables ≡ y .after .tables)
 
 -- The answer with other days left.
 abbrev other-days : List ℕ → Answered WithList → Answered WithList
@@ -282,7 +287,7 @@ refuses-each-rule = record {
 abbrev pub ConstantPlan : AddEngine → Type 0
 ConstantPlan e = (p : ℕ → ℕ) × ((r : Rule) (s : WithList) → e r s .answer .number ≡ DONE → (v : ℕ) → v < s .tables .counts .steps → at (e r s .after .tables .days) v ≡ p v)
 
-pub constant-plan : Excluded AddKeeps ConstantPlan (λ x y. (r : Rule) (s : WithList) → But DONE SameButDays (x r s) (y r s))
+pub constant-plan : Excluded AddKeeps ConstantPlan (λ x y. (r : Rule) (s : WithList) → But DONE (DaysDiffer (s .tables .counts .steps)) (x r s) (y r s))
 constant-plan = record {
   never = never;
   right = right-add;
@@ -294,11 +299,16 @@ constant-plan = record {
         spoiled-has DONE (zeros s) (right-add r s) (λ x. x .answer .number ≡ DONE → (v : ℕ) → v < s .tables .counts .steps → at (x .after .tables .days) v ≡ 0)
         (λ e h. written-at (s .tables .counts .steps) (λ v. 0) (right-add r s .after .tables .days)) (λ other h. absurd (other h)),
   );
-  all-else = λ r s. spoiled-but DONE (zeros s) (right-add r s) SameButDays (λ e. (refl, refl, refl));
+  all-else = λ r s. spoiled-but DONE (zeros s) (right-add r s) (DaysDiffer (s .tables .counts .steps)) (λ e. (refl, refl, (refl, written-past (s .tables .counts .steps) (λ v. 0) (right-add r s .after .tables .days) (long r s e))));
 }
   where
     zeros : WithList → Answered WithList → Answered WithList
     zeros s x = other-days (written (s .tables .counts .steps) (λ v. 0) (x .after .tables .days)) x
+
+    long : (r : Rule) (s : WithList) → right-add r s .answer .number ≡ DONE → s .tables .counts .steps ≤ length (right-add r s .after .tables .days)
+    long r s e =
+        let met = done-met DONE (right-add r s .answer .number) (add-meaning r s .asks) (add-rises r s) (right-add-keeps r s .first-unmet) e in
+        omega (arith, met .0 .0 .days-room, met .1 .0 .counts-in .steps-in, right-add-keeps r s .when-done e .planned .past .same-length)
 
     never : (e : AddEngine) → AddKeeps e → ConstantPlan e → ⊥
     never e keeps (p, same) =
@@ -317,7 +327,7 @@ constant-plan = record {
 abbrev pub ConstantLists : ConsequencesEngine → Type 0
 ConstantLists e = (all : List ℕ) × (none : List ℕ) × ((s : WithLists) → e s .answer .number ≡ DONE → (take (e s .answer .one) (e s .after .one) ≡ all) × (take (e s .answer .two) (e s .after .two) ≡ none))
 
-pub constant-lists : Excluded ConsequencesKeeps ConstantLists (λ x y. (s : WithLists) → But DONE SameButLists (x s) (y s))
+pub constant-lists : Excluded ConsequencesKeeps ConstantLists (λ x y. (s : WithLists) → But DONE ListsDiffer (x s) (y s))
 constant-lists = record {
   never = never;
   right = right-consequences;
@@ -330,7 +340,7 @@ constant-lists = record {
         spoiled-has DONE (empty s) (right-consequences s) (λ x. x .answer .number ≡ DONE → (take (x .answer .one) (x .after .one) ≡ []) × (take (x .answer .two) (x .after .two) ≡ []))
         (λ e h. (refl, refl)) (λ other h. absurd (other h)),
   );
-  all-else = λ s. spoiled-but DONE (empty s) (right-consequences s) SameButLists (λ e. (refl, sym (right-consequences-keeps s .when-done e .tables-stay)));
+  all-else = λ s. spoiled-but DONE (empty s) (right-consequences s) ListsDiffer (λ e. (refl, sym (right-consequences-keeps s .when-done e .tables-stay)));
 }
   where
     empty : WithLists → Answered WithLists → Answered WithLists
@@ -351,7 +361,7 @@ constant-lists = record {
 abbrev pub TouchesNoDay : AddEngine → Type 0
 TouchesNoDay e = (r : Rule) (s : WithList) → e r s .answer .number ≡ DONE → e r s .after .tables .days ≡ s .tables .days
 
-pub touches-nothing : Excluded AddKeeps TouchesNoDay (λ x y. (r : Rule) (s : WithList) → But DONE SameButDays (x r s) (y r s))
+pub touches-nothing : Excluded AddKeeps TouchesNoDay (λ x y. (r : Rule) (s : WithList) → But DONE (DaysDiffer (s .tables .counts .steps)) (x r s) (y r s))
 touches-nothing = record {
   never = never;
   right = right-add;
@@ -360,7 +370,7 @@ touches-nothing = record {
   wrong-has = λ r s.
       spoiled-has DONE (other-days (s .tables .days)) (right-add r s) (λ x. x .answer .number ≡ DONE → x .after .tables .days ≡ s .tables .days)
       (λ e h. refl) (λ other h. absurd (other h));
-  all-else = λ r s. spoiled-but DONE (other-days (s .tables .days)) (right-add r s) SameButDays (λ e. (refl, refl, refl));
+  all-else = λ r s. spoiled-but DONE (other-days (s .tables .days)) (right-add r s) (DaysDiffer (s .tables .counts .steps)) (λ e. (refl, refl, (refl, past-back (right-add-keeps r s .when-done e .planned .past))));
 }
   where
     never : (e : AddEngine) → AddKeeps e → TouchesNoDay e → ⊥
@@ -449,14 +459,14 @@ coasts-afterwards = record {
 abbrev pub InventsCount : AddEngine → Type 0
 InventsCount e = (count : Rule → Counts → ℕ) × ((r : Rule) (s : WithList) → e r s .answer .number ≡ DONE → e r s .answer .one ≡ count r (s .tables .counts))
 
-pub invents-its-count : Excluded AddKeeps InventsCount (λ x y. (r : Rule) (s : WithList) → But DONE SameButCount (x r s) (y r s))
+pub invents-its-count : Excluded AddKeeps InventsCount (λ x y. (r : Rule) (s : WithList) → But DONE CountDiffers (x r s) (y r s))
 invents-its-count = record {
   never = never;
   right = right-add;
   right-keeps = right-add-keeps;
   wrong = λ r s. spoiled DONE one (right-add r s);
   wrong-has = ((λ r c. 1), λ r s. spoiled-has DONE one (right-add r s) (λ x. x .answer .number ≡ DONE → x .answer .one ≡ 1) (λ e h. refl) (λ other h. absurd (other h)));
-  all-else = λ r s. spoiled-but DONE one (right-add r s) SameButCount (λ e. (refl, refl, refl));
+  all-else = λ r s. spoiled-but DONE one (right-add r s) CountDiffers (λ e. (refl, refl, refl));
 }
   where
     one : Answered WithList → Answered WithList
@@ -509,14 +519,14 @@ abbrev pub KeepsDays : BackEngine → Type 0
 KeepsDays e = (t : Tables) → e t .answer .number ≡ DONE → e t .after .days ≡ t .days
 
 pub keeps-days-after-back :
-    Excluded BackKeeps KeepsDays (λ x y. (t : Tables) → But DONE (λ a b. (a .answer ≡ b .answer) × (with-days [] (a .after) ≡ with-days [] (b .after))) (x t) (y t))
+    Excluded BackKeeps KeepsDays (λ x y. (t : Tables) → But DONE (λ a b. (a .answer ≡ b .answer) × SameButDays (t .counts .steps) (a .after) (b .after)) (x t) (y t))
 keeps-days-after-back = record {
   never = never;
   right = right-back;
   right-keeps = right-back-keeps;
   wrong = λ t. spoiled DONE (old-days t) (right-back t);
   wrong-has = λ t. spoiled-has DONE (old-days t) (right-back t) (λ x. x .answer .number ≡ DONE → x .after .days ≡ t .days) (λ e h. refl) (λ other h. absurd (other h));
-  all-else = λ t. spoiled-but DONE (old-days t) (right-back t) (λ a b. (a .answer ≡ b .answer) × (with-days [] (a .after) ≡ with-days [] (b .after))) (λ e. (refl, refl));
+  all-else = λ t. spoiled-but DONE (old-days t) (right-back t) (λ a b. (a .answer ≡ b .answer) × SameButDays (t .counts .steps) (a .after) (b .after)) (λ e. (refl, (refl, past-back (right-back-keeps t .when-done e .planned .past))));
 }
   where
     old-days : Tables → Answered Tables → Answered Tables
@@ -579,7 +589,7 @@ ReportsWalk e =
     × Walk r (s .tables) (take (e r s .answer .one) (e r s .after .list))
     × (Different (map (λ i. rules-and r (s .tables) i .first) (take (e r s .answer .one) (e r s .after .list))) → ⊥)
 
-pub reports-a-walk : Excluded AddKeeps ReportsWalk (λ x y. (r : Rule) (s : WithList) → But CONFLICT SameButRing (x r s) (y r s))
+pub reports-a-walk : Excluded AddKeeps ReportsWalk (λ x y. (r : Rule) (s : WithList) → But CONFLICT RingDiffers (x r s) (y r s))
 reports-a-walk = record {
   never = λ e keeps (r, s, conflict, leads, twice).
       twice (refutes-different (rules-of (s .tables)) (held-in (s .tables)) (next-in (s .tables)) r (take (e r s .answer .one) (e r s .after .list)) (keeps r s .on-conflict conflict .0 .ring-given .holds));
@@ -587,7 +597,7 @@ reports-a-walk = record {
   right-keeps = right-add-keeps;
   wrong = λ r s. spoiled CONFLICT (walks s) (right-add r s);
   wrong-has = (new, lent w, reported .0, reported .1, reported .2);
-  all-else = λ r s. spoiled-but CONFLICT (walks s) (right-add r s) SameButRing (λ e. (refl, refl, refl));
+  all-else = λ r s. spoiled-but CONFLICT (walks s) (right-add r s) RingDiffers (λ e. (refl, refl, refl));
 }
   where
     walk : List ℕ
@@ -647,7 +657,7 @@ FromDays e =
     → Keeps (λ v. pos (at (s .tables .days) v)) (rule-at (s .tables .watched) j)
     → In j (take (e s .answer .one) (e s .after .one))
 
-pub consequences-from-days : Excluded ConsequencesKeeps FromDays (λ x y. (s : WithLists) → But DONE SameButFirst (x s) (y s))
+pub consequences-from-days : Excluded ConsequencesKeeps FromDays (λ x y. (s : WithLists) → But DONE FirstDiffers (x s) (y s))
 consequences-from-days = record {
   never = λ e keeps from-days.
       let must = must-split e keeps m w [] [] tt in
@@ -659,7 +669,7 @@ consequences-from-days = record {
       spoiled-has DONE (from s) (right-consequences s)
       (λ x. x .answer .number ≡ DONE → (j : ℕ) → j < s .tables .counts .watched → Kept s j → In j (take (x .answer .one) (x .after .one)))
       (λ e h j below keeps. subst (In j) (sym (over-take (all s .0) (s .one))) (all s .1 .all-there j below keeps)) (λ other h. absurd (other h));
-  all-else = λ s. spoiled-but DONE (from s) (right-consequences s) SameButFirst (λ e. (refl, refl, refl, refl));
+  all-else = λ s. spoiled-but DONE (from s) (right-consequences s) FirstDiffers (λ e. (refl, refl, refl, refl));
 }
   where
     Kept : WithLists → ℕ → Type 0
