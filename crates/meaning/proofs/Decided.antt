@@ -9,7 +9,7 @@ use lib.IntN.{ℤ, pos, negℤ}
 use lib.ListN.{length}
 use Rattle.meaning.specs.declared.Counts.{Counts}
 use Rattle.meaning.specs.Bounds.{STEPS, RULES, MARKS, WATCHED, LARGEST}
-use Rattle.meaning.specs.Rules.{Rule, Keeps, InSteps, InAmount, InBounds, Plan, Earliest, Leads, All, Different, total, more, Refutes, RefutesBy}
+use Rattle.meaning.specs.Rules.{Rule, Keeps, InSteps, InAmount, InBounds, Earliest, Leads, All, Different, total, more, Refutes}
 use Rattle.meaning.specs.Tables.{Tables, Columns, rule-at, at, ColumnsRoom, Room, InCounts, Sound}
 use Rattle.meaning.proofs.Below.{both?, not?, leads?, in-words?, all-below?}
 use Rattle.meaning.proofs.Whole.{le?, lt?, keeps?}

@@ -3,7 +3,7 @@
 use Prim.Native.Nat.{ℕ, _-_, _≤_, _<_}
 use native.Mathlib.Omega.{arith}
 use native.Mathlib.Decide.{decLe, decLt}
-use mathlib.Core.Path.{_≡_, refl, sym, _∙_, ap, subst}
+use mathlib.Core.Path.{_≡_, refl, sym, _∙_, subst}
 use mathlib.Core.List.{List, [], _∷_}
 use mathlib.Core.Logic.{_⊎_, inl, inr}
 use mathlib.Core.Bool.{Bool, not, _&&_}
@@ -11,9 +11,9 @@ use lib.Dec.{T, eqb, eqb-refl, T-not}
 use lib.IntN.{pos}
 use lib.ListN.{length}
 use Rattle.meaning.specs.Bounds.{STEPS, RULES, MARKS, WATCHED, DONE, SHORT, DAMAGED, STEP, AMOUNT, FULL, CONFLICT, NOMARK}
-use Rattle.meaning.specs.Rules.{Rule, InSteps, InAmount, negation, All, Different, Earliest, Always, Never, Fits, Refutes}
+use Rattle.meaning.specs.Rules.{Rule, InSteps, InAmount, negation, Different, Earliest, Always, Never, Fits, Refutes}
 use Rattle.meaning.specs.Tables.{Tables, rule-at, at, Room, Sound, opened, with-watched, with-rule, with-mark, newest-mark, without-mark, with-days}
-use Rattle.meaning.specs.Promise.{Given, bare, Meaning, Need, needs, First, Obeys, Past, Filled, Planned, moved, Rising, Exactly}
+use Rattle.meaning.specs.Promise.{Given, bare, Meaning, Need, needs, First, Obeys, Past, Planned, moved, Rising, Exactly}
 use Rattle.meaning.specs.Calls.{WithList, WithLists, rules-of, held-in, next-in, rules-and, held-and, RingIn, WatchedThat, IsRingFor, rule-needs, open-meaning, watch-meaning, add-needs, add-meaning, mark-meaning, back-meaning, trial-meaning, consequences-meaning, ring-check-meaning}
 use Rattle.meaning.proofs.More.{more-all}
 use Rattle.meaning.proofs.Theory.{all-implies, earliest-ext, ring-excludes, more-fits, always-is, never-is}

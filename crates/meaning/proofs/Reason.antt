@@ -147,9 +147,12 @@ module _ (n m : ℕ) (R : ℕ → Rule) (H : ℕ → Type 0) (held? : (i : ℕ) 
       tell (yes some) = forced-within v (g v) (earlier .forced v some)
       tell (no none) = omega arith
 
-  -- The held rules are kept by the days so made.
+  -- Rule i is kept by the days so made; all held rules are.
+  abbrev KeptBy : (ℕ → ℕ) → ℕ → Type 0
+  KeptBy g i = p (R i .first) + g (R i .second) + dn (R i .amount) ≤ p (R i .second) + g (R i .first) + up (R i .amount)
+
   abbrev Closed : (ℕ → ℕ) → Type 0
-  Closed g = (i : ℕ) → H i → p (R i .first) + g (R i .second) + dn (R i .amount) ≤ p (R i .second) + g (R i .first) + up (R i .amount)
+  Closed g = (i : ℕ) → H i → KeptBy g i
 
   -- To begin with, only the first step of the new rule is made earlier.
   abbrev at-first : ℕ → ℕ
@@ -171,12 +174,12 @@ module _ (n m : ℕ) (R : ℕ → Rule) (H : ℕ → Type 0) (held? : (i : ℕ) 
   closed-or-more g earlier = found (some-below? Broken (λ i. both? (held? i) (not? (decLe _ _))) m)
     where
       Broken : ℕ → Type 0
-      Broken i = H i × (p (R i .first) + g (R i .second) + dn (R i .amount) ≤ p (R i .second) + g (R i .first) + up (R i .amount) → ⊥)
+      Broken i = H i × (KeptBy g i → ⊥)
 
       found : Dec ((i : ℕ) × (i < m) × Broken i) → Closed g ⊎ ((h : ℕ → ℕ) × Earlier h × (sum-below g n < sum-below h n))
       found (no none) = inl (λ i held. kept i held (decLe _ _))
         where
-          kept : (i : ℕ) → H i → Dec (p (R i .first) + g (R i .second) + dn (R i .amount) ≤ p (R i .second) + g (R i .first) + up (R i .amount)) → p (R i .first) + g (R i .second) + dn (R i .amount) ≤ p (R i .second) + g (R i .first) + up (R i .amount)
+          kept : (i : ℕ) → H i → Dec (KeptBy g i) → KeptBy g i
           kept i held (yes h) = h
           kept i held (no broken) = absurd (none (i, numbered i held, (held, broken)))
       found (yes (i, below, (held, broken))) = inr (
@@ -188,7 +191,7 @@ module _ (n m : ℕ) (R : ℕ → Rule) (H : ℕ → Type 0) (held? : (i : ℕ) 
           a : ℕ
           a = R i .first
 
-          apart : ¬ (p (R i .first) + g (R i .second) + dn (R i .amount) ≤ p (R i .second) + g (R i .first) + up (R i .amount))
+          apart : ¬ (KeptBy g i)
           apart = broken
 
           place : (v : ℕ) → 1 ≤ later g a v → Dec (v ≡ a) → Forced v (later g a v)

@@ -1,7 +1,7 @@
 -- Engines that the promises shut out. An engine is any function that gives and leaves something on every input. Of each fault that the paper names it is
 -- shown that no engine that keeps the promise has it, by a worked case; and, so that this says something of the fault, that an engine has it that does all
 -- else as one does that keeps the promise.
-use Prim.Native.Nat.{ℕ, zero, suc, _+_, _≤_, _<_}
+use Prim.Native.Nat.{ℕ, zero, suc, _≤_, _<_}
 use native.Mathlib.Omega.{arith}
 use native.Mathlib.Decide.{ℕ-discrete}
 use mathlib.Core.Path.{_≡_, refl, sym, _∙_, ap, subst}
@@ -17,7 +17,6 @@ use Rattle.meaning.specs.Rules.{Rule, Keeps, Plan, Earliest, Leads, All,
 use Rattle.meaning.specs.Tables.{Tables, Columns, rule-at, at, ColumnsRoom, Room, with-days}
 use Rattle.meaning.specs.Promise.{Given, bare, Meaning, Obeys, Past, In, Exactly}
 use Rattle.meaning.specs.Calls.{WithList, WithLists, rules-of, held-in, next-in, rules-and, held-and, add-meaning, back-meaning, consequences-meaning}
-use Rattle.meaning.specs.Runs.{Call, Made}
 use Rattle.meaning.specs.Cases.{Row, Days, Done, Says}
 use Rattle.meaning.proofs.Whole.{up, dn, keeps→, →plan, keeps?}
 use Rattle.meaning.proofs.More.{more-new, more-old}
