@@ -14,7 +14,7 @@ pub fn all(options: &Options) -> Tally {
     let took = |what: &str| println!("host: {} s so far: {}", began.elapsed().as_secs(), what);
     by_hand(options, &mut tally);
     took("cases written by hand");
-    examples(&mut tally);
+    examples(options, &mut tally);
     room(&mut tally);
     took("little room");
     for kind in Kind::ALL {
@@ -38,6 +38,15 @@ fn program(options: &Options, chunk: usize) -> Option<Program> {
     options.program.as_ref().map(|words| Program { words: words.clone(), chunk })
 }
 
+/// Every engine: those of this process, and the program, which is given its text at once.
+fn engines(options: &Options) -> Vec<Box<dyn Engine>> {
+    let mut engines = in_process();
+    if let Some(program) = program(options, 1 << 20) {
+        engines.push(Box::new(program));
+    }
+    engines
+}
+
 /// Every case written by hand, by every engine; the program is given its text in pieces of several sizes.
 fn by_hand(options: &Options, tally: &mut Tally) {
     let cases = cases::all();
@@ -47,18 +56,15 @@ fn by_hand(options: &Options, tally: &mut Tally) {
         for engine in in_process() {
             tally.count(&format!("case by the {}: {}", engine.name(), case.name), same(&wanted, &engine.run(&case.script)));
         }
-        // One case in eight, and every long one.
-        if at % 8 == 0 || case.script.len() > 3000 {
-            if let Some(engine) = program(options, [1 << 20, 4096, 700, 61][at / 8 % 4]) {
-                tally.count(&format!("case by the program: {}", case.name), same(&wanted, &engine.run(&case.script)));
-            }
+        if let Some(engine) = program(options, [1 << 20, 4096, 700, 61][at % 4]) {
+            tally.count(&format!("case by the program: {}", case.name), same(&wanted, &engine.run(&case.script)));
         }
     }
     println!("host: {} cases written by hand", cases.len());
 }
 
 /// The scripts of `examples/`, each against what it prints by hand.
-fn examples(tally: &mut Tally) {
+fn examples(options: &Options, tally: &mut Tally) {
     let files = std::fs::read_dir("examples").map(|all| all.flatten().map(|file| file.path()).collect()).unwrap_or_else(|_| Vec::new());
     let scripts: Vec<_> = files.into_iter().filter(|path| path.extension().map_or(false, |end| end == "smt2")).collect();
     tally.count("examples/ has scripts", if scripts.is_empty() { Err("  none".to_string()) } else { Ok(()) });
@@ -66,7 +72,7 @@ fn examples(tally: &mut Tally) {
         let text = std::fs::read(&path).unwrap_or_default();
         let wanted = Answer { out: std::fs::read(path.with_extension("out")).unwrap_or_default(), end: script::DONE };
         tally.count(&format!("{} by the independent solver", path.display()), same(&wanted, &Ok(script::run(&text))));
-        for engine in in_process() {
+        for engine in engines(options) {
             tally.count(&format!("{} by the {}", path.display(), engine.name()), same(&wanted, &engine.run(&text)));
         }
     }
@@ -91,8 +97,7 @@ fn room(tally: &mut Tally) {
 #[cfg(not(entry))]
 fn room(_tally: &mut Tally) {}
 
-/// Generated scripts of one kind: by the engines in this process, and one in sixteen by the program. Each engine counts as one test, and so does that the
-/// scripts are of many sorts.
+/// Generated scripts of one kind, each by every engine. Each engine counts as one test, and so does that the scripts are of many sorts.
 fn generated(kind: Kind, options: &Options, tally: &mut Tally) {
     let seeds = options.seed..options.seed + options.count;
     let mut seen: BTreeMap<String, usize> = BTreeMap::new();
@@ -107,13 +112,8 @@ fn generated(kind: Kind, options: &Options, tally: &mut Tally) {
     if options.count >= 400 {
         tally.count(&format!("{} are of many sorts", kind.name()), all_seen(kind, &seen));
     }
-    let mut engines = in_process();
-    if let Some(program) = program(options, 1 << 20) {
-        engines.push(Box::new(program));
-    }
-    for engine in engines {
-        let step = if engine.name() == "program" { 16 } else { 1 };
-        let differing = seeds.clone().step_by(step).find_map(|seed| {
+    for engine in engines(options) {
+        let differing = seeds.clone().find_map(|seed| {
             let outcome = agrees(&kind.script(seed), &|text| engine.run(text));
             outcome.err().map(|why| format!("  seed {}\n{}", seed, why))
         });
