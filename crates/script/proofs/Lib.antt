@@ -32,3 +32,4 @@ pub mod Answering
 pub mod Calling
 pub mod Playing
 pub mod Ending
+pub mod Possible
