@@ -1,6 +1,5 @@
 -- What the proofs of the whole script share.
 pub mod Room
-pub mod Refusing
 pub mod Beginning
 pub mod Stepping
 pub mod Reaching

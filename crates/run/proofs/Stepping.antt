@@ -23,7 +23,7 @@ use Rattle.carry.specs.Carrying.{Carries, Maintained}
 use Rattle.run.specs.Reaching.{Reaches}
 use Rattle.run.specs.Stepping.{Ready, Halts, Halted, Settled, GoesOn, Waits, Steps}
 use Rattle.run.proofs.Room.{written-short, error-short}
-use Rattle.run.proofs.Refusing.{never-short}
+use Rattle.script.proofs.Refusing.{never-short}
 
 pub maintained-out :
     (l : Lent) (o heads nexts kept hashes name-heads name-nexts : List ℕ) → Maintained 0 l heads nexts kept hashes name-heads name-nexts →

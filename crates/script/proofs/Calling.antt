@@ -19,9 +19,9 @@ use Rattle.script.proofs.Needed.{done-first}
 use Rattle.script.proofs.Tracing.{traced-in-force}
 use Rattle.script.proofs.Answering.{command-answered, goes-on-traced}
 
--- A start that is carried out begins a trace: nothing is asserted.
-pub start-traced : (l : Lent) (g : Given) (after : Lent) → Obeys (start-meaning l) l g after → g .number ≡ DONE → Traced after nothing-asserted
-start-traced l g after x done = Traced.fresh after fresh
+-- A start that is carried out leaves what is fresh.
+pub start-fresh : (l : Lent) (g : Given) (after : Lent) → Obeys (start-meaning l) l g after → g .number ≡ DONE → Fresh after
+start-fresh l g after x done = fresh
   where
     started : Started l (g .one) (g .two) after
     started = x .when-done done
@@ -45,6 +45,10 @@ start-traced l g after x done = Traced.fresh after fresh
       notes-are = started .emptied;
       day-0 = started .opened .day-0;
     }
+
+-- So it begins a trace: nothing is asserted.
+pub start-traced : (l : Lent) (g : Given) (after : Lent) → Obeys (start-meaning l) l g after → g .number ≡ DONE → Traced after nothing-asserted
+start-traced l g after x done = Traced.fresh after (start-fresh l g after x done)
 
 -- What a command call that is carried out needs.
 record Granted (text : List ℕ) (l : Lent) : Type 0 where

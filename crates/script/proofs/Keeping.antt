@@ -28,8 +28,9 @@ use Rattle.levels.specs.Levels.{with-marks, Popped}
 use Rattle.levels.proofs.Laws.{with-marks-is, with-marks-border, popped-border}
 use Rattle.script.specs.declared.Notes.{Notes}
 use Rattle.script.specs.Record.{Lent, StartRoom, ScriptSound, InForm, Known, step-of}
-use Rattle.script.specs.Effect.{Does, AddsAll, resolved, forgotten, with-notes, with-tables, with-name, with-printed, checked, broken-after, broken-left}
+use Rattle.script.specs.Effect.{Does, AddsAll, resolved, forgotten, with-notes, with-tables, with-name, checked, broken-after, broken-left}
 use Rattle.script.specs.Commands.{command-needs}
+use Rattle.script.specs.Traces.{with-out}
 use Rattle.script.proofs.Seeking.{numbered-known}
 use Rattle.script.proofs.Needed.{RuleMet, EachRule}
 use Rattle.script.proofs.Granted.{declare-met, assert-met, push-met, pop-met}
@@ -63,9 +64,9 @@ with-record l logic sat b f level unless = record {
   };
 }
 
--- Another text in the bytes for the answer.
-printed-fine : (k : ℕ) (w : List ℕ) (l : Lent) → Fine l → Fine (with-printed k w l)
-printed-fine k w l f = record {
+-- Other bytes for the answer.
+pub other-fine : (out : List ℕ) (l : Lent) → Fine l → Fine (with-out out l)
+other-fine out l f = record {
   room = record { tables-room = f .room .tables-room; names-room = f .room .names-room; lens-room = f .room .lens-room };
   sound = record {
     tables-sound = f .sound .tables-sound;
@@ -225,10 +226,10 @@ does-fine (Pop n) s k w before after f named met (w-is, (t, (p, is))) =
     subst Fine (sym is)
     (tables-fine t (broken-left (before .notes .broken) t) before f (kept-of (popped-border n (tables-border f) (pop-met n s before met) p)) (popped-steps n (before .tables) t p) (level-left (before .notes .broken) t))
 does-fine CheckSat s k w before after f named met (w-is, is) =
-    subst Fine (sym is) (with-record _ (before .notes .logic) (eqb (before .notes .broken) 0) (before .notes .broken) (printed-fine k _ before f) (f .sound .level-open) (ne-eqb (before .notes .broken) 0))
-does-fine (GetValue i) s k w before after f named met (w-is, is) = subst Fine (sym is) (printed-fine k _ before f)
+    subst Fine (sym is) (with-record _ (before .notes .logic) (eqb (before .notes .broken) 0) (before .notes .broken) (other-fine _ before f) (f .sound .level-open) (ne-eqb (before .notes .broken) 0))
+does-fine (GetValue i) s k w before after f named met (w-is, is) = subst Fine (sym is) (other-fine _ before f)
 does-fine Exit s k w before after f named met (w-is, is) =
     subst Fine (sym is) (with-record before (before .notes .logic) false (before .notes .broken) f (f .sound .level-open) (λ other. refl))
-does-fine Unsupported s k w before after f named met (w-is, is) = subst Fine (sym is) (printed-fine k _ before f)
+does-fine Unsupported s k w before after f named met (w-is, is) = subst Fine (sym is) (other-fine _ before f)
 does-fine Syntax s k w before after f named met impossible = absurd impossible
 does-fine Oversize s k w before after f named met impossible = absurd impossible

@@ -4,6 +4,7 @@ pub mod Asking
 pub mod Needed
 pub mod Lengths
 pub mod Granted
+pub mod Refusing
 pub mod Adding
 pub mod Keeping
 pub mod Passed
@@ -33,3 +34,5 @@ pub mod Calling
 pub mod Playing
 pub mod Ending
 pub mod Possible
+pub mod Alike
+pub mod ByCalls

@@ -1,18 +1,17 @@
 -- **Whole sequences of commands**: what is asserted is satisfiable exactly when no level counts as contradictory, and then the days are its earliest plan.
 use Prim.Native.Nat.{ℕ}
 use mathlib.Core.Path.{_≡_}
-use mathlib.Core.List.{List}
 use mathlib.Core.Logic.{_↔_}
 use Rattle.meaning.proofs.Sequences.{call-keeps}
 use Rattle.form.specs.Form.{form}
 use Rattle.script.specs.Record.{Lent}
 use Rattle.script.specs.Commands.{own}
 use Rattle.script.specs.Traces.{History, Satisfiable, Soonest, Traced}
-use Rattle.script.proofs.Keeping.{Fine, tables-kept}
+use Rattle.script.proofs.Keeping.{tables-kept, other-fine}
 use Rattle.script.proofs.Naming.{declared-in-form}
 use Rattle.script.proofs.Asserted.{command-asserted}
 use Rattle.script.proofs.InForce.{InForce, fresh-in-force}
-use Rattle.script.proofs.Commanding.{noted, noted-in-force, command-in-force}
+use Rattle.script.proofs.Commanding.{noted-in-force, command-in-force}
 use Rattle.script.proofs.Quieting.{quietly, quiet-in-force}
 use Rattle.script.proofs.Planning.{plan-of, clean-if, soonest-if, satisfiable-if}
 
@@ -27,22 +26,7 @@ traced-in-force m h (Traced.quiet-call l _ t c g u made quiet) =
     quiet-in-force l h u i (call-keeps c (l .tables) u g made (tables-kept (i .fine))) (quietly c (l .tables) u g made quiet)
 traced-in-force m h (Traced.other-bytes l _ t out) =
     let i = traced-in-force l h t in
-    noted-in-force l h (l .notes .logic) (l .notes .sat) out i (other-fine l out (i .fine))
-  where
-    other-fine : (l : Lent) (out : List ℕ) → Fine l → Fine (noted l (l .notes .logic) (l .notes .sat) out)
-    other-fine l out f = record {
-      room = record { tables-room = f .room .tables-room; names-room = f .room .names-room; lens-room = f .room .lens-room };
-      sound = record {
-        tables-sound = f .sound .tables-sound;
-        all-steps = f .sound .all-steps;
-        names-in = f .sound .names-in;
-        names-short = f .sound .names-short;
-        names-in-form = f .sound .names-in-form;
-        names-different = f .sound .names-different;
-        level-open = f .sound .level-open;
-        no-sat = f .sound .no-sat;
-      };
-    }
+    noted-in-force l h (l .notes .logic) (l .notes .sat) out i (other-fine out l (i .fine))
 
 -- **Satisfiable exactly when no level counts as contradictory**, after any sequence of commands.
 pub traced-satisfiable : (l : Lent) (h : History) → Traced l h → (l .notes .broken ≡ 0) ↔ Satisfiable h

@@ -6,4 +6,5 @@ pub mod Terms
 pub mod Whole
 pub mod Mixed
 pub mod Traces
+pub mod ByCalls
 pub mod Told
