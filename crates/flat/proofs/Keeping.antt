@@ -60,7 +60,7 @@ too-many : (l : Lent) → STEPS < l .notes .names → ScriptSound l → ⊥
 too-many l big s = omega (arith, big, s .names-in)
 
 -- SHORT where R is not met, DAMAGED where S is not, and else what X says.
-abbrev Second : ℕ → Type 0 → Type 0 → Type 0 → Type 0
+abbrev pub Second : ℕ → Type 0 → Type 0 → Type 0 → Type 0
 Second k R S X = ((k ≡ SHORT) × (R → ⊥)) ⊎ (R × (((k ≡ DAMAGED) × (S → ⊥)) ⊎ (S × X)))
 
 -- Where a record fits, one need more is met.
@@ -76,16 +76,16 @@ refusing to back nf ns (inr (r, inl (e, u))) = inr (to r, inl (e, λ p. nf (p .0
 refusing to back nf ns (inr (r, inr (s, h))) = absurd (ns s)
 
 -- There the number is SHORT or DAMAGED.
-refused : {k : ℕ} {R S X : Type 0} → (S → ⊥) → Second k R S X → (k ≡ SHORT) ⊎ (k ≡ DAMAGED)
+pub refused : {k : ℕ} {R S X : Type 0} → (S → ⊥) → Second k R S X → (k ≡ SHORT) ⊎ (k ≡ DAMAGED)
 refused ns (inl (e, u)) = inl e
 refused ns (inr (r, inl (e, u))) = inr e
 refused ns (inr (r, inr (s, h))) = absurd (ns s)
 
-not-done : {k : ℕ} → (k ≡ SHORT) ⊎ (k ≡ DAMAGED) → k ≡ DONE → ⊥
+pub not-done : {k : ℕ} → (k ≡ SHORT) ⊎ (k ≡ DAMAGED) → k ≡ DONE → ⊥
 not-done (inl e) h = omega (arith, e, h)
 not-done (inr e) h = omega (arith, e, h)
 
-not-conflict : {k : ℕ} → (k ≡ SHORT) ⊎ (k ≡ DAMAGED) → k ≡ CONFLICT → ⊥
+pub not-conflict : {k : ℕ} → (k ≡ SHORT) ⊎ (k ≡ DAMAGED) → k ≡ CONFLICT → ⊥
 not-conflict (inl e) h = omega (arith, e, h)
 not-conflict (inr e) h = omega (arith, e, h)
 

@@ -2,3 +2,4 @@
 pub mod Telling
 pub mod Keeping
 pub mod Determined
+pub mod Mixing

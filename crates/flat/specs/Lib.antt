@@ -1,2 +1,3 @@
 -- What the contracts cite beside the promises.
 pub mod Records
+pub mod Mixed
