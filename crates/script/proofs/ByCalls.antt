@@ -21,7 +21,7 @@ use Rattle.script.specs.Commands.{own, command-needs, command-meaning, s
 use Rattle.script.specs.Traces.{with-out}
 use Rattle.script.specs.Whole.{error-line, rest, command-at, after-command, Plays, Fresh, blank, RunsScript}
 use Rattle.script.specs.ByCalls.{CallsAt, Goes, RunsByCalls}
-use Rattle.script.proofs.Needed.{done-first}
+use Rattle.script.proofs.Granted.{start-granted}
 use Rattle.script.proofs.Refusing.{never-conflict}
 use Rattle.script.proofs.Naming.{declared-in-form}
 use Rattle.script.proofs.Keeping.{Fine, other-fine, does-fine}
@@ -305,7 +305,7 @@ pub caller-ended :
     (s : List ℕ) (l : Lent) (g : ℕ) (b out : List ℕ) (h w : ℕ) (end : List ℕ) → RunsByCalls s l g b → RunsScript s out h w end → length s ≤ TEXT → (h ≡ SHORT → ⊥) →
     (g ≡ h) × ((length b ≡ w) × (over out 0 b ≡ end))
 caller-ended s l g b out h w end x y fits other =
-    let room = done-first SHORT (StartRoom l) [] (λ e. omega arith) (subst (First (start-meaning l .asks)) (x .accepted) (x .started .first-unmet)) .0 in
+    let room = start-granted l (subst (First (start-meaning l .asks)) (x .accepted) (x .started .first-unmet)) in
     let z = run-called s out h w end y fits other l room in
     let same = callers-same s l l g h b (z .0) x (z .1 .0) fits in
     (same .0, (ap length (same .1) ∙ sym (z .1 .1 .0), ap (over out 0) (same .1) ∙ sym (z .1 .1 .1)))

@@ -1,21 +1,20 @@
 -- **The calls of the library**: from a start on, what is asserted after each command, and that its answer is the one that the text of all commands so far asks for.
-use Prim.Native.Nat.{ℕ, _≤_}
+use Prim.Native.Nat.{ℕ}
 use native.Mathlib.Omega.{arith}
 use native.Mathlib.Decide.{ℕ-discrete}
 use mathlib.Core.Path.{_≡_, refl, sym, ap, subst}
-use mathlib.Core.List.{List, [], _∷_}
+use mathlib.Core.List.{List}
 use lib.ListN.{length}
-use Rattle.meaning.specs.Bounds.{RULES, WATCHED, DONE, SHORT, DAMAGED, SYNTAX}
+use Rattle.meaning.specs.Bounds.{RULES, WATCHED, DONE}
 use Rattle.meaning.specs.Tables.{Tables, ColumnsRoom}
-use Rattle.meaning.specs.Promise.{Given, Need, First, needs, Obeys}
-use Rattle.span.specs.Span.{span}
+use Rattle.meaning.specs.Promise.{Given, First, Obeys}
 use Rattle.form.specs.Form.{form}
-use Rattle.script.specs.Record.{Lent, StartRoom, ScriptRoom, ScriptSound}
-use Rattle.script.specs.Commands.{own, command-needs, Started, start-meaning, command-meaning}
+use Rattle.script.specs.Record.{Lent, StartRoom}
+use Rattle.script.specs.Commands.{own, Started, start-meaning, command-meaning}
 use Rattle.script.specs.Traces.{History, nothing-asserted, Follows, Traced}
 use Rattle.script.specs.Told.{Answered}
 use Rattle.script.specs.Whole.{Fresh}
-use Rattle.script.proofs.Needed.{done-first}
+use Rattle.script.proofs.Granted.{start-granted, granted}
 use Rattle.script.proofs.Tracing.{traced-in-force}
 use Rattle.script.proofs.Answering.{command-answered, goes-on-traced}
 
@@ -27,7 +26,7 @@ start-fresh l g after x done = fresh
     started = x .when-done done
 
     room : StartRoom l
-    room = done-first SHORT (StartRoom l) [] (λ e. omega arith) (subst (First (start-meaning l .asks)) done (x .first-unmet)) .0
+    room = start-granted l (subst (First (start-meaning l .asks)) done (x .first-unmet))
 
     fresh : Fresh after
     fresh = record {
@@ -50,22 +49,6 @@ start-fresh l g after x done = fresh
 pub start-traced : (l : Lent) (g : Given) (after : Lent) → Obeys (start-meaning l) l g after → g .number ≡ DONE → Traced after nothing-asserted
 start-traced l g after x done = Traced.fresh after (start-fresh l g after x done)
 
--- What a command call that is carried out needs.
-record Granted (text : List ℕ) (l : Lent) : Type 0 where
-  room : ScriptRoom 0 l
-  spans : 1 ≤ span text
-  met : First (command-needs (form (own text)) (own text) l) DONE
-
--- They are met where the call is carried out.
-granted : (text : List ℕ) (l : Lent) (g : Given) (after : Lent) → Obeys (command-meaning text l) l g after → g .number ≡ DONE → Granted text l
-granted text l g after x done =
-    let asks = subst (First (command-meaning text l .asks)) done (x .first-unmet) in
-    let formed : List Need = command-needs (form (own text)) (own text) l in
-    let room = done-first SHORT (ScriptRoom 0 l) (needs DAMAGED (ScriptSound l) ∷ needs SYNTAX (1 ≤ span text) ∷ formed) (λ e. omega arith) asks in
-    let sound = done-first DAMAGED (ScriptSound l) (needs SYNTAX (1 ≤ span text) ∷ formed) (λ e. omega arith) (room .1) in
-    let spans = done-first SYNTAX (1 ≤ span text) (command-needs (form (own text)) (own text) l) (λ e. omega arith) (sound .1) in
-    record { room = room .0; spans = spans .0; met = spans .1 }
-
 -- **A command call** goes on with a trace: carried out, by what its text says; refused, with what was asserted before.
 pub call-traced :
     (text : List ℕ) (l : Lent) (h : History) (g : Given) (after : Lent) → Traced l h → Obeys (command-meaning text l) l g after →
@@ -74,7 +57,7 @@ call-traced text l h g after t x = tell (ℕ-discrete (g .number) DONE)
   where
     tell : Dec (g .number ≡ DONE) → (j : History) × (Traced after j × ((g .number ≡ DONE → Follows (form (own text)) (own text) h j) × ((g .number ≡ DONE → ⊥) → j ≡ h)))
     tell (yes done) =
-        let r = granted text l g after x done in
+        let r = granted text l (subst (First (command-meaning text l .asks)) done (x .first-unmet)) in
         let next = goes-on-traced text 0 (g .two) l after h t (r .spans) (r .met) (x .when-done done .done) in
         (next .0, (next .1 .1, ((λ e. next .1 .0), (λ refused. absurd (refused done)))))
     tell (no refused) =
@@ -85,5 +68,5 @@ pub call-answered :
     (text : List ℕ) (l : Lent) (h : History) (g : Given) (after : Lent) → Traced l h → Obeys (command-meaning text l) l g after → g .number ≡ DONE →
     Answered (form (own text)) (own text) h 0 (g .two) (after .out)
 call-answered text l h g after t x done =
-    let r = granted text l g after x done in
+    let r = granted text l (subst (First (command-meaning text l .asks)) done (x .first-unmet)) in
     command-answered l h (traced-in-force l h t) (own text) 0 (g .two) after (after .out) (r .met) (x .when-done done .done) (r .room .out-room) refl

@@ -5,14 +5,16 @@ use mathlib.Core.Path.{_≡_}
 use mathlib.Core.Bool.{true}
 use mathlib.Core.List.{List, [], _∷_}
 use lib.ListN.{length}
-use Rattle.meaning.specs.Bounds.{STEPS, RULES, MARKS, DONE, MODE, NAME, FULL, NOMARK}
+use Rattle.meaning.specs.Bounds.{STEPS, RULES, MARKS, DONE, SHORT, DAMAGED, MODE, NAME, FULL, NOMARK, SYNTAX}
 use Rattle.meaning.specs.Promise.{Need, First, needs}
 use Rattle.text.specs.Lexicon.{bytes}
+use Rattle.span.specs.Span.{span}
 use Rattle.form.specs.declared.Command.the-variants.{Declare, Assert, Push, Pop, GetValue}
+use Rattle.form.specs.Form.{form}
 use Rattle.atoms.specs.Atoms.{rules-at}
-use Rattle.script.specs.Record.{Lent, Known}
+use Rattle.script.specs.Record.{Lent, StartRoom, ScriptRoom, ScriptSound, Known}
 use Rattle.script.specs.Effect.{asked}
-use Rattle.script.specs.Commands.{command-needs, logic-need, name-needs, rule-needs}
+use Rattle.script.specs.Commands.{own, command-needs, start-meaning, command-meaning, logic-need, name-needs, rule-needs}
 use Rattle.script.proofs.Needed.{EachRule, EachName, done-first, rules-met, names-met}
 
 after-mode : (l : Lent) (rest : List Need) → First (logic-need l rest) DONE → First rest DONE
@@ -45,3 +47,22 @@ pop-met n s l met = last-met NOMARK (n ≤ l .tables .counts .marks) (λ e. omeg
 
 pub value-met : (i : ℕ) (s : List ℕ) (l : Lent) → First (command-needs (GetValue i) s l) DONE → First (name-needs (Known l) (asked s i)) DONE
 value-met i s l met = done-first MODE (l .notes .sat ≡ true) (name-needs (Known l) (asked s i)) (λ e. omega arith) (after-mode l (needs MODE (l .notes .sat ≡ true) ∷ name-needs (Known l) (asked s i)) met) .1
+
+-- What a start that is carried out needs.
+pub start-granted : (l : Lent) → First (start-meaning l .asks) DONE → StartRoom l
+start-granted l asks = last-met SHORT (StartRoom l) (λ e. omega arith) asks
+
+-- What a command call that is carried out needs.
+pub record Granted (text : List ℕ) (l : Lent) : Type 0 where
+  pub room : ScriptRoom 0 l
+  pub sound : ScriptSound l
+  pub spans : 1 ≤ span text
+  pub met : First (command-needs (form (own text)) (own text) l) DONE
+
+pub granted : (text : List ℕ) (l : Lent) → First (command-meaning text l .asks) DONE → Granted text l
+granted text l asks =
+    let formed : List Need = command-needs (form (own text)) (own text) l in
+    let room = done-first SHORT (ScriptRoom 0 l) (needs DAMAGED (ScriptSound l) ∷ needs SYNTAX (1 ≤ span text) ∷ formed) (λ e. omega arith) asks in
+    let sound = done-first DAMAGED (ScriptSound l) (needs SYNTAX (1 ≤ span text) ∷ formed) (λ e. omega arith) (room .1) in
+    let spans = done-first SYNTAX (1 ≤ span text) formed (λ e. omega arith) (sound .1) in
+    record { room = room .0; sound = sound .0; spans = spans .0; met = spans .1 }

@@ -33,6 +33,7 @@ pub mod Answering
 pub mod Calling
 pub mod Playing
 pub mod Ending
+pub mod Decided
 pub mod Possible
 pub mod Alike
 pub mod ByCalls

@@ -2,32 +2,28 @@
 use Prim.Native.Nat.{ℕ, _≤_}
 use native.Mathlib.Omega.{arith}
 use native.Mathlib.Decide.{ℕ-discrete}
-use mathlib.Core.Path.{_≡_, refl, sym, _∙_, ap, subst}
-use mathlib.Core.List.{List, [], _∷_}
-use mathlib.Core.Logic.{_⊎_, inl, inr}
+use mathlib.Core.Path.{_≡_, refl, sym, subst}
+use mathlib.Core.List.{List}
 use lib.ListN.{length}
-use Rattle.meaning.specs.Bounds.{STEPS, DONE, CONFLICT, SHORT, DAMAGED, SYNTAX}
+use Rattle.meaning.specs.Bounds.{STEPS, DONE, CONFLICT}
 use Rattle.meaning.specs.Tables.{Tables}
-use Rattle.meaning.specs.Promise.{Given, Need, needs, First, Obeys}
+use Rattle.meaning.specs.Promise.{Given, First, Obeys}
 use Rattle.meaning.specs.Calls.{WithLists, Split, open-meaning, consequences-meaning}
 use Rattle.meaning.specs.Runs.{Call, Made, Run}
 use Rattle.meaning.proofs.Needs.{all-met, first-same, obeys-done}
 use Rattle.meaning.proofs.Sequences.{Kept, call-keeps, run-kept}
-use Rattle.span.specs.Span.{span}
-use Rattle.form.specs.declared.Command.{Command}
-use Rattle.form.specs.declared.Command.the-variants.{Declare}
 use Rattle.form.specs.Form.{form}
-use Rattle.script.specs.Record.{Lent, StartRoom, ScriptRoom, ScriptSound}
-use Rattle.script.specs.Commands.{own, command-needs, command-meaning, start-meaning}
+use Rattle.script.specs.Record.{Lent}
+use Rattle.script.specs.Commands.{own, command-meaning, start-meaning}
 use Rattle.script.specs.Mixed.{MixedRun}
-use Rattle.script.proofs.Needed.{done-first}
+use Rattle.script.proofs.Granted.{start-granted, granted}
 use Rattle.script.proofs.Naming.{declared-in-form}
-use Rattle.script.proofs.Keeping.{Fine, tables-kept, does-fine}
+use Rattle.script.proofs.Keeping.{tables-kept, does-fine}
 
 -- A start that is accepted leaves what an accepted Open leaves.
 started-kept : (l : Lent) (g : Given) (after : Lent) → Obeys (start-meaning l) l g after → g .number ≡ DONE → Kept (after .tables)
 started-kept l g after x done =
-    let room = done-first SHORT (StartRoom l) [] (λ e. omega arith) (subst (First (start-meaning l .asks)) done (x .first-unmet)) .0 in
+    let room = start-granted l (subst (First (start-meaning l .asks)) done (x .first-unmet)) in
     let opened = x .when-done done .opened in
     run-kept (after .tables)
     (Run.from-open STEPS (l .tables) (record { number = DONE; one = g .one; two = g .two }) (after .tables)
@@ -36,13 +32,9 @@ started-kept l g after x done =
 -- A command that is carried out leaves sound tables.
 commanded-kept : (text : List ℕ) (l : Lent) (g : Given) (after : Lent) → Obeys (command-meaning text l) l g after → g .number ≡ DONE → Kept (after .tables)
 commanded-kept text l g after x done =
-    let asks = subst (First (command-meaning text l .asks)) done (x .first-unmet) in
-    let formed : List Need = command-needs (form (own text)) (own text) l in
-    let room = done-first SHORT (ScriptRoom 0 l) (needs DAMAGED (ScriptSound l) ∷ needs SYNTAX (1 ≤ span text) ∷ formed) (λ e. omega arith) asks in
-    let sound = done-first DAMAGED (ScriptSound l) (needs SYNTAX (1 ≤ span text) ∷ formed) (λ e. omega arith) (room .1) in
-    let spans = done-first SYNTAX (1 ≤ span text) (command-needs (form (own text)) (own text) l) (λ e. omega arith) (sound .1) in
+    let r = granted text l (subst (First (command-meaning text l .asks)) done (x .first-unmet)) in
     tables-kept
-    (does-fine (form (own text)) (own text) 0 (g .two) l after (record { room = room .0 .start-room; sound = sound .0 }) (λ a b e. declared-in-form (own text) a b e) (spans .1) (x .when-done done .done))
+    (does-fine (form (own text)) (own text) 0 (g .two) l after (record { room = r .room .start-room; sound = r .sound }) (λ a b e. declared-in-form (own text) a b e) (r .met) (x .when-done done .done))
 
 -- A refused call leaves what was sound.
 refused-kept : {A : Type 0} (g : Given) (l after : Lent) → (g .number ≡ CONFLICT → ⊥) → ((g .number ≡ DONE → ⊥) → (g .number ≡ CONFLICT → ⊥) → A × (after ≡ l)) → (g .number ≡ DONE → Kept (after .tables)) → Kept (l .tables) → Kept (after .tables)
