@@ -37,3 +37,4 @@ pub mod Decided
 pub mod Possible
 pub mod Alike
 pub mod ByCalls
+pub mod AllEnd
