@@ -5,9 +5,7 @@ use native.Mathlib.Decide.{ℕ-discrete}
 use mathlib.Core.Path.{_≡_, refl, sym, _∙_, ap, subst}
 use mathlib.Core.Bool.{Bool, true, false, true≢false, false≢true}
 use mathlib.Core.List.{List}
-use lib.Dec.{eqb}
 use lib.ListN.{length}
-use borrow.Author.Tests.{eqb-true, eqb-false}
 use lib.IntN.{ℤ, pos}
 use Rattle.meaning.specs.Rules.{Rule, Keeps, InSteps, Earliest, more, plus}
 use Rattle.meaning.specs.Tables.{at}
@@ -103,9 +101,10 @@ module _ (n m : ℕ) (xs ys : List ℕ) (cs : List ℤ) (days heads nexts gains 
           reached = some;
         }
 
-    pub planned : Planned n m xs ys cs days gains′ by′ x y c (eqb (at gains′ x) 0)
-    planned = record {
-      earliest = λ e. earliest-where (eqb-true (at gains′ x) 0 e);
-      reached = λ e. reached-where (omega (arith, eqb-false (at gains′ x) 0 e));
+    -- A test that tells whether it has reached x tells whether the rule fits.
+    pub planned : (fits : Bool) → (fits ≡ true → at gains′ x ≡ 0) → (fits ≡ false → 0 < at gains′ x) → Planned n m xs ys cs days gains′ by′ x y c fits
+    planned fits none some = record {
+      earliest = λ e. earliest-where (none e);
+      reached = λ e. reached-where (some e);
       lacks = λ e. omega (arith, lack, gain-stays);
     }

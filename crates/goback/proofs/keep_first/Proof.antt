@@ -1,11 +1,14 @@
 -- `goback::keep_first` meets its contract: the days stay where all rules do; else the first k rules, which the days keep, are planned.
 use Rattle.goback.proofs.Replanning.{plannable-first}
 use Rattle.goback.proofs.Dropping.{all-stay}
+use native.Mathlib.Omega.{arith}
 use Rattle.goback.proofs.keep_first.Statement.{statement}
 use Rattle.goback.proofs.keep_first.Tie as tie
 
 returns : tie.Need-returns
-returns c = all-stay (c .before .before .before .before .pre) (c .if1 .taken)
+returns c =
+    let start = c .before .before .before .before in
+    all-stay (start .pre) (omega (arith, c .if1 .taken, start .pre .stay))
 
 plan-requires : tie.Need-plan-requires
 plan-requires c κs =

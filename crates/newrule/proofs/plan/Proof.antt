@@ -7,6 +7,7 @@ use Rattle.newrule.specs.Planning.{Lack}
 use Rattle.newrule.proofs.Fitting.{fits-at-once, planned}
 use native.Mathlib.Omega.{arith}
 use borrow.Author.Needs.{needs}
+use borrow.Author.Tests.{eqb-true, eqb-false, leb-true, leb-false, ltb-true, ltb-false}
 use Rattle.newrule.proofs.plan.Statement.{statement}
 use Rattle.newrule.proofs.plan.Tie as tie
 use Rattle.newrule.proofs.plan.Reads as reads
@@ -56,6 +57,7 @@ returns-2 c =
     planned (c .before .before .before .before .before .before .before .before .before .before .before .before .before .before .before .before .before .args .n) (c .before .before .before .before .before .before .before .before .before .before .before .before .before .before .before .before .before .args .m) (c .before .before .before .before .before .before .before .before .before .before .before .before .before .before .before .before .before .args .xs .now) (c .before .before .before .before .before .before .before .before .before .before .before .before .before .before .before .before .before .args .ys .now) (c .before .before .before .before .before .before .before .before .before .before .before .before .before .before .before .before .before .args .cs .now) (c .before .before .before .before .before .before .before .before .before .before .before .before .before .before .before .before .before .args .days .now)
     (c .before .before .before .before .before .before .before .before .before .before .before .before .before .before .before .before .before .args .heads .now) (c .before .before .before .before .before .before .before .before .before .before .before .before .before .before .before .before .before .args .nexts .now) (c .before .before .before .before .before .before .before .before .before .before .before .before .before .before .before .before .before .args .gains .now) (c .before .before .before .before .before .before .before .before .before .before .before .before .before .before .before .before .before .args .by .now) (c .before .before .before .before .before .before .before .before .before .before .before .before .before .before .before .before .before .args .x) (c .before .before .before .before .before .before .before .before .before .before .before .before .before .before .before .before .before .args .y) (c .before .before .before .before .before .before .before .before .before .before .before .before .before .before .before .before .before .args .c)
     (c .before .before .before .before .before .before .before .before .before .before .before .before .before .before .before .before .before .pre) (c .before .before .before .before .before .before .before .before .before .lack .result) (l .some (omega (arith, c .before .before .before .before .before .before .before .before .if1 .left))) _ _ _ (omega (arith, c .before .before .before .before .before .spread-one .kept .1 .1 .1 .1 .1 .1 .1 .1 .1 .1 .1 .1 .0, c .before .before .before .before .before .before .before .before .before .before .before .before .before .before .before .before .before .pre .by-room)) (c .before .before .before .before .before .spread-one .ensures)
+    _ (λ e. omega (arith, eqb-true, leb-true, ltb-true)) (λ e. omega (arith, eqb-false, leb-false, ltb-false))
 
 pub plan-spec : {M : Type 1} → statement M
 plan-spec =
