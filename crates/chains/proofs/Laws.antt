@@ -2,12 +2,12 @@
 use Prim.Native.Nat.{ℕ, suc, _+_, _≤_, _<_}
 use native.Mathlib.Omega.{arith}
 use native.Mathlib.Decide.{ℕ-discrete, decLt}
-use mathlib.Core.Path.{_≡_, sym, _∙_, ap}
+use mathlib.Core.Path.{_≡_, refl, sym, _∙_, ap}
 use mathlib.Core.List.{List}
 use lib.ListN.{length, set}
 use lib.Seq.{getD-set-same, getD-set-other}
 use Rattle.meaning.specs.Tables.{at}
-use Rattle.chains.specs.Chains.{Chained, Empty}
+use Rattle.chains.specs.Chains.{Chained, Empty, Pushed}
 
 -- Where every chain is empty, they are the chains of no rules.
 pub chained-none : (n : ℕ) (xs heads nexts : List ℕ) → Empty n heads → Chained n 0 xs heads nexts
@@ -121,3 +121,10 @@ module _ (n m : ℕ) (xs heads nexts : List ℕ) (first-in : at xs m < n) where
       head-newest : (a k : ℕ) → a < n → k < m → at xs k ≡ a → Dec (a ≡ at xs m) → k < at (set heads (at xs m) (at nexts m)) a
       head-newest a k h l own (yes e) = omega (arith, here, ap (at (set heads (at xs m) (at nexts m))) e, ch .next-newest m k (omega arith) l (own ∙ e))
       head-newest a k h l own (no apart) = omega (arith, other a apart, ch .head-newest a k h (omega arith) own)
+
+-- So rule m is put on its chain by any link that is m + 1.
+pub pushed :
+    (m link : ℕ) (xs heads nexts : List ℕ) → at xs m < length heads → m < length nexts → link ≡ m + 1 →
+    Pushed m xs heads nexts (set heads (at xs m) link) (set nexts m (at heads (at xs m)))
+pushed m link xs heads nexts head-place next-place is =
+    rw is (record { heads-are = refl; nexts-are = refl; chained = λ n first-in ch. chained-more n m xs heads nexts first-in head-place next-place ch })

@@ -1,7 +1,7 @@
--- `chains::push` meets its contract: `chained-more` at the two cells written.
-use mathlib.Core.Path.{refl}
+-- `chains::push` meets its contract: `pushed` at the two cells written.
+use native.Mathlib.Omega.{arith}
 use borrow.Author.Needs.{needs}
-use Rattle.chains.proofs.Laws.{chained-more}
+use Rattle.chains.proofs.Laws.{pushed}
 use Rattle.chains.proofs.push.Statement.{statement}
 use Rattle.chains.proofs.push.Tie as tie
 
@@ -40,12 +40,10 @@ same-length-2 c = search needs
 
 returns : tie.Need-returns
 returns c =
-    let args = c .before .before .before .before .before .args in
-    rw (c .before .number-at .ensures) (record {
-      heads-are = refl;
-      nexts-are = refl;
-      chained = λ n first-in ch. chained-more n (args .m) (args .xs .now) (args .heads .now) (args .nexts .now) first-in (c .before .before .before .before .before .pre .head-place) (c .before .before .before .before .before .pre .next-place) ch;
-    })
+    let start = c .before .before .before .before .before in
+    let args = start .args in
+    rw (c .before .number-at .ensures)
+    (pushed (args .m) _ (args .xs .now) (args .heads .now) (args .nexts .now) (start .pre .head-place) (start .pre .next-place) (omega arith))
 
 pub push-spec : {M : Type 1} → statement M
 push-spec =

@@ -1,11 +1,13 @@
 -- `form::headed_by` meets its contract: one name after another is tried, and the form of the first that it is decides.
 use mathlib.Core.Path.{_≡_, refl, ap, _∙_}
+use mathlib.Core.Bool.{false}
 use mathlib.Core.List.{[]}
+use Rattle.meaning.specs.Bounds.{DEPTH}
 use Rattle.text.specs.declared.Tok.{Tok}
 use Rattle.text.specs.Lexicon.{bytes}
 use Rattle.form.specs.declared.Command.{Command}
 use Rattle.form.specs.declared.Command.the-variants.{Declare, Push, Pop, GetValue}
-use Rattle.form.specs.Form.{headed}
+use Rattle.form.specs.Form.{term, headed}
 use Rattle.form.proofs.Steps.{on}
 use Rattle.form.proofs.Commands.{first-named, from-declare-fun, from-check-sat, from-push, from-pop, from-get-value, from-set-logic, from-exit, headed-is, this-one, a-later, none-named, finished-as}
 use borrow.Author.Needs.{needs}
@@ -49,13 +51,19 @@ read-term-requires c κs = c .before .before .before .before .pre .0
 read-kind-requires : tie.Need-read-kind-requires
 read-kind-requires c κs = c .before .before .before .before .before .pre .0
 
+-- The asserted term itself is the first of DEPTH.
+asserted-deep :
+    (c : tie.After-read-term) →
+    c .read-term .result ≡ term DEPTH (c .before .before .before .before .before .args .s .now) false (c .before .before .before .before .before .args .b)
+asserted-deep c = c .read-term .ensures
+
 finished-requires : tie.Need-finished-requires
 finished-requires c κs = search needs
 
 returns : tie.Need-returns
 returns c =
     this-one _ _ _ _ _ (c .before .before .before .before .same .ensures) _ (c .before .before .before .if1 .taken)
-    (finished-as _ _ _ _ _ (refl) (on _ _ _ _ (c .before .before .read-term .ensures) (c .before .read-kind .ensures)) (c .finished .ensures))
+    (finished-as _ _ _ _ _ (refl) (on _ _ _ _ (asserted-deep (c .before .before)) (c .before .read-kind .ensures)) (c .finished .ensures))
     ∙ headed-is (c .before .before .before .before .before .before .before .args .s .now) (c .before .before .before .before .before .before .before .args .a) (c .before .before .before .before .before .before .before .args .b)
 
 slice-aggregate-same-2 : tie.Need-slice-aggregate-same-2
