@@ -84,7 +84,7 @@ follow-requires c κs =
         (
           head .loop .inv .2 .underway,
           (
-            omega (arith, c .before .before .number-at .ensures, worklist .step-in (head .loop .done) (turn .loop-test .taken)),
+            omega (arith, c .before .before .number-at .ensures, worklist .step-in (head .loop .done) (turn .loop-test .taken), turn .loop-test .taken, entered-few turn),
             omega (arith, ap (at (head .loop .places)) (c .before .before .number-at .ensures), worklist .step-placed (head .loop .done) (turn .loop-test .taken)),
           ),
         ),
