@@ -51,9 +51,9 @@ brought-none k gains days = record { moved = λ v v-in. absurd (omega arith); pa
 
 -- One day more is brought up by its gain and back by k.
 pub brought-more :
-    {k v : ℕ} {gains before after : List ℕ} → Brought v k gains before after → v < length after →
-    Brought (v + 1) k gains before (set after v (at after v + at gains v - k))
-brought-more {k} {v} {gains} {before} {after} passed inside = record {
+    {k v : ℕ} {gains before after : List ℕ} → Brought v k gains before after → v < length after → (day : ℕ) → day ≡ at after v + at gains v - k →
+    Brought (v + 1) k gains before (set after v day)
+brought-more {k} {v} {gains} {before} {after} passed inside day is = record {
   moved = λ w w-in. told w w-in (ℕ-discrete w v);
   past = record {
     same-length = length-set after v day ∙ passed .past .same-length;
@@ -61,13 +61,10 @@ brought-more {k} {v} {gains} {before} {after} passed inside = record {
   };
 }
   where
-    day : ℕ
-    day = at after v + at gains v - k
-
     put : Put v day (at after) (at (set after v day))
     put = put-set after v day inside
 
     told : (w : ℕ) → w < v + 1 → Dec (w ≡ v) → at (set after v day) w ≡ at before w + at gains w - k
     told w w-in (yes e) =
-        omega (arith, ap (at (set after v day)) e, put .there, passed .past .kept v (omega arith), ap (at before) e, ap (at gains) e)
+        omega (arith, ap (at (set after v day)) e, put .there, is, passed .past .kept v (omega arith), ap (at before) e, ap (at gains) e)
     told w w-in (no e) = put .others w e ∙ passed .moved w (omega arith)

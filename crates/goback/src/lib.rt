@@ -46,11 +46,12 @@ pub fn back(
         cs,
         days,
     );
+    let left = counts.marks - 1;
     Reply {
         counts: Counts {
             steps: counts.steps,
             rules: mark,
-            marks: counts.marks - 1,
+            marks: left,
             watched: counts.watched,
         },
         answer: Answer::Done(0, 0),

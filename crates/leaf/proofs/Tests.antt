@@ -1,12 +1,11 @@
 -- One rule's test over natural numbers.
-use Prim.Native.Nat.{ℕ, _+_, _≤_}
+use Prim.Native.Nat.{ℕ, _+_, _≤_, _<_}
 use native.Mathlib.Omega.{arith}
 use mathlib.Core.Path.{_≡_}
+use mathlib.Core.Bool.{Bool, true, false}
 use mathlib.Core.List.{List}
-use lib.Dec.{leb}
 use lib.ListN.{getD}
 use lib.IntN.{ℤ}
-use borrow.Author.Tests.{leb-true, leb-false}
 use Rattle.meaning.specs.Tables.{rule-at, at}
 use Rattle.meaning.proofs.Whole.{plan→, →plan}
 use Rattle.leaf.specs.Decides.{Decides}
@@ -21,9 +20,11 @@ module _ (xs ys : List ℕ) (cs : List ℤ) (days : List ℕ) (i : ℕ) where
   pub within→kept : (l : ℕ) → Limit ys cs days i l → at days (getD xs i 0) + 2147483648 ≤ l → KeptAt xs ys cs days i
   within→kept l limit within = →plan (at days) (rule-at (columns xs ys cs) i) (omega arith)
 
-  -- The machine's test.
-  pub test-decides : (d l : ℕ) → d ≡ at days (getD xs i 0) → Limit ys cs days i l → Decides (leb (d + 2147483648) l) (KeptAt xs ys cs days i)
-  test-decides d l day limit = record {
-    so = λ e. within→kept l limit (omega (arith, leb-true (d + 2147483648) l e));
-    not-so = λ e kept. omega (arith, leb-false (d + 2147483648) l e, kept→within l limit kept);
+  -- A test that tells whether the day is within the limit.
+  pub test-decides :
+      (d l : ℕ) → d ≡ at days (getD xs i 0) → Limit ys cs days i l → (b : Bool) → (b ≡ true → d + 2147483648 ≤ l) → (b ≡ false → l < d + 2147483648) →
+      Decides b (KeptAt xs ys cs days i)
+  test-decides d l day limit b within past = record {
+    so = λ e. within→kept l limit (omega (arith, within e));
+    not-so = λ e kept. omega (arith, past e, kept→within l limit kept);
   }

@@ -40,8 +40,8 @@ cast-keep-first-3 c = omega (arith, c .before .before .shared-slice-known6 .give
 keep-first-requires : tie.Need-keep-first-requires
 keep-first-requires c κs = droppable (c .before .before .before .before .before .before .before .before .before .before .before .before .pre) (omega (arith, c .before .before .before .before .if1 .left))
 
-sub-t17 : tie.Need-sub-t17
-sub-t17 c = search needs
+sub-left : tie.Need-sub-left
+sub-left c = search needs
 
 same-length : tie.Need-same-length
 same-length c = search needs
@@ -65,6 +65,6 @@ back-spec =
     cast-keep-first-2
     cast-keep-first-3
     keep-first-requires
-    sub-t17
+    sub-left
     same-length
     returns-2)

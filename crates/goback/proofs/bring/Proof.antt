@@ -68,7 +68,7 @@ loop-again c =
     let passed = c .before .before .before .before .loop .inv .1 in
     rw (c .day-at .ensures) (
       omega (arith, v-in),
-      brought-more passed (omega (arith, v-in, passed .past .same-length, c .before .before .before .before .before .before .before .pre .days-room)),
+      brought-more passed (omega (arith, v-in, passed .past .same-length, c .before .before .before .before .before .before .before .pre .days-room)) _ (omega arith),
     )
 
 same-length : tie.Need-same-length Inv-loop μ-loop

@@ -1,9 +1,10 @@
--- `leaf::kept` meets its contract: `Tests` has the law of the machine's test.
+-- `leaf::kept` meets its contract: `Tests` has the law of the test.
 use Prim.Native.Nat.{ℕ}
 use native.Mathlib.Omega.{arith}
 use mathlib.Core.Path.{_∙_, ap}
 use lib.ListN.{getD}
 use borrow.Author.Needs.{needs}
+use borrow.Author.Tests.{leb-true, leb-false, ltb-true, ltb-false}
 use Rattle.leaf.proofs.Tests.{test-decides}
 use Rattle.leaf.proofs.kept.Statement.{statement}
 use Rattle.leaf.proofs.kept.Tie as tie
@@ -25,7 +26,7 @@ returns c =
     let args = c .before .before .before .before .before .before .args in
     test-decides (args .xs .now) (args .ys .now) (args .cs .now) (args .days .now) (args .i) (c .before .day-at .result) (c .latest .result)
     (c .before .day-at .ensures ∙ ap (λ (x : ℕ). getD (args .days .now) x 0) (c .before .before .number-at .ensures))
-    (c .latest .ensures)
+    (c .latest .ensures) _ (λ e. omega (arith, leb-true, ltb-true)) (λ e. omega (arith, leb-false, ltb-false))
 
 pub kept-spec : {M : Type 1} → statement M
 kept-spec =
