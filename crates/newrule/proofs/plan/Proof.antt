@@ -23,7 +23,7 @@ returns c =
     let l : Lack (c .before .before .before .before .before .before .before .before .before .args .days .now) (c .before .before .before .before .before .before .before .before .before .args .x) (c .before .before .before .before .before .before .before .before .before .args .y) (c .before .before .before .before .before .before .before .before .before .args .c) (c .before .lack .result) = rw (toZ-ofZ w32 (c .before .before .before .before .before .before .before .before .before .args .c) (c .before .before .before .before .before .before .before .before .before .fits .c)) at (c .before .lack .ensures) in
     fits-at-once (c .before .before .before .before .before .before .before .before .before .args .n) (c .before .before .before .before .before .before .before .before .before .args .m) (c .before .before .before .before .before .before .before .before .before .args .xs .now) (c .before .before .before .before .before .before .before .before .before .args .ys .now) (c .before .before .before .before .before .before .before .before .before .args .cs .now) (c .before .before .before .before .before .before .before .before .before .args .days .now)
     (c .before .before .before .before .before .before .before .before .before .args .heads .now) (c .before .before .before .before .before .before .before .before .before .args .nexts .now) (c .before .before .before .before .before .before .before .before .before .args .gains .now) (c .before .before .before .before .before .before .before .before .before .args .by .now) (c .before .before .before .before .before .before .before .before .before .args .x) (c .before .before .before .before .before .before .before .before .before .args .y) (c .before .before .before .before .before .before .before .before .before .args .c)
-    (c .before .before .before .before .before .before .before .before .before .pre) (l .none (c .if1 .taken)) (c .before .before .before .before .before .before .before .before .before .args .by .now)
+    (c .before .before .before .before .before .before .before .before .before .pre) (l .none (omega (arith, c .if1 .taken))) (c .before .before .before .before .before .before .before .before .before .args .by .now)
 
 spread-one-requires : tie.Need-spread-one-requires
 spread-one-requires c κs =

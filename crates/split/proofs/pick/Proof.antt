@@ -22,10 +22,10 @@ abbrev μ-loop : tie.MeasureT-loop
 -- One number more: it is listed where its verdict is yes.
 one-more :
     (verdicts before after after′ : List ℕ) (k k′ j : ℕ) → Picked j verdicts before after k → k < length after →
-    ((at verdicts j ≡ 0 → ⊥) × (after′ ≡ set after k j) × (k′ ≡ k + 1)) ⊎ ((at verdicts j ≡ 0) × (after′ ≡ after) × (k′ ≡ k)) →
+    ((0 < at verdicts j) × (after′ ≡ set after k j) × (k′ ≡ k + 1)) ⊎ ((at verdicts j ≡ 0) × (after′ ≡ after) × (k′ ≡ k)) →
     Picked (j + 1) verdicts before after′ k′
 one-more verdicts before after after′ k k′ j picked place (inl (says-yes, list-is, k-is)) =
-    rw (list-is, k-is) (picked-take verdicts before after k j picked (omega (arith, says-yes)) place)
+    rw (list-is, k-is) (picked-take verdicts before after k j picked says-yes place)
 one-more verdicts before after after′ k k′ j picked place (inr (says-no, list-is, k-is)) =
     rw (list-is, k-is) (picked-leave verdicts before after k j picked says-no)
 
@@ -68,7 +68,7 @@ loop-again c =
       omega (arith, c .before .before .loop-test .taken),
       one-more (start .args .verdicts .now) (start .args .list .now) (loop .list) (c .if1 .list) (loop .k) (c .if1 .k) (loop .j) (loop .inv .1)
           (omega (arith, c .before .before .loop-test .taken, loop .inv .1 .at-most, loop .inv .1 .filled .past .same-length, start .pre .1 .1))
-          (⊎-elim (λ w. inl (w .0 .taken, w .1, w .2)) (λ w. inr (w .0 .left, w .1, w .2)) (c .if1 .came)),
+          (⊎-elim (λ w. inl (omega (arith, w .0 .taken), w .1, w .2)) (λ w. inr (omega (arith, w .0 .left), w .1, w .2)) (c .if1 .came)),
     )
 
 same-length : tie.Need-same-length Inv-loop μ-loop
