@@ -36,8 +36,8 @@ returns c =
     let kept = c .before .before .before .before .before .args .kept .now in
     let name = ap (λ (x : ℕ). at kept (x + STEPS)) (c .before .row-of .ensures) in
     record {
-      so = λ e. record { has-row = c .before .before .before .has-row .ensures .so (c .before .before .if1 .taken); named = sym name ∙ eqb-true _ _ e };
-      not-so = λ e held. eqb-false _ _ e (name ∙ held .named);
+      so = λ e. record { has-row = c .before .before .before .has-row .ensures .so (c .before .before .if1 .taken); named = omega (arith, name, eqb-true) };
+      not-so = λ e held. omega (arith, name, held .named, eqb-false);
     }
 
 returns-2 : tie.Need-returns-2

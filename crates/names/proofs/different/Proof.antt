@@ -87,7 +87,7 @@ returns c =
     let args = start .args in
     decides-no refl
     (older-same (args .n) (args .names .now) (args .lens .now) (args .nexts .now) (links start) (head .loop .k) (c .before .before .before .before .loop-test .taken) (c .before .follow .result)
-    (c .if1 .taken) (found (c .before)))
+    (omega (arith, c .if1 .taken)) (found (c .before)))
 
 add-k : tie.Need-add-k Inv-loop μ-loop
 add-k c = search needs
@@ -102,7 +102,7 @@ loop-again c =
     let args = start .args in
     let held = c .before .before .before .before .loop-test .taken in (
       omega (arith, held),
-      different-more (args .n) (args .names .now) (args .lens .now) (args .nexts .now) (links start) (head .loop .k) held (c .before .follow .result) (c .if1 .left) (found (c .before)) (head .loop .inv .1),
+      different-more (args .n) (args .names .now) (args .lens .now) (args .nexts .now) (links start) (head .loop .k) held (c .before .follow .result) (omega (arith, c .if1 .left)) (found (c .before)) (head .loop .inv .1),
     )
 
 returns-2 : tie.Need-returns-2 Inv-loop μ-loop
