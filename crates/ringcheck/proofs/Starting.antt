@@ -62,7 +62,7 @@ module _ (F : ℕ → Rule) (H : ℕ → Type 0) (k : ℕ) (flags : List ℕ) (n
     rest-held = held;
     leads = ring .leads-back .1;
     no-step-twice = ring .no-step-twice .1;
-    not-met = all-implies (λ a apart. flag-other flags (F k .first) a apart (none a)) (firsts F l) (ring .no-step-twice .0);
+    not-met = all-implies (λ a apart. flag-other flags (F k .first) a 1 apart (none a)) (firsts F l) (ring .no-step-twice .0);
     negative = omega (arith, lt→ (total F (k ∷ l)) (pos 0) negative, add-is (F k .amount) (total F l), biased .is);
   }
 
@@ -70,7 +70,7 @@ module _ (F : ℕ → Rule) (H : ℕ → Type 0) (k : ℕ) (flags : List ℕ) (n
   closes→ring : ClosesAfter F H flags (F k) b l → Ring F k l
   closes→ring closes = record {
     leads-back = (refl, closes .leads);
-    no-step-twice = (all-implies (λ a after. flagged-apart flags (F k .first) a room after) (firsts F l) (closes .not-met), closes .no-step-twice);
+    no-step-twice = (all-implies (λ a after. flagged-apart flags (F k .first) a 1 (omega arith) room after) (firsts F l) (closes .not-met), closes .no-step-twice);
   }
 
   -- And the ring is negative.

@@ -48,10 +48,10 @@ module _ {R : ℕ → Rule} {H : ℕ → Type 0} {x : ℕ} {met : List ℕ} {rea
     sought-goes-on sought = next-goes-on R H x met reached sum low i (drop (k + 1) list) (rw left-is at (as-left .0 sought))
 
     -- Where it does, the walk goes on one place further: the step is met, the number's amount is in the sum, its second step is reached.
-    pub one-further : (b s : ℕ) → reached < length met → Biased (R i .amount) b → s ≡ R i .second → GoesOn (λ j. R j .first) H met reached i → Sought ↔ Left R H x (set met reached 1) s (sum + b) list (k + 1)
-    one-further b s room biased s-is on = (
-      λ sought. rw (s-is, lower) (next→ R H x met reached sum low i b (drop (k + 1) list) room biased (rw left-is at (as-left .0 sought))),
-      λ further. as-left .1 (rw left-is (→next R H x met reached sum low i b (drop (k + 1) list) room biased on (rw (s-is, lower) at further))),
+    pub one-further : (b s flag : ℕ) → 0 < flag → reached < length met → Biased (R i .amount) b → s ≡ R i .second → GoesOn (λ j. R j .first) H met reached i → Sought ↔ Left R H x (set met reached flag) s (sum + b) list (k + 1)
+    one-further b s flag some room biased s-is on = (
+      λ sought. rw (s-is, lower) (next→ R H x met reached sum low i b flag (drop (k + 1) list) some room biased (rw left-is at (as-left .0 sought))),
+      λ further. as-left .1 (rw left-is (→next R H x met reached sum low i b flag (drop (k + 1) list) some room biased on (rw (s-is, lower) at further))),
     )
       where
         lower : (k + 1) * 2147483648 ≡ k * 2147483648 + 2147483648

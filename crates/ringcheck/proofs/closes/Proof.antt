@@ -87,7 +87,7 @@ loop-again c =
       omega (arith, here),
       simp length-set (omega (arith, c .number-at .ensures, start .pre .flags-room i (on .is-held), loop .inv .0)),
       omega (arith, loop .inv .3, c .before .amount-at .ensures .narrow),
-      one-further (args .list .now) (loop .k) (loop .inv .4) i here (c .before .before .before .before .before .entry-at .ensures) (c .before .amount-at .result) (c .number-at .result) (loop .inv .2) (c .before .amount-at .ensures) (c .number-at .ensures) on,
+      one-further (args .list .now) (loop .k) (loop .inv .4) i here (c .before .before .before .before .before .entry-at .ensures) (c .before .amount-at .result) (c .number-at .result) _ (omega arith) (loop .inv .2) (c .before .amount-at .ensures) (c .number-at .ensures) on,
     )
 
 mul-result : tie.Need-mul-result Inv-loop μ-loop

@@ -48,7 +48,7 @@ loop-again c =
     )
 
 returns-3 : tie.Need-returns-3 Inv-loop μ-loop
-returns-3 c = c .before .before .before .before .before .before .before .before .before .before .before .loop .inv .2 (c .before .before .before .before .before .before .before .before .before .token2 .result .to) (span-closed (c .before .before .before .before .before .before .before .before .before .before .before .before .before .before .before .before .before .before .args .s .now) (c .before .before .before .before .before .before .before .before .before .before .before .loop .d) (c .before .before .before .before .before .before .before .before .before .before .before .loop .i) (c .before .before .before .before .before .before .before .before .before .token2 .result) (c .before .before .before .before .before .before .before .before .before .token2 .ensures) (c .before .before .before .before .before .before .before .before .before .before .before .loop .inv .1) (c .before .if6 .taken) (c .if7 .taken))
+returns-3 c = c .before .before .before .before .before .before .before .before .before .before .before .loop .inv .2 (c .before .before .before .before .before .before .before .before .before .token2 .result .to) (span-closed (c .before .before .before .before .before .before .before .before .before .before .before .before .before .before .before .before .before .before .args .s .now) (c .before .before .before .before .before .before .before .before .before .before .before .loop .d) (c .before .before .before .before .before .before .before .before .before .before .before .loop .i) (c .before .before .before .before .before .before .before .before .before .token2 .result) (c .before .before .before .before .before .before .before .before .before .token2 .ensures) (c .before .before .before .before .before .before .before .before .before .before .before .loop .inv .1) (c .before .if6 .taken) (omega (arith, c .if7 .taken)))
 
 sub-d : tie.Need-sub-d Inv-loop μ-loop
 sub-d c = omega (arith, c .if7 .left)
@@ -61,7 +61,7 @@ loop-again-2 c =
     let p : Placed (c .before .before .before .before .before .before .before .before .before .before .before .before .before .before .before .before .before .before .args .s .now) (c .before .before .before .before .before .before .before .before .before .before .before .loop .i) (c .before .before .before .before .before .before .before .before .before .token2 .result) = token-placed (c .before .before .before .before .before .before .before .before .before .before .before .before .before .before .before .before .before .before .args .s .now) (c .before .before .before .before .before .before .before .before .before .before .before .loop .i) (c .before .before .before .before .before .before .before .before .before .token2 .result) (c .before .before .before .before .before .before .before .before .before .token2 .ensures) in (
       omega (arith, c .before .before .before .before .before .before .before .before .before .before .before .loop .inv .0, p .some (c .before .before .before .before .before .before .before .if3 .left)),
       p .within (c .before .before .before .before .before .before .before .before .before .before .before .loop .inv .1),
-      λ r w. c .before .before .before .before .before .before .before .before .before .before .before .loop .inv .2 r (span-higher (c .before .before .before .before .before .before .before .before .before .before .before .before .before .before .before .before .before .before .args .s .now) (c .before .before .before .before .before .before .before .before .before .before .before .loop .d) (c .before .before .before .before .before .before .before .before .before .before .before .loop .i) (c .before .before .before .before .before .before .before .before .before .token2 .result) (c .before .before .before .before .before .before .before .before .before .token2 .ensures) r (c .before .before .before .before .before .before .before .before .before .before .before .loop .inv .1) (c .before .if6 .taken) (c .if7 .left) w),
+      λ r w. c .before .before .before .before .before .before .before .before .before .before .before .loop .inv .2 r (span-higher (c .before .before .before .before .before .before .before .before .before .before .before .before .before .before .before .before .before .before .args .s .now) (c .before .before .before .before .before .before .before .before .before .before .before .loop .d) (c .before .before .before .before .before .before .before .before .before .before .before .loop .i) (c .before .before .before .before .before .before .before .before .before .token2 .result) (c .before .before .before .before .before .before .before .before .before .token2 .ensures) r (c .before .before .before .before .before .before .before .before .before .before .before .loop .inv .1) (c .before .if6 .taken) (omega (arith, c .if7 .left)) w),
     )
 
 loop-less-3 : tie.Need-loop-less-3 Inv-loop μ-loop
