@@ -1,42 +1,86 @@
--- The part that Trial hands back is within its list.
-use Prim.Native.Nat.{ℕ, _+_, _*_, _-_, _≤_}
+-- The part handed back after Trial is what the caller asked for, since Trial's promise says what the lists' first places hold.
+use Prim.Native.Nat.{ℕ, _+_, _*_, _-_, _≤_, _<_}
 use native.Mathlib.Omega.{arith}
 use native.Mathlib.Decide.{ℕ-discrete}
-use mathlib.Core.Path.{_≡_, ap}
+use mathlib.Core.Path.{_≡_, sym, _∙_, ap, subst}
 use mathlib.Core.List.{List}
 use lib.ListN.{length, take}
+use lib.Seq.{length-take-le, getD-take, take-all}
 use lib.IntN.{ℤ}
 use Rattle.meaning.specs.declared.Counts.{Counts}
 use Rattle.meaning.specs.declared.Reply.{Reply}
-use Rattle.meaning.specs.Bounds.{DONE, CONFLICT}
-use Rattle.meaning.specs.Promise.{given, bare}
-use Rattle.meaning.specs.Calls.{WithLists, trial-meaning}
+use Rattle.meaning.specs.Bounds.{DONE}
+use Rattle.meaning.specs.Rules.{Rule, InSteps, Refutes}
+use Rattle.meaning.specs.Tables.{Tables, at}
+use Rattle.meaning.specs.Promise.{Given, given}
+use Rattle.meaning.specs.Calls.{WithLists, trial-meaning, rules-of, held-in, next-in, rules-and, held-and}
 use Rattle.meaning.proofs.Needs.{done-met, trial-rises}
+use Rattle.meaning.proofs.More.{more-all}
+use Rattle.meaning.proofs.Lists.{filled-length}
+use Rattle.meaning.proofs.Theory.{earliest-ext}
 use Rattle.leaf.specs.Lent.{tables}
 use Rattle.leaf.specs.Promises.{rule, Tries}
+use Rattle.desk.specs.Part.{PartOf, TrialPart, Handed}
 
 module _
     (counts : Counts) (xs ys : List ℕ) (cs : List ℤ) (days marks wxs wys : List ℕ) (wcs : List ℤ) (one two : List ℕ) (x y : ℕ) (c : ℤ) (r : Reply)
-    (one′ two′ : List ℕ) (t : Tries counts xs ys cs days marks wxs wys wcs one two x y c r one′ two′) where
-  lent : WithLists
-  lent = record { tables = tables counts xs ys cs days marks wxs wys wcs; one = one; two = two }
+    (one′ two′ : List ℕ) (kept : Tries counts xs ys cs days marks wxs wys wcs one two x y c r one′ two′)
+    {P : Type 0} (one-start two-start start : P) (part : List ℕ) (is : TrialPart one-start two-start one′ two′ r start part) where
+  abbrev t : Tables
+  t = tables counts xs ys cs days marks wxs wys wcs
 
-  -- Where the answer is DONE, list one has a place for each step.
-  pub days-within : given (r .answer) .number ≡ DONE → counts .steps ≤ length one′
-  unfolding lent
-  days-within done =
-      let met = done-met DONE (given (r .answer) .number) (trial-meaning (rule x y c) lent .asks) (trial-rises (rule x y c) lent) (t .first-unmet) done in
-      omega (arith, met .0 .1, met .1 .0 .counts-in .steps-in, t .when-done done .planned .past .same-length)
+  abbrev lent : WithLists
+  lent = record { tables = t; one = one; two = two }
 
-  -- Where it is not, list two has as many places as the value says.
-  pub ring-within : (given (r .answer) .number ≡ DONE → ⊥) → given (r .answer) .one ≤ length two′
-  ring-within not-done = tell (ℕ-discrete (given (r .answer) .number) CONFLICT)
+  abbrev g : Given
+  g = given (r .answer)
+
+  -- After Trial kept its promise the part is the days of all steps, the ring, or nothing.
+  pub part-handed : Handed (rule x y c) t g one-start two-start start part
+  part-handed =
+      record {
+        days-of-all = λ e. (is .days-part e .same-start, the-length e, earliest-ext (counts .steps) (rules-and (rule x y c) t) (held-and t) (at one′) (at part) (within e) (the-day e) (kept .when-done e .planned .earliest));
+        the-ring = λ e. (is .ring-part (other e) .same-start, ap length (is .ring-part (other e) .holds) ∙ filled-length (g .one) two two′ (kept .on-conflict e .0 .ring-given), subst (Refutes (rules-of t) (held-in t) (next-in t) (rule x y c)) (sym (is .ring-part (other e) .holds)) (kept .on-conflict e .0 .ring-given .holds));
+        nothing = λ u v. (is .ring-part u .same-start, is .ring-part u .holds ∙ ap (λ (z : Given). take (z .one) two′) (kept .when-refused u v .0));
+      }
     where
-      tell : Dec (given (r .answer) .number ≡ CONFLICT) → given (r .answer) .one ≤ length two′
-      tell (yes e) = omega (arith, t .on-conflict e .0 .ring-given .within, t .on-conflict e .0 .ring-given .past .same-length)
-      tell (no n) = omega (arith, ap (λ g. g .one) (t .when-refused not-done n .0))
+      other : g .number ≡ 6 → g .number ≡ DONE → ⊥
+      other e f = omega arith
 
--- A part from place 0 on starts where its list starts, and has the list's first places.
+      the-part : g .number ≡ DONE → part ≡ take (counts .steps) one′
+      the-part e = is .days-part e .holds ∙ ap (λ (u : Tables). take (u .counts .steps) one′) (kept .when-done e .tables-stay)
+
+      the-length : g .number ≡ DONE → length part ≡ counts .steps
+      the-length e =
+          let met = done-met DONE (g .number) (trial-meaning (rule x y c) lent .asks) (trial-rises (rule x y c) lent) (kept .first-unmet) e in
+          ap length (the-part e) ∙ length-take-le (counts .steps) one′ (omega (arith, met .0 .1, met .1 .0 .counts-in .steps-in, kept .when-done e .planned .past .same-length))
+
+      the-day : g .number ≡ DONE → (v : ℕ) → v < counts .steps → at one′ v ≡ at part v
+      the-day e v h = sym (ap (λ (l : List ℕ). at l v) (the-part e) ∙ getD-take (counts .steps) one′ v 0 h)
+
+      within : g .number ≡ DONE → (i : ℕ) → held-and t i → InSteps (counts .steps) (rules-and (rule x y c) t i)
+      within e =
+          let met = done-met DONE (g .number) (trial-meaning (rule x y c) lent .asks) (trial-rises (rule x y c) lent) (kept .first-unmet) e in
+          more-all (InSteps (counts .steps)) (rules-of t) (held-in t) (next-in t) (rule x y c) (met .1 .1 .0) (λ i h. met .1 .0 .rules-good i h .steps-in)
+
+-- Two parts that the promise allows are equal.
+pub part-determined :
+    {P : Type 0} (one-start two-start : P) (one two : List ℕ) (reply : Reply) (start start′ : P) (part part′ : List ℕ)
+    → TrialPart one-start two-start one two reply start part → TrialPart one-start two-start one two reply start′ part′ → (start ≡ start′) × (part ≡ part′)
+part-determined {P} one-start two-start one two reply start start′ part part′ a b = tell (ℕ-discrete (given (reply .answer) .number) DONE)
+  where
+    same : (list-start : P) (list : List ℕ) (k : ℕ) → PartOf list-start list k start part → PartOf list-start list k start′ part′ → (start ≡ start′) × (part ≡ part′)
+    same list-start list k p q = (p .same-start ∙ sym (q .same-start), p .holds ∙ sym (q .holds))
+
+    tell : Dec (given (reply .answer) .number ≡ DONE) → (start ≡ start′) × (part ≡ part′)
+    tell (yes e) = same one-start one (reply .counts .steps) (a .days-part e) (b .days-part e)
+    tell (no n) = same two-start two (given (reply .answer) .one) (a .ring-part n) (b .ring-part n)
+
+-- How many places are asked for may be put in other words.
+pub part-as : {P : Type 0} {list-start start : P} {list part : List ℕ} {j k : ℕ} → j ≡ k → PartOf list-start list j start part → PartOf list-start list k start part
+part-as {list} e p = record { same-start = p .same-start; holds = p .holds ∙ ap (λ (z : ℕ). take z list) e }
+
+-- A part from place 0 on starts where its list starts, and has the list's first places; all of them where more are asked for.
 pub from-start : (block offset : ℕ) → _≡_ {A = ℕ × ℕ} (block, 0 * 4 + offset) (block, offset)
 from-start block offset = λ i. (block, same i)
   where
@@ -48,3 +92,6 @@ whole-part k l = ap (λ z. take z l) same
   where
     same : k - 0 ≡ k
     same = omega arith
+
+pub all-of-it : (n k : ℕ) (l : List ℕ) → n ≡ length l → n < k → take (n - 0) l ≡ take k l
+all-of-it n k l e h = take-all (n - 0) l (omega arith) ∙ sym (take-all k l (omega arith))

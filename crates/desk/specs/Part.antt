@@ -1,32 +1,29 @@
--- The part of a list that Trial hands back.
+-- The part of a list that is handed back after Trial.
 use Prim.Native.Nat.{ℕ}
 use mathlib.Core.Path.{_≡_}
-use mathlib.Core.List.{List}
-use mathlib.Core.Logic.{_⊎_}
-use lib.ListN.{take}
-use lib.IntN.{ℤ}
-use Rattle.meaning.specs.declared.Counts.{Counts}
+use mathlib.Core.List.{List, []}
+use lib.ListN.{length, take}
 use Rattle.meaning.specs.declared.Reply.{Reply}
-use Rattle.meaning.specs.Bounds.{DONE}
-use Rattle.meaning.specs.Promise.{given}
-use Rattle.leaf.specs.Promises.{Tries}
+use Rattle.meaning.specs.Bounds.{DONE, CONFLICT}
+use Rattle.meaning.specs.Rules.{Rule, Earliest, Refutes}
+use Rattle.meaning.specs.Tables.{Tables, at}
+use Rattle.meaning.specs.Promise.{Given, given}
+use Rattle.meaning.specs.Calls.{rules-of, held-in, next-in, rules-and, held-and}
 
--- A part of list one, from its start, which now holds `whole`: its first k places.
-pub record PartOf {P : Type 0} (list-start : P) (whole : List ℕ) (k : ℕ) (start : P) (part : List ℕ) : Type 0 where
+-- The part starts where the list starts and holds its first k places; all of it where the list has no more.
+pub record PartOf {P : Type 0} (list-start : P) (list : List ℕ) (k : ℕ) (start : P) (part : List ℕ) : Type 0 where
   pub same-start : start ≡ list-start
-  pub holds : part ≡ take k whole
+  pub holds : part ≡ take k list
 
--- Trial kept its promise with some reply, leaving the lists one′ and two′; the number and the value are the reply's; and the part handed back is
--- that of list one with the days of all steps where the answer is DONE, else that of list two with as many places as the value says: the
--- ring on CONFLICT, none on any other refusal.
-pub record TrialPart
-    (counts : Counts) (xs ys : List ℕ) (cs : List ℤ) (days marks wxs wys : List ℕ) (wcs : List ℤ) (one two : List ℕ) (x y : ℕ) (c : ℤ)
-    {P : Type 0} (one-start two-start : P) (number value : ℕ) (start : P) (part : List ℕ) : Type 0 where
-  pub reply : Reply
-  pub one′ : List ℕ
-  pub two′ : List ℕ
-  pub kept : Tries counts xs ys cs days marks wxs wys wcs one two x y c reply one′ two′
-  pub number-is : number ≡ given (reply .answer) .number
-  pub value-is : value ≡ given (reply .answer) .one
-  pub days-part : number ≡ DONE → PartOf one-start one′ (counts .steps) start part
-  pub ring-part : (number ≡ DONE → ⊥) → PartOf two-start two′ value start part
+-- The part handed back after a Trial that gave this reply and left these lists: where the answer is DONE, of list one a place for each step; else of
+-- list two as many places as the value says.
+pub record TrialPart {P : Type 0} (one-start two-start : P) (one two : List ℕ) (reply : Reply) (start : P) (part : List ℕ) : Type 0 where
+  pub days-part : given (reply .answer) .number ≡ DONE → PartOf one-start one (reply .counts .steps) start part
+  pub ring-part : (given (reply .answer) .number ≡ DONE → ⊥) → PartOf two-start two (given (reply .answer) .one) start part
+
+-- What a caller of Trial with the rule r then has in the part: the days of all steps, which are the earliest plan with r, at the start of list one; on
+-- CONFLICT the ring, and on any other refusal nothing, at the start of list two.
+pub record Handed (r : Rule) (t : Tables) (g : Given) {P : Type 0} (one-start two-start start : P) (part : List ℕ) : Type 0 where
+  pub days-of-all : g .number ≡ DONE → (start ≡ one-start) × (length part ≡ t .counts .steps) × Earliest (t .counts .steps) (rules-and r t) (held-and t) (at part)
+  pub the-ring : g .number ≡ CONFLICT → (start ≡ two-start) × (length part ≡ g .one) × Refutes (rules-of t) (held-in t) (next-in t) r part
+  pub nothing : (g .number ≡ DONE → ⊥) → (g .number ≡ CONFLICT → ⊥) → (start ≡ two-start) × (part ≡ [])

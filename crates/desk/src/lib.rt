@@ -3,7 +3,7 @@
 ghost use mathlib.Core.Path.{_≡_};
 ghost use Rattle.meaning.specs.Promise.{given};
 ghost use Rattle.leaf.specs.Decides.{Decides};
-ghost use Rattle.desk.specs.Part.{TrialPart};
+ghost use Rattle.desk.specs.Part.{PartOf, TrialPart};
 ghost use Rattle.leaf.specs.Lent.{tables};
 ghost use Rattle.leaf.specs.Promises.{Opens, Watches, Adds, Marks, GoesBack, Tries, Splits, ChecksRing};
 ghost use Rattle.meaning.specs.Tables.{Room, Sound};
@@ -499,55 +499,27 @@ pub fn value_of(answer: Answer) -> u32
     }
 }
 
-// Trial in the form that hands back the filled part of one list: the days of all steps, of list one, where the rule fits; else the ring, of list
-// two; on any other refusal an empty part of list two. The number and the value of the answer come out through `number` and `value`.
-pub fn trial_part<'a, 'n>(
-    counts: Counts,
-    xs: &[u16],
-    ys: &[u16],
-    cs: &[i32],
-    days: &[u32],
-    marks: &[u32],
-    wxs: &[u16],
-    wys: &[u16],
-    wcs: &[i32],
-    one: &'a mut [u32],
-    two: &'a mut [u32],
-    number: &'n mut u32,
-    value: &'n mut u32,
-    x: u16,
-    y: u16,
-    c: i32,
-) -> &'a mut [u32]
-    ensures { λ r. ⌜
-        TrialPart counts (now (xs .entry)) (now (ys .entry)) (now (cs .entry)) (now (days .entry)) (now (marks .entry)) (now (wxs .entry)) (now (wys .entry)) (now (wcs .entry)) (now (one .entry)) (now (two .entry)) x y c
-        (one .entry .ptr) (two .entry .ptr) (now (number .exit)) (now (value .exit)) (r .ptr) (now r) ⌝ }
+// The list's first k places; all of it where it has no more.
+fn first_places<'a>(list: &'a [u32], k: u32) -> &'a [u32]
+    ensures { λ r. ⌜ PartOf (list .entry .ptr) (now (list .entry)) k (r .ptr) (now r) ⌝ }
 {
-    let reply = trial(
-        counts,
-        xs,
-        ys,
-        cs,
-        days,
-        marks,
-        wxs,
-        wys,
-        wcs,
-        one,
-        two,
-        x,
-        y,
-        c,
-    );
-    let answer = reply.answer;
-    let told = number_of(answer);
-    let given = value_of(answer);
-    *number = told;
-    *value = given;
-    if told == 0 {
-        let n = counts.steps as usize;
-        return &mut one[0..n];
+    let n = list.len();
+    if n < k as usize {
+        return &list[0..n];
     }
-    let k = given as usize;
-    &mut two[0..k]
+    let e = k as usize;
+    &list[0..e]
+}
+
+// The filled part of one of the lists after Trial gave this reply: the days of all steps, of list one, where the rule fits; else the ring, of list two;
+// on any other refusal an empty part of list two.
+pub fn trial_part<'a>(one: &'a [u32], two: &'a [u32], reply: Reply) -> &'a [u32]
+    ensures { λ r. ⌜ TrialPart (one .entry .ptr) (two .entry .ptr) (now (one .entry)) (now (two .entry)) reply (r .ptr) (now r) ⌝ }
+{
+    let counts = reply.counts;
+    let answer = reply.answer;
+    if number_of(answer) == 0 {
+        return first_places(one, counts.steps);
+    }
+    first_places(two, value_of(answer))
 }

@@ -2,7 +2,6 @@
 use crate::cells;
 use crate::office;
 use crate::office::Office;
-use crate::show;
 use crate::words;
 use crate::words::Ask;
 
@@ -280,43 +279,4 @@ pub fn ring_check<'a>(
         ask.c,
     );
     office::after(o, reply)
-}
-
-// Trial in the form that hands back a part of one of two lists, which are this function's own: the part is written.
-pub fn trial_part<'a>(
-    ask: Ask,
-    o: Office,
-    xs: &'a [u16],
-    ys: &'a [u16],
-    cs: &'a [i32],
-    days: &'a [u32],
-    marks: &'a [u32],
-    wxs: &'a [u16],
-    wys: &'a [u16],
-    wcs: &'a [i32],
-) -> Office {
-    let mut first = [7u32; meaning::STEPS];
-    let mut second = [7u32; meaning::STEPS];
-    let mut number: u32 = 0;
-    let mut value: u32 = 0;
-    let part = desk::trial_part(
-        o.counts,
-        xs,
-        ys,
-        cs,
-        days,
-        marks,
-        wxs,
-        wys,
-        wcs,
-        &mut first,
-        &mut second,
-        &mut number,
-        &mut value,
-        ask.x,
-        ask.y,
-        ask.c,
-    );
-    show::part(number, value, part);
-    o
 }

@@ -1,7 +1,8 @@
 // Runs a text of cases through the eight public calls and writes what is seen: each line of standard input as it stands, and after it what the line
 // gives. A line that starts with `#` is only copied. The lists that are lent have one place more than the calls need. Its file `stdin` has the
 // worked cases and the refusals of every call at their boundaries; its file `stdout` is written by hand from the paper.
-//   open N | watch X Y C | add X Y C | mark | back | trial X Y C | part X Y C | consequences    a public call; part is Trial's form with a part
+//   open N | watch X Y C | add X Y C | mark | back | trial X Y C | consequences    a public call
+//   part X Y C                           Trial, and the part that is then handed back
 //   ring check X Y C of N ..             Ring check of the list of these numbers; with `two` for them, of list two
 //   each X Y C                           every call but Open and part, one after the other
 //   .. LIST N places                     N places of the list are lent in this line
@@ -62,8 +63,9 @@ fn tell<'a>(
         one,
         two,
     );
-    show::told(ask, o.given, s);
-    show::seen(ask, o.given, o.counts, s, days, one, two);
+    let given = office::values(o.last);
+    show::told(ask, given, s);
+    show::seen(ask, given, o.counts, s, days, one, two);
     o
 }
 
@@ -133,7 +135,10 @@ fn made<'a>(
             calls::consequences(ask, o, xs, ys, cs, days, marks, wxs, wys, wcs)
         }
         words::RING => { calls::ring_check(ask, o, xs, ys, cs, days, marks, wxs, wys, wcs, two) }
-        words::PART => calls::trial_part(ask, o, xs, ys, cs, days, marks, wxs, wys, wcs),
+        words::PART => {
+            show::part(desk::trial_part(one, two, o.last));
+            o
+        }
         words::TELL => tell(
             ask,
             o,
@@ -226,6 +231,14 @@ fn each(ask: Ask, o: Office) -> Office {
     public(words::RING, ask, o)
 }
 
+// Makes the call Trial, and writes the part that is handed back after it.
+fn tried(ask: Ask, o: Office) -> Office {
+    let mut trial = ask;
+    trial.op = words::TRIAL;
+    let next = public(words::TRIAL, trial, o);
+    lend(words::PART, ask, next, next)
+}
+
 // Carries out the line once.
 fn step(ask: Ask, o: Office) -> Office {
     let op = ask.op;
@@ -236,6 +249,7 @@ fn step(ask: Ask, o: Office) -> Office {
             o
         }
         words::OPEN..=words::RING => public(op, ask, o),
+        words::PART => tried(ask, o),
         words::EACH => each(ask, o),
         words::FILL => office::fresh(o.counts),
         words::PUT => office::put(ask, o),

@@ -13,10 +13,10 @@ pub struct Given {
     pub two: u32,
 }
 
-// The tables and lists, the counts, and what the last call gave.
+// The tables and lists, the counts, and the reply of the last call.
 pub struct Office {
     pub counts: Counts,
-    pub given: Given,
+    pub last: Reply,
     pub xs: [u16; 4097],
     pub ys: [u16; 4097],
     pub cs: [i32; 4097],
@@ -30,7 +30,8 @@ pub struct Office {
 }
 
 // The number and the values of each answer.
-pub fn values(answer: Answer) -> Given {
+pub fn values(reply: Reply) -> Given {
+    let answer = reply.answer;
     match answer {
         Answer::Done(a, b) => Given {
             number: 0,
@@ -54,10 +55,9 @@ pub fn values(answer: Answer) -> Given {
 pub fn fresh(counts: Counts) -> Office {
     Office {
         counts: counts,
-        given: Given {
-            number: 0,
-            one: 0,
-            two: 0,
+        last: Reply {
+            counts: counts,
+            answer: Answer::Done(0, 0),
         },
         xs: [7; 4097],
         ys: [7; 4097],
@@ -75,11 +75,9 @@ pub fn fresh(counts: Counts) -> Office {
 // The office after the call, which gave this reply.
 pub fn after(o: Office, reply: Reply) -> Office {
     let counts = reply.counts;
-    let answer = reply.answer;
-    let given = values(answer);
     let mut next = o;
     next.counts = counts;
-    next.given = given;
+    next.last = reply;
     next
 }
 

@@ -223,11 +223,8 @@ pub fn seen<'a>(
     listed(seen, SPLIT, SECOND, two, g.two);
 }
 
-// Writes the number and the value that came with a part, and all its numbers.
-pub fn part(number_given: u32, value: u32, numbers: &[u32]) {
-    say(COLON);
-    number(number_given);
-    number(value);
+// Writes all numbers of a part.
+pub fn part(numbers: &[u32]) {
     say(PART);
     list(numbers, 4294967295);
 }

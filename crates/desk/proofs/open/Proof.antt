@@ -44,7 +44,7 @@ same-length-4 c = search needs
 returns-4 : tie.Need-returns-4
 returns-4 c =
     obeys-done _ _ 0 0 _ ((c .before .before .before .before .before .before .before .has-room .ensures (c .before .before .before .before .before .before .before .before .before .before .before .before .before .before .before .args .counts) .so (not-false _ (c .before .before .before .before .before .before .if1 .left))), ((omega arith, omega arith), tt))
-    (record { no-values = (refl, refl); emptied = refl; day-0 = c .before .before .clear-days .ensures .day-0; past = c .before .before .clear-days .ensures .past })
+    (record { no-values = (refl, refl); emptied = refl; day-0 = λ v h. c .before .before .clear-days .ensures .day-0 v (omega (arith, h, c .before .before .before .before .if3 .left)); past = c .before .before .clear-days .ensures .past })
 
 pub open-spec : {M : Type 1} → statement M
 open-spec =
