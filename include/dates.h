@@ -4,7 +4,8 @@
  * A rule is three numbers: first step x, second step y, amount c. It says day(x) - day(y) <= c. "Drying (1) at least two days after cutting (0)" is the rule 0, 1, -2.
  * An arrangement gives every step a whole number so that every rule held holds; a plan is one with no day below 0; the earliest plan is the plan in which no
  * step is later than in any other. A ring is a list of rules where each rule's second step is the next rule's first step, the last one's second step is the first
- * one's first step, and no step is a first step twice; it is negative when its amounts add up below 0.
+ * one's first step, and no step is a first step twice; it is negative when its amounts add up below 0. The steps of a rule are handed over as uint32_t, so that
+ * none is cut short on the way: a step that is not below the step count is DATES_STEP, however large.
  *
  * The caller lends all tables to every call. `dates_tables` below holds one set of them, and the dates_t_ helpers lend it, so that each call is one line:
  *
@@ -118,7 +119,7 @@ uint32_t dates_watch(
     const uint16_t *xs, size_t xs_len, const uint16_t *ys, size_t ys_len, const int32_t *cs, size_t cs_len,
     const uint32_t *days, size_t days_len, const uint32_t *marks, size_t marks_len,
     uint16_t *wxs, size_t wxs_len, uint16_t *wys, size_t wys_len, int32_t *wcs, size_t wcs_len,
-    uint16_t x, uint16_t y, int32_t c);
+    uint32_t x, uint32_t y, int32_t c);
 
 /*
  * Mark: the number of rules held is the newest mark.
@@ -165,7 +166,7 @@ uint32_t dates_add(
     uint16_t *xs, size_t xs_len, uint16_t *ys, size_t ys_len, int32_t *cs, size_t cs_len,
     uint32_t *days, size_t days_len, const uint32_t *marks, size_t marks_len,
     const uint16_t *wxs, size_t wxs_len, const uint16_t *wys, size_t wys_len, const int32_t *wcs, size_t wcs_len,
-    uint32_t *list, size_t list_len, uint16_t x, uint16_t y, int32_t c, uint32_t *value);
+    uint32_t *list, size_t list_len, uint32_t x, uint32_t y, int32_t c, uint32_t *value);
 
 /*
  * Trial: answers as Add would and writes to no table.
@@ -186,7 +187,7 @@ uint32_t dates_trial(
     const uint16_t *xs, size_t xs_len, const uint16_t *ys, size_t ys_len, const int32_t *cs, size_t cs_len,
     const uint32_t *days, size_t days_len, const uint32_t *marks, size_t marks_len,
     const uint16_t *wxs, size_t wxs_len, const uint16_t *wys, size_t wys_len, const int32_t *wcs, size_t wcs_len,
-    uint32_t *one, size_t one_len, uint32_t *two, size_t two_len, uint16_t x, uint16_t y, int32_t c, uint32_t *value);
+    uint32_t *one, size_t one_len, uint32_t *two, size_t two_len, uint32_t x, uint32_t y, int32_t c, uint32_t *value);
 
 /*
  * Consequences: which watched rules follow from the rules held, and which contradict them.
@@ -221,7 +222,7 @@ uint32_t dates_ring_check(
     const uint16_t *xs, size_t xs_len, const uint16_t *ys, size_t ys_len, const int32_t *cs, size_t cs_len,
     const uint32_t *days, size_t days_len, const uint32_t *marks, size_t marks_len,
     const uint16_t *wxs, size_t wxs_len, const uint16_t *wys, size_t wys_len, const int32_t *wcs, size_t wcs_len,
-    const uint32_t *list, size_t list_len, uint16_t x, uint16_t y, int32_t c, uint32_t *verdict);
+    const uint32_t *list, size_t list_len, uint32_t x, uint32_t y, int32_t c, uint32_t *verdict);
 
 /*
  * Start: opens the tables with DATES_STEPS steps and empties the script's record. What they held before does not matter.
@@ -316,7 +317,7 @@ static inline uint32_t dates_t_open(dates_tables *t, uint32_t steps)
 }
 
 /* Watch the rule x, y, c: dates_watch. */
-static inline uint32_t dates_t_watch(dates_tables *t, uint16_t x, uint16_t y, int32_t c)
+static inline uint32_t dates_t_watch(dates_tables *t, uint32_t x, uint32_t y, int32_t c)
 {
     return dates_watch(&t->counts, DATES_LENT_(t), x, y, c);
 }
@@ -334,13 +335,13 @@ static inline uint32_t dates_t_back(dates_tables *t)
 }
 
 /* Add the rule x, y, c: dates_add. The value is how many steps moved; on DATES_CONFLICT the ring is in t->ring, and the value is its length. */
-static inline uint32_t dates_t_add(dates_tables *t, uint16_t x, uint16_t y, int32_t c, uint32_t *value)
+static inline uint32_t dates_t_add(dates_tables *t, uint32_t x, uint32_t y, int32_t c, uint32_t *value)
 {
     return dates_add(&t->counts, DATES_LENT_(t), t->ring, DATES_STEPS, x, y, c, value);
 }
 
 /* Try the rule x, y, c: dates_trial. The days are in t->tried; on DATES_CONFLICT the ring is in t->ring, and the value is its length. */
-static inline uint32_t dates_t_trial(dates_tables *t, uint16_t x, uint16_t y, int32_t c, uint32_t *value)
+static inline uint32_t dates_t_trial(dates_tables *t, uint32_t x, uint32_t y, int32_t c, uint32_t *value)
 {
     return dates_trial(&t->counts, DATES_LENT_(t), t->tried, DATES_STEPS, t->ring, DATES_STEPS, x, y, c, value);
 }
@@ -352,7 +353,7 @@ static inline uint32_t dates_t_consequences(dates_tables *t, uint32_t *held, uin
 }
 
 /* Whether the list is a ring for the rule x, y, c: dates_ring_check. The list may be t->ring. */
-static inline uint32_t dates_t_ring_check(const dates_tables *t, const uint32_t *list, size_t list_len, uint16_t x, uint16_t y, int32_t c, uint32_t *verdict)
+static inline uint32_t dates_t_ring_check(const dates_tables *t, const uint32_t *list, size_t list_len, uint32_t x, uint32_t y, int32_t c, uint32_t *verdict)
 {
     return dates_ring_check(&t->counts, DATES_LENT_(t), list, list_len, x, y, c, verdict);
 }

@@ -96,6 +96,14 @@ static void refusals(void)
     case_3();
     count(dates_t_open(&t, 0) == DATES_STEP && dates_t_open(&t, DATES_STEPS + 1) == DATES_STEP && days_are(0, 2, 5, 0), "Open with 0 and 257 steps");
     count(dates_t_add(&t, 4, 0, 0, &value) == DATES_STEP && value == 0, "a step number not below the count");
+    /* Numbers that would be the steps 0, 1 and 65,535, were they cut to 16 bits. */
+    for (last = 0; last < 3; last++) {
+        const uint32_t large = last == 0 ? 65536u : last == 1 ? 65537u : 4294967295u;
+        count(dates_t_watch(&t, large, 0, 0) == DATES_STEP && dates_t_watch(&t, 0, large, 0) == DATES_STEP && t.counts.watched == 0, "Watch with a step over 65,535");
+        count(dates_t_add(&t, large, 0, 0, &value) == DATES_STEP && dates_t_add(&t, 0, large, 0, &value) == DATES_STEP && t.counts.rules == 2, "Add with a step over 65,535");
+        count(dates_t_trial(&t, large, 0, 0, &value) == DATES_STEP && dates_t_trial(&t, 0, large, 0, &value) == DATES_STEP, "Trial with a step over 65,535");
+        count(dates_t_ring_check(&t, t.ring, 3, large, 0, 4, &value) == DATES_STEP && dates_t_ring_check(&t, t.ring, 3, 2, large, 4, &value) == DATES_STEP, "Ring check with a step over 65,535");
+    }
     value = 9;
     count(dates_t_add(&t, 0, 1, DATES_LARGEST + 1, &value) == DATES_AMOUNT && value == 0, "an amount over its bound");
     count(dates_t_add(&t, 0, 1, -DATES_LARGEST - 1, &value) == DATES_AMOUNT, "an amount under its bound");
@@ -107,7 +115,7 @@ static void refusals(void)
     /* A chain over all steps: the latest day there is. */
     dates_t_open(&t, DATES_STEPS);
     for (last = 0; last + 1 < DATES_STEPS; last++)
-        dates_t_add(&t, (uint16_t)last, (uint16_t)(last + 1), -DATES_LARGEST, &value);
+        dates_t_add(&t, last, last + 1, -DATES_LARGEST, &value);
     count(value == 1 && t.days[DATES_STEPS - 1] == DATES_LATEST, "case 13: the last day of a chain");
 }
 

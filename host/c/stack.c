@@ -53,9 +53,9 @@ static void fill(void)
 {
     uint32_t i;
     dates_t_open(&t, 256);
-    for (i = 0; i < 255; i++) dates_t_add(&t, (uint16_t)i, (uint16_t)(i + 1), -1, &value);
-    for (i = 255; i < 4094; i++) dates_t_add(&t, (uint16_t)(i % 256), (uint16_t)(i * 7 % 256), 1000, &value);
-    for (i = 0; i < 1023; i++) dates_t_watch(&t, (uint16_t)(i % 256), (uint16_t)((i + 5) % 256), 0);
+    for (i = 0; i < 255; i++) dates_t_add(&t, i, i + 1, -1, &value);
+    for (i = 255; i < 4094; i++) dates_t_add(&t, i % 256, i * 7 % 256, 1000, &value);
+    for (i = 0; i < 1023; i++) dates_t_watch(&t, i % 256, (i + 5) % 256, 0);
     for (i = 0; i < 63; i++) dates_t_mark(&t);
     dates_t_start(&script);
     command("(set-logic QF_IDL)");

@@ -48,10 +48,10 @@ fn detour(office: &Office, list: &mut Vec<u32>, at: usize) {
         Some(number) if (*number as usize) < held => office.rule(*number as usize).first,
         _ => return,
     };
-    let leads = |from: u16, to: u16| (0..held).find(|number| office.rule(*number).first == from && office.rule(*number).second == to);
+    let leads = |from: u32, to: u32| (0..held).find(|number| office.rule(*number).first == from && office.rule(*number).second == to);
     if let Some(own) = leads(step, step) {
         list.insert(at, own as u32);
-    } else if let Some((there, back)) = (0..STEPS as u16).find_map(|other| Some((leads(step, other)?, leads(other, step)?))) {
+    } else if let Some((there, back)) = (0..STEPS as u32).find_map(|other| Some((leads(step, other)?, leads(other, step)?))) {
         list.splice(at..at, [there as u32, back as u32]);
     }
 }

@@ -193,12 +193,12 @@ impl Office {
     /// The rule held, or watched, under a number below the table's room.
     pub fn rule(&self, number: usize) -> Rule {
         let shelf = &self.shelf;
-        Rule { first: shelf.xs.part()[number], second: shelf.ys.part()[number], amount: shelf.cs.part()[number] }
+        Rule { first: shelf.xs.part()[number].into(), second: shelf.ys.part()[number].into(), amount: shelf.cs.part()[number] }
     }
 
     pub fn watched_rule(&self, number: usize) -> Rule {
         let shelf = &self.shelf;
-        Rule { first: shelf.wxs.part()[number], second: shelf.wys.part()[number], amount: shelf.wcs.part()[number] }
+        Rule { first: shelf.wxs.part()[number].into(), second: shelf.wys.part()[number].into(), amount: shelf.wcs.part()[number] }
     }
 
     /// How many places are lent.

@@ -264,7 +264,8 @@ impl Writer {
             _ => 15,
         };
         if self.random.chance(past) {
-            let bad = self.random.pick(&[steps, steps + 1, 256, 65_535]);
+            // Some of them would be steps, were they cut to 16 bits.
+            let bad = self.random.pick(&[steps, steps + 1, 256, 65_535, 65_536, 65_537, 1 << 31, u32::MAX as usize]);
             let good = self.random.below(steps);
             let amount = self.random.pick(&[0, 1_000_001]);
             return if self.random.chance(500) { rule(bad, good, amount) } else { rule(good, bad, amount) };
@@ -300,7 +301,7 @@ impl Writer {
 }
 
 pub fn rule(first: usize, second: usize, amount: i64) -> Rule {
-    Rule { first: first as u16, second: second as u16, amount: amount as i32 }
+    Rule { first: first as u32, second: second as u32, amount: amount as i32 }
 }
 
 fn shuffle<T>(list: &mut [T], random: &mut Random) {

@@ -4,11 +4,11 @@
 use planner::{Moved, Planner, Refusal, Ring, Rule};
 
 const NAMES: [&str; 5] = ["the tender", "cutting", "drying", "pressing", "delivery"];
-const TENDER: u16 = 0;
-const CUTTING: u16 = 1;
-const DRYING: u16 = 2;
-const PRESSING: u16 = 3;
-const DELIVERY: u16 = 4;
+const TENDER: u32 = 0;
+const CUTTING: u32 = 1;
+const DRYING: u32 = 2;
+const PRESSING: u32 = 3;
+const DELIVERY: u32 = 4;
 
 fn main() -> Result<(), Refusal> {
     let mut planner = Planner::open(NAMES.len() as u32)?;
@@ -72,7 +72,7 @@ fn show_plan(planner: &Planner) {
 
 /// A rule as a member says it.
 fn in_words(rule: Rule) -> String {
-    let (first, second) = (NAMES[usize::from(rule.first)], NAMES[usize::from(rule.second)]);
+    let (first, second) = (NAMES[rule.first as usize], NAMES[rule.second as usize]);
     match rule.amount {
         0 => format!("{} no later than {}", first, second),
         c if c < 0 => format!("{} at least {} after {}", second, days(-i64::from(c)), first),

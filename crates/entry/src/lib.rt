@@ -52,8 +52,8 @@ pub extern "C" fn dates_watch(
     wxs: &mut [u16],
     wys: &mut [u16],
     wcs: &mut [i32],
-    x: u16,
-    y: u16,
+    x: u32,
+    y: u32,
     c: i32,
 ) -> u32
     ensures { λ r. ⌜ WatchesTo (now (counts .entry)) (now (xs .entry)) (now (ys .entry)) (now (cs .entry)) (now (days .entry)) (now (marks .entry)) (now (wxs .entry)) (now (wys .entry)) (now (wcs .entry)) x y c (bare r) (now (counts .exit)) (now (wxs .exit)) (now (wys .exit)) (now (wcs .exit)) ⌝ }
@@ -116,8 +116,8 @@ pub extern "C" fn dates_add(
     wys: &[u16],
     wcs: &[i32],
     list: &mut [u32],
-    x: u16,
-    y: u16,
+    x: u32,
+    y: u32,
     c: i32,
     value: &mut u32,
 ) -> u32
@@ -157,8 +157,8 @@ pub extern "C" fn dates_trial(
     wcs: &[i32],
     one: &mut [u32],
     two: &mut [u32],
-    x: u16,
-    y: u16,
+    x: u32,
+    y: u32,
     c: i32,
     value: &mut u32,
 ) -> u32
@@ -232,8 +232,8 @@ pub extern "C" fn dates_ring_check(
     wys: &[u16],
     wcs: &[i32],
     list: &[u32],
-    x: u16,
-    y: u16,
+    x: u32,
+    y: u32,
     c: i32,
     verdict: &mut u32,
 ) -> u32

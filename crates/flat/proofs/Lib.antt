@@ -1,5 +1,6 @@
 -- What the proofs share.
 pub mod Telling
+pub mod Narrowing
 pub mod Keeping
 pub mod Determined
 pub mod Mixing

@@ -1,4 +1,5 @@
-// The calls with each answer told as numbers, as C takes them: the answer's number is given back, and its values come out through references.
+// The calls with each answer told as numbers, as C takes them: the answer's number is given back, and its values come out through references. The steps of a rule are
+// handed over as u32, so that no step is cut short on the way: one that is not below the count is STEP, however large.
 ghost use mathlib.Core.Path.{_≡_};
 ghost use Rattle.meaning.specs.Promise.{given, bare};
 ghost use Rattle.leaf.specs.Promises.{OpensTo, WatchesTo, AddsTo, MarksTo, GoesBackTo, TriesTo, SplitsTo, ChecksRingTo};
@@ -7,6 +8,7 @@ ghost use Prim.Native.Nat.{ℕ};
 ghost use mathlib.Core.Bool.{cond};
 ghost use Rattle.meaning.specs.Promise.{Obeys};
 ghost use Rattle.scripts.specs.Testing.{gave};
+ghost use Rattle.flat.specs.Narrowed.{Narrowed};
 ghost use Rattle.flat.specs.Records.{FlagsFit, notes-of, Handed, Brought, lent-by-c, start-by-c, command-by-c};
 use meaning::Answer;
 use meaning::Counts;
@@ -16,6 +18,16 @@ use script::Notes;
 pub struct Told {
     pub counts: Counts,
     pub number: u32,
+}
+
+// A step number as the tables have it; where it is too large for them, 65,535, which is no step either.
+fn narrow(x: u32) -> u16
+    ensures { λ r. ⌜ Narrowed x r ⌝ }
+{
+    if 65535 < x {
+        return 65535;
+    }
+    x as u16
 }
 
 // The second value of an answer: 0 where it has none.
@@ -73,13 +85,28 @@ pub fn watch(
     wxs: &mut [u16],
     wys: &mut [u16],
     wcs: &mut [i32],
-    x: u16,
-    y: u16,
+    x: u32,
+    y: u32,
     c: i32,
 ) -> Told
     ensures { λ r. ⌜ WatchesTo counts (now (xs .entry)) (now (ys .entry)) (now (cs .entry)) (now (days .entry)) (now (marks .entry)) (now (wxs .entry)) (now (wys .entry)) (now (wcs .entry)) x y c (bare (r .number)) (r .counts) (now (wxs .exit)) (now (wys .exit)) (now (wcs .exit)) ⌝ }
 {
-    let reply = desk::watch(counts, xs, ys, cs, days, marks, wxs, wys, wcs, x, y, c);
+    let first = narrow(x);
+    let second = narrow(y);
+    let reply = desk::watch(
+        counts,
+        xs,
+        ys,
+        cs,
+        days,
+        marks,
+        wxs,
+        wys,
+        wcs,
+        first,
+        second,
+        c,
+    );
     let answer = reply.answer;
     let counted = reply.counts;
     Told {
@@ -146,13 +173,15 @@ pub fn add(
     wys: &[u16],
     wcs: &[i32],
     list: &mut [u32],
-    x: u16,
-    y: u16,
+    x: u32,
+    y: u32,
     c: i32,
     value: &mut u32,
 ) -> Told
     ensures { λ r. ⌜ AddsTo counts (now (xs .entry)) (now (ys .entry)) (now (cs .entry)) (now (days .entry)) (now (marks .entry)) (now (wxs .entry)) (now (wys .entry)) (now (wcs .entry)) (now (list .entry)) x y c (gave (r .number) (now (value .exit)) 0) (r .counts) (now (xs .exit)) (now (ys .exit)) (now (cs .exit)) (now (days .exit)) (now (list .exit)) ⌝ }
 {
+    let first = narrow(x);
+    let second = narrow(y);
     let reply = desk::add(
         counts,
         xs,
@@ -164,8 +193,8 @@ pub fn add(
         wys,
         wcs,
         list,
-        x,
-        y,
+        first,
+        second,
         c,
     );
     let answer = reply.answer;
@@ -190,13 +219,15 @@ pub fn trial(
     wcs: &[i32],
     one: &mut [u32],
     two: &mut [u32],
-    x: u16,
-    y: u16,
+    x: u32,
+    y: u32,
     c: i32,
     value: &mut u32,
 ) -> u32
     ensures { λ r. ⌜ TriesTo counts (now (xs .entry)) (now (ys .entry)) (now (cs .entry)) (now (days .entry)) (now (marks .entry)) (now (wxs .entry)) (now (wys .entry)) (now (wcs .entry)) (now (one .entry)) (now (two .entry)) x y c (gave r (now (value .exit)) 0) counts (now (one .exit)) (now (two .exit)) ⌝ }
 {
+    let first = narrow(x);
+    let second = narrow(y);
     let reply = desk::trial(
         counts,
         xs,
@@ -209,8 +240,8 @@ pub fn trial(
         wcs,
         one,
         two,
-        x,
-        y,
+        first,
+        second,
         c,
     );
     let answer = reply.answer;
@@ -255,13 +286,15 @@ pub fn ring_check(
     wys: &[u16],
     wcs: &[i32],
     list: &[u32],
-    x: u16,
-    y: u16,
+    x: u32,
+    y: u32,
     c: i32,
     verdict: &mut u32,
 ) -> u32
     ensures { λ r. ⌜ ChecksRingTo counts (now (xs .entry)) (now (ys .entry)) (now (cs .entry)) (now (days .entry)) (now (marks .entry)) (now (wxs .entry)) (now (wys .entry)) (now (wcs .entry)) (now (list .entry)) x y c (gave r (now (verdict .exit)) 0) counts ⌝ }
 {
+    let first = narrow(x);
+    let second = narrow(y);
     let reply = desk::ring_check(
         counts,
         xs,
@@ -273,8 +306,8 @@ pub fn ring_check(
         wys,
         wcs,
         list,
-        x,
-        y,
+        first,
+        second,
         c,
     );
     let answer = reply.answer;

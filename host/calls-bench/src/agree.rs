@@ -46,7 +46,7 @@ pub fn check() -> (usize, [usize; 8]) {
 /// Brings one table to its bound, or near it.
 fn fill(office: &mut Office, random: &mut Random) {
     let last = office.counts.steps as usize - 1;
-    let loose = Rule { first: 0, second: last as u16, amount: 1_000_000 };
+    let loose = Rule { first: 0, second: last as u32, amount: 1_000_000 };
     match random.below(3) {
         0 => (0..4096 - random.below(3)).for_each(|_| office.hold(loose)),
         1 => (0..1024 - random.below(3)).for_each(|_| office.watch(loose)),
@@ -74,7 +74,7 @@ fn any_rule(steps: usize, random: &mut Random) -> Rule {
         0 => random.pick(&[-1_000_001, -1_000_000, 1_000_000, 1_000_001, i32::MIN, i32::MAX]),
         _ => random.between(-9, 9 + last) as i32,
     };
-    Rule { first: random.between(0, last + past) as u16, second: random.between(0, last + past) as u16, amount }
+    Rule { first: random.between(0, last + past) as u32, second: random.between(0, last + past) as u32, amount }
 }
 
 /// The office with one thing spoiled: a count, a cell, or a table or list with a place too few.

@@ -90,16 +90,16 @@ impl Office {
 
     pub fn hold(&mut self, rule: Rule) {
         let at = self.counts.rules as usize;
-        self.xs[at] = rule.first;
-        self.ys[at] = rule.second;
+        self.xs[at] = rule.first as u16;
+        self.ys[at] = rule.second as u16;
         self.cs[at] = rule.amount;
         self.counts.rules += 1;
     }
 
     pub fn watch(&mut self, rule: Rule) {
         let at = self.counts.watched as usize;
-        self.wxs[at] = rule.first;
-        self.wys[at] = rule.second;
+        self.wxs[at] = rule.first as u16;
+        self.wys[at] = rule.second as u16;
         self.wcs[at] = rule.amount;
         self.counts.watched += 1;
     }

@@ -61,7 +61,7 @@ pub fn office(shape: Shape, size: Size) -> Office {
 }
 
 pub fn rule(x: usize, y: usize, amount: i64) -> Rule {
-    Rule { first: x as u16, second: y as u16, amount: amount as i32 }
+    Rule { first: x as u32, second: y as u32, amount: amount as i32 }
 }
 
 fn chain(size: Size, random: &mut Random) -> Vec<Rule> {

@@ -79,7 +79,7 @@ fn room(office: &Office) -> bool {
 /// A rule handed to a call: STEP, then AMOUNT.
 fn rule_in_bounds(office: &Office, rule: Rule) -> Result<(), u32> {
     let steps = office.counts().steps;
-    need(u32::from(rule.first) < steps && u32::from(rule.second) < steps, STEP)?;
+    need(rule.first < steps && rule.second < steps, STEP)?;
     need(i64::from(rule.amount).abs() <= LARGEST, AMOUNT)
 }
 
@@ -98,8 +98,8 @@ fn watch(office: &mut Office, rule: Rule) -> Outcome {
     let number = office.counts().watched as usize;
     need(number < WATCHED, FULL)?;
     let shelf = &mut office.shelf;
-    shelf.wxs.part_mut()[number] = rule.first;
-    shelf.wys.part_mut()[number] = rule.second;
+    shelf.wxs.part_mut()[number] = rule.first as u16;
+    shelf.wys.part_mut()[number] = rule.second as u16;
     shelf.wcs.part_mut()[number] = rule.amount;
     office.counts[1].watched += 1;
     done(0, 0)
@@ -136,8 +136,8 @@ fn add(office: &mut Office, rule: Rule) -> Outcome {
 fn hold(office: &mut Office, rule: Rule, days: &[i64]) {
     let number = office.counts().rules as usize;
     let shelf = &mut office.shelf;
-    shelf.xs.part_mut()[number] = rule.first;
-    shelf.ys.part_mut()[number] = rule.second;
+    shelf.xs.part_mut()[number] = rule.first as u16;
+    shelf.ys.part_mut()[number] = rule.second as u16;
     shelf.cs.part_mut()[number] = rule.amount;
     office.counts[1].rules += 1;
     write_days(office.shelf.days.part_mut(), days);

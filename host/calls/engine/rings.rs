@@ -14,7 +14,7 @@ pub fn refutes(office: &Office, rule: Rule, list: &[u32]) -> bool {
     let ring: Vec<Rule> = list.iter().map(|number| if *number == next { rule } else { office.rule(*number as usize) }).collect();
     let following = ring.iter().skip(1).chain(ring.first());
     let linked = ring.iter().zip(following).all(|(one, other)| one.second == other.first);
-    let firsts: HashSet<u16> = ring.iter().map(|rule| rule.first).collect();
+    let firsts: HashSet<u32> = ring.iter().map(|rule| rule.first).collect();
     let sum: i64 = ring.iter().map(|rule| i64::from(rule.amount)).sum();
     linked && firsts.len() == ring.len() && sum < 0
 }

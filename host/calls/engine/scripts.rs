@@ -130,7 +130,7 @@ fn assert_all(office: &mut Office, rules: &[script::Rule]) {
         let mut all = super::rules(office);
         all.push(*rule);
         match earliest(STEPS, all.iter().copied()) {
-            Some(days) => hold(office, Rule { first: rule.x as u16, second: rule.y as u16, amount: rule.c as i32 }, &days),
+            Some(days) => hold(office, Rule { first: rule.x as u32, second: rule.y as u32, amount: rule.c as i32 }, &days),
             None => {
                 office.record[1].broken = office.counts().marks + 1;
                 return;

@@ -6,7 +6,7 @@ use crate::script::{self, earliest, LARGEST, MARKS, RULES};
 
 /// The rule as the planner has it.
 pub fn held(rule: Rule) -> script::Rule {
-    script::Rule { x: rule.first.into(), y: rule.second.into(), c: rule.amount.into() }
+    script::Rule { x: rule.first as usize, y: rule.second as usize, c: rule.amount.into() }
 }
 
 /// The rules held, by their numbers.
@@ -26,7 +26,7 @@ pub fn is_sound(office: &Office) -> bool {
     if steps < 1 || steps > STEPS || held > RULES || open > MARKS || watched > WATCHED {
         return false;
     }
-    let good = |rule: Rule| usize::from(rule.first) < steps && usize::from(rule.second) < steps && i64::from(rule.amount).abs() <= LARGEST;
+    let good = |rule: Rule| rule.first < counts.steps && rule.second < counts.steps && i64::from(rule.amount).abs() <= LARGEST;
     let marks = &office.shelf.marks.part()[..open];
     (0..held).all(|number| good(office.rule(number)))
         && (0..watched).all(|number| good(office.watched_rule(number)))

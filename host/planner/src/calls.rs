@@ -30,13 +30,14 @@ pub struct Record {
     pub sat: u32,
 }
 
-/// A rule: day(first) - day(second) <= amount.
+/// A rule: day(first) - day(second) <= amount. Its steps have 32 bits, more than the tables' columns, so that no number need be cut short to make one: a
+/// step that is not below the step count is refused with STEP, however large.
 #[derive(Clone, Copy, Debug, PartialEq, Eq, Hash)]
 pub struct Rule {
     /// The first step.
-    pub first: u16,
+    pub first: u32,
     /// The second step.
-    pub second: u16,
+    pub second: u32,
     /// The amount.
     pub amount: i32,
 }
@@ -106,16 +107,16 @@ macro_rules! declare {
 
 declare! {
     fn dates_open(counts: *mut Counts, [const const const mut const const const const] steps: u32,);
-    fn dates_watch(counts: *mut Counts, [const const const const const mut mut mut] x: u16, y: u16, c: i32,);
+    fn dates_watch(counts: *mut Counts, [const const const const const mut mut mut] x: u32, y: u32, c: i32,);
     fn dates_mark(counts: *mut Counts, [const const const const mut const const const]);
     fn dates_back(counts: *mut Counts, [const const const mut const const const const]);
-    fn dates_add(counts: *mut Counts, [mut mut mut mut const const const const] list: *mut u32, list_len: usize, x: u16, y: u16, c: i32, value: *mut u32,);
+    fn dates_add(counts: *mut Counts, [mut mut mut mut const const const const] list: *mut u32, list_len: usize, x: u32, y: u32, c: i32, value: *mut u32,);
     fn dates_trial(counts: *const Counts, [const const const const const const const const]
-        one: *mut u32, one_len: usize, two: *mut u32, two_len: usize, x: u16, y: u16, c: i32, value: *mut u32,);
+        one: *mut u32, one_len: usize, two: *mut u32, two_len: usize, x: u32, y: u32, c: i32, value: *mut u32,);
     fn dates_consequences(counts: *const Counts, [const const const const const const const const]
         one: *mut u32, one_len: usize, two: *mut u32, two_len: usize, held: *mut u32, excluded: *mut u32,);
     fn dates_ring_check(counts: *const Counts, [const const const const const const const const]
-        list: *const u32, list_len: usize, x: u16, y: u16, c: i32, verdict: *mut u32,);
+        list: *const u32, list_len: usize, x: u32, y: u32, c: i32, verdict: *mut u32,);
     fn dates_start(counts: *mut Counts, record: *mut Record, [const const const mut const const const const]
         names: *const u8, names_len: usize, lens: *const u8, lens_len: usize,);
     fn dates_command(text: *const u8, text_len: usize, counts: *mut Counts, record: *mut Record, [mut mut mut mut mut const const const]

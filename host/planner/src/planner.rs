@@ -244,7 +244,7 @@ impl Planner {
 
     /// The watched rules, by their numbers from 0.
     pub fn watched(&self) -> impl ExactSizeIterator<Item = Rule> + '_ {
-        (0..self.counts.watched as usize).map(move |i| Rule::new(self.owned.wxs[i], self.owned.wys[i], self.owned.wcs[i]))
+        (0..self.counts.watched as usize).map(move |i| Rule::new(self.owned.wxs[i].into(), self.owned.wys[i].into(), self.owned.wcs[i]))
     }
 
     /// How many of each thing there are.
@@ -261,6 +261,6 @@ impl Planner {
     /// The rule held under a number.
     fn held(&self, number: u32) -> Rule {
         let i = number as usize;
-        Rule::new(self.owned.xs[i], self.owned.ys[i], self.owned.cs[i])
+        Rule::new(self.owned.xs[i].into(), self.owned.ys[i].into(), self.owned.cs[i])
     }
 }

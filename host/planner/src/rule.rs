@@ -4,7 +4,7 @@ pub use crate::calls::Rule;
 
 impl Rule {
     /// The rule day(first) - day(second) <= amount.
-    pub fn new(first: u16, second: u16, amount: i32) -> Rule {
+    pub fn new(first: u32, second: u32, amount: i32) -> Rule {
         Rule { first, second, amount }
     }
 
@@ -18,7 +18,7 @@ impl Rule {
     /// ```
     ///
     /// The library takes 1,000,000 days at most, either way; more is [`Refusal::Amount`](crate::Refusal::Amount) when the rule is used.
-    pub fn at_least(days: i32, later: u16, earlier: u16) -> Rule {
+    pub fn at_least(days: i32, later: u32, earlier: u32) -> Rule {
         // The one number without a negative is far outside the bound, and so is what stands in for it.
         Rule { first: earlier, second: later, amount: days.checked_neg().unwrap_or(i32::MAX) }
     }
@@ -31,7 +31,7 @@ impl Rule {
     /// let (tender, delivery) = (0, 4);
     /// assert_eq!(Rule::at_most(14, delivery, tender), Rule::new(4, 0, 14));
     /// ```
-    pub fn at_most(days: i32, later: u16, earlier: u16) -> Rule {
+    pub fn at_most(days: i32, later: u32, earlier: u32) -> Rule {
         Rule { first: later, second: earlier, amount: days }
     }
 

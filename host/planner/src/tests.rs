@@ -3,7 +3,7 @@
 use crate::bounds::{LARGEST, LATEST, MARKS, RULES, STEPS, WATCHED};
 use crate::{next_command, run_script, Moved, Planner, Refusal, Ring, Rule};
 
-fn rule(first: u16, second: u16, amount: i32) -> Rule {
+fn rule(first: u32, second: u32, amount: i32) -> Rule {
     Rule::new(first, second, amount)
 }
 
@@ -97,7 +97,7 @@ fn cases_11_and_12() {
 #[test]
 fn case_13() {
     let mut planner = Planner::open(STEPS as u32).unwrap();
-    for step in 0..STEPS as u16 - 1 {
+    for step in 0..STEPS as u32 - 1 {
         planner.add(rule(step, step + 1, -LARGEST)).unwrap();
     }
     assert_eq!(planner.days()[STEPS - 1], LATEST);
@@ -109,7 +109,7 @@ fn case_13() {
 #[test]
 fn step_numbers_below_the_count() {
     let mut planner = holding(&CASE_3);
-    for rule in [rule(4, 0, 0), rule(0, 4, 0), rule(u16::MAX, u16::MAX, LARGEST + 1)] {
+    for rule in [rule(4, 0, 0), rule(0, 4, 0), rule(65_535, 65_535, LARGEST + 1), rule(65_536, 0, 0), rule(1, 65_537, 0), rule(u32::MAX, 1, LARGEST + 1)] {
         assert_eq!(planner.add(rule), Err(Refusal::Step));
         assert_eq!(planner.trial(rule), Err(Refusal::Step));
         assert_eq!(planner.watch(rule), Err(Refusal::Step));

@@ -76,8 +76,8 @@ fn try_watch(counts: &mut Counts, t: &mut Tables, rule: Rule) -> Result<(), u32>
     test(counts, t, &mut Chains::new())?;
     test_rule(counts, rule, counts.watched, WATCHED)?;
     let at = counts.watched as usize;
-    t.wxs[at] = rule.first;
-    t.wys[at] = rule.second;
+    t.wxs[at] = rule.first as u16;
+    t.wys[at] = rule.second as u16;
     t.wcs[at] = rule.amount;
     counts.watched += 1;
     Ok(())
@@ -136,12 +136,12 @@ fn plan_afresh(steps: usize, rules: usize, t: &mut Tables) {
 
 /// What the days lack for a rule; 0 or less where they keep it.
 fn lack(days: &[u32], rule: Rule) -> i64 {
-    i64::from(days[usize::from(rule.first)]) - i64::from(rule.amount) - i64::from(days[usize::from(rule.second)])
+    i64::from(days[rule.first as usize]) - i64::from(rule.amount) - i64::from(days[rule.second as usize])
 }
 
 /// Spreads what the days lack for a rule. True where the rule fits; else the gain has reached its first step.
 fn fits(spread: &mut Spread, rule: Rule) -> bool {
-    let (x, y) = (usize::from(rule.first), usize::from(rule.second));
+    let (x, y) = (rule.first as usize, rule.second as usize);
     let lack = lack(spread.days, rule);
     if lack > 0 {
         spread.ask(y, lack);
@@ -166,7 +166,7 @@ fn try_add(counts: &mut Counts, t: &mut Tables, list: &mut [u32], rule: Rule, va
     if lack(t.days, rule) > 0 {
         let mut spread = Spread::new(&t.days[..steps], t.ys, t.cs, &chains);
         if !fits(&mut spread, rule) {
-            *value = spread.ring(t.xs, rule.first.into(), rule.second.into(), counts.rules, list) as u32;
+            *value = spread.ring(t.xs, rule.first as usize, rule.second as usize, counts.rules, list) as u32;
             return Err(CONFLICT);
         }
         let gains = spread.gains;
@@ -176,8 +176,8 @@ fn try_add(counts: &mut Counts, t: &mut Tables, list: &mut [u32], rule: Rule, va
         }
     }
     let at = counts.rules as usize;
-    t.xs[at] = rule.first;
-    t.ys[at] = rule.second;
+    t.xs[at] = rule.first as u16;
+    t.ys[at] = rule.second as u16;
     t.cs[at] = rule.amount;
     counts.rules += 1;
     Ok(())
@@ -198,7 +198,7 @@ fn try_trial(counts: &Counts, t: &Tables, days: &mut [u32], ring: &mut [u32], ru
     let held = &t.days[..counts.steps as usize];
     let mut spread = Spread::new(held, t.ys, t.cs, &chains);
     if !fits(&mut spread, rule) {
-        *value = spread.ring(t.xs, rule.first.into(), rule.second.into(), counts.rules, ring) as u32;
+        *value = spread.ring(t.xs, rule.first as usize, rule.second as usize, counts.rules, ring) as u32;
         return Err(CONFLICT);
     }
     for ((to, &day), &gain) in days.iter_mut().zip(held).zip(&spread.gains) {

@@ -13,7 +13,7 @@ pub fn has_room(t: &Tables) -> bool {
 
 /// Whether both steps are below the count.
 pub fn steps_fit(steps: u32, rule: Rule) -> bool {
-    u32::from(rule.first) < steps && u32::from(rule.second) < steps
+    rule.first < steps && rule.second < steps
 }
 
 pub fn amount_fits(amount: i32) -> bool {
