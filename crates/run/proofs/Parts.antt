@@ -139,7 +139,7 @@ module _ (s : List ℕ) where
       (subst (λ (x : ℕ). Plays s j (with-out (over o h (c .printed)) l′) (h + length (c .printed)) g x (over (over o h (c .printed)) (h + length (c .printed)) b₁))
       (omega (arith, both)) then)))
 
--- So the program, which plays a script in parts from fresh tables on, hands on what the whole script prints.
+-- So whoever plays a script in parts from fresh tables on, and hands on each part's bytes before the next, hands on what the whole script prints.
 pub parts-run :
     (s out : List ℕ) (g : ℕ) (b : List ℕ) → length s ≤ TEXT → Parts s 0 (blank out) g b → (o : List ℕ) → length b + ROOM ≤ length o →
     RunsScript s o g (length b) (over o 0 b)
