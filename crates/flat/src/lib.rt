@@ -198,10 +198,10 @@ pub fn add(
         c,
     );
     let answer = reply.answer;
-    let counted = reply.counts;
+    let held = reply.counts;
     *value = desk::value_of(answer);
     Told {
-        counts: counted,
+        counts: held,
         number: desk::number_of(answer),
     }
 }
