@@ -64,7 +64,7 @@ abbrev pub Second : ℕ → Type 0 → Type 0 → Type 0 → Type 0
 Second k R S X = ((k ≡ SHORT) × (R → ⊥)) ⊎ (R × (((k ≡ DAMAGED) × (S → ⊥)) ⊎ (S × X)))
 
 -- Where a record fits, one need more is met.
-fitting : {k : ℕ} {R F S X : Type 0} → F → Second k R S X → Second k R (F × S) X
+pub fitting : {k : ℕ} {R F S X : Type 0} → F → Second k R S X → Second k R (F × S) X
 fitting f (inl h) = inl h
 fitting f (inr (r, inl (e, u))) = inr (r, inl (e, λ p. u (p .1)))
 fitting f (inr (r, inr (s, h))) = inr (r, inr ((f, s), h))

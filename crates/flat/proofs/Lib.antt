@@ -4,3 +4,5 @@ pub mod Narrowing
 pub mod Keeping
 pub mod Determined
 pub mod Mixing
+pub mod Possible
+pub mod ByCalls

@@ -12,7 +12,6 @@ use Rattle.meaning.specs.Promise.{Given, Obeys}
 use Rattle.meaning.specs.Calls.{Split}
 use Rattle.meaning.specs.Runs.{Call, Made}
 use Rattle.meaning.proofs.Sequences.{Kept}
-use Rattle.script.specs.Record.{Lent}
 use Rattle.script.specs.Commands.{start-meaning, command-meaning}
 use Rattle.script.specs.Mixed.{MixedRun}
 use Rattle.script.proofs.Mixing.{mixed-kept, mixed-splits}
@@ -31,7 +30,7 @@ flags-fit? r = tell (decLe (r .logic) 1) (decLe (r .sat) 1)
     tell (yes logic) (no not-sat) = no (λ f. not-sat (f .sat-fits))
 
 -- A start over the record is one over what is seen of it.
-start-seen : (l : LentByC) (g : Given) (after : LentByC) → Obeys (start-by-c l) l g after → Obeys (start-meaning (seen l)) (seen l) g (seen after)
+pub start-seen : (l : LentByC) (g : Given) (after : LentByC) → Obeys (start-by-c l) l g after → Obeys (start-meaning (seen l)) (seen l) g (seen after)
 start-seen l g after x = record {
   first-unmet = x .first-unmet;
   when-done = λ done. x .when-done done .as-meant;
@@ -46,7 +45,7 @@ fitted f (inr (r, inl (e, u))) = inr (r, inl (e, λ s. u (f, s)))
 fitted f (inr (r, inr (s, h))) = inr (r, inr (s .1, h))
 
 -- So a command on a record whose flags fit is one over what is seen of it.
-command-seen :
+pub command-seen :
     (text : List ℕ) (l : LentByC) (g : Given) (after : LentByC) → FlagsFit (l .kept) → Obeys (command-by-c text l) l g after → Obeys (command-meaning text (seen l)) (seen l) g (seen after)
 command-seen text l g after fits x = record {
   first-unmet = fitted fits (x .first-unmet);

@@ -2,3 +2,4 @@
 pub mod Records
 pub mod Narrowed
 pub mod Mixed
+pub mod ByCalls
