@@ -1,5 +1,5 @@
 -- `entry::dates_ring_check` meets its contract: a walk of its MIR, by hand. The record is looked at behind its borrow, and `flat::ring_check` is called on it and on what else is lent.
--- Assumes nothing.
+-- Assumes nothing. Written by tools/walks.
 use mathlib.Core.Path.{refl}
 use Prim.Native.Nat.{ℕ}
 use mathlib.Core.List.{[], _∷_}
@@ -39,8 +39,8 @@ use denote.Triple.Walked.{says, Stays, walkOf, Walks, ends-at, walked, walk-meet
 use Rattle.handing.proofs.Lasts.{stay-lasts, fit-lasts, go-lasts, asked}
 use Rattle.meaning.proofs.Counts as T
 use Rattle.meaning.proofs.Counts.Laws as T′
-use Rattle.scripts.specs.Testing.{gave}
 use Rattle.leaf.specs.Promises.{ChecksRingTo}
+use Rattle.scripts.specs.Testing.{gave}
 use Rattle.flat.proofs.ring_check as core
 use Rattle.flat.proofs.ring_check.Symbol as core-def
 use Rattle.flat.proofs.ring_check.Symbol.{name as #core}

@@ -1,5 +1,5 @@
 -- `entry::dates_start` meets its contract: a walk of its MIR, by hand. The two records are read behind their borrows, `flat::start` is called on them and on what else is lent, and the records are stored again.
--- Assumes nothing.
+-- Assumes nothing. Written by tools/walks.
 use mathlib.Core.Path.{refl, ap}
 use Prim.Native.Nat.{ℕ}
 use mathlib.Core.List.{[], _∷_, List}
@@ -45,7 +45,7 @@ use Rattle.flat.proofs.Record.Laws as R′
 use Rattle.flat.specs.declared.ScriptTold.{ScriptTold}
 use Rattle.flat.proofs.ScriptTold as O
 use Rattle.flat.proofs.ScriptTold.Laws as O′
-use Rattle.meaning.specs.Promise.{Obeys, bare}
+use Rattle.meaning.specs.Promise.{bare, Obeys}
 use Rattle.flat.specs.Records.{lent-by-c, start-by-c}
 use Rattle.flat.proofs.start as core
 use Rattle.flat.proofs.start.Symbol as core-def

@@ -1,5 +1,5 @@
 -- `entry::dates_trial` meets its contract: a walk of its MIR, by hand. The record is looked at behind its borrow, and `flat::trial` is called on it and on what else is lent.
--- Assumes nothing.
+-- Assumes nothing. Written by tools/walks.
 use mathlib.Core.Path.{refl}
 use Prim.Native.Nat.{ℕ}
 use mathlib.Core.List.{[], _∷_}
@@ -40,8 +40,8 @@ use denote.Triple.Walked.{says, Stays, walkOf, Walks, ends-at, walked, walk-meet
 use Rattle.handing.proofs.Lasts.{stay-lasts, fit-lasts, go-lasts, asked}
 use Rattle.meaning.proofs.Counts as T
 use Rattle.meaning.proofs.Counts.Laws as T′
-use Rattle.scripts.specs.Testing.{gave}
 use Rattle.leaf.specs.Promises.{TriesTo}
+use Rattle.scripts.specs.Testing.{gave}
 use Rattle.flat.proofs.trial as core
 use Rattle.flat.proofs.trial.Symbol as core-def
 use Rattle.flat.proofs.trial.Symbol.{name as #core}
