@@ -1,92 +1,72 @@
--- What Add answers where the rule can be asked for: with every need before CONFLICT met, the number is DONE or CONFLICT, and the needs tell whether the rule fits.
+-- What trying a rule came to, told of the tables: where it fits it is held, and put on its chain; where it does not the tables are as before.
 use Prim.Native.Nat.{ℕ, _≤_, _<_}
-use mathlib.Core.Path.{_≡_, sym, subst}
-use mathlib.Core.Bool.{true, false, true≢false, false≢true}
+use mathlib.Core.Path.{_≡_, refl, sym, subst}
+use mathlib.Core.Bool.{Bool, true, false, true≢false, false≢true}
 use mathlib.Core.List.{List}
-use mathlib.Core.Logic.{_⊎_, inl, inr}
 use lib.ListN.{length}
-use lib.IntN.{ℤ}
+use lib.IntN.{ℤ, pos}
+use native.Mathlib.Omega.{arith}
 use Rattle.meaning.specs.declared.Counts.{Counts}
-use Rattle.meaning.specs.declared.Reply.{Reply}
-use Rattle.meaning.specs.Bounds.{STEPS, RULES, DONE, CONFLICT}
-use Rattle.meaning.specs.Rules.{InBounds, Fits}
-use Rattle.meaning.specs.Tables.{Tables}
-use Rattle.meaning.specs.Promise.{First, given}
-use Rattle.meaning.specs.Calls.{WithList, rules-of, held-in, add-meaning}
-use Rattle.meaning.proofs.Needs.{AllMet, done-met, add-rises}
+use Rattle.meaning.specs.Bounds.{RULES}
+use Rattle.meaning.specs.Rules.{InBounds}
+use Rattle.meaning.specs.Tables.{Tables, at}
+use Rattle.meaning.specs.Calls.{rules-of, held-in}
+use Rattle.meaning.proofs.Theory.{more-fits}
 use Rattle.chains.specs.Chains.{Linkable, Pushed}
-use Rattle.leaf.specs.Lent.{tables}
-use Rattle.leaf.specs.Promises.{Border, rule, Adds}
-use Rattle.newrule.specs.Lending.{LentChains}
+use Rattle.leaf.specs.Lent.{columns, tables}
+use Rattle.leaf.specs.Promises.{Border, rule}
+use Rattle.inside.proofs.Equal.{tables-equal}
+use Rattle.spread.specs.Ground.{first}
+use Rattle.newrule.specs.Lending.{Ready, LentChains}
+use Rattle.newrule.specs.Fit.{Tells, one-more}
+use Rattle.newrule.proofs.Answers.{base}
 use Rattle.script.specs.Effect.{Holds}
 use Rattle.asserts.specs.One.{AddsOne}
 use Rattle.asserts.proofs.Linking.{linkable, chains-pushed}
 
 module _
-    (counts : Counts) (xs ys : List ℕ) (cs : List ℤ) (days marks wxs wys : List ℕ) (wcs : List ℤ) (ring : List ℕ) (x y : ℕ) (c : ℤ) (reply : Reply)
-    (xs′ ys′ : List ℕ) (cs′ : List ℤ) (days′ ring′ : List ℕ)
-    (adds : Adds counts xs ys cs days marks wxs wys wcs ring x y c reply xs′ ys′ cs′ days′ ring′) where
+    (counts : Counts) (xs ys : List ℕ) (cs : List ℤ) (days marks wxs wys : List ℕ) (wcs : List ℤ) (heads nexts : List ℕ) (x y : ℕ) (c : ℤ)
+    (asked :
+    Border (tables counts xs ys cs days marks wxs wys wcs)
+    × (LentChains (counts .steps) (counts .rules) xs heads nexts × (InBounds (counts .steps) (rule x y c) × ((counts .rules < RULES) × (RULES ≤ length nexts))))) where
   abbrev before : Tables
   before = tables counts xs ys cs days marks wxs wys wcs
 
-  abbrev after : Tables
-  after = tables (reply .counts) xs′ ys′ cs′ days′ marks wxs wys wcs
+  -- The rule can be tried.
+  pub ready : Ready (counts .steps) (counts .rules) xs ys cs days heads nexts x y c
+  ready = record { base = base counts xs ys cs days marks wxs wys wcs (asked .0) heads nexts (asked .1 .0); new-good = asked .1 .1 .0; not-full = asked .1 .1 .1 .0 }
 
-  abbrev lent : WithList
-  lent = record { tables = before; list = ring }
-
-  -- Where the answer is DONE the rule is held.
-  pub holds-done : given (reply .answer) .number ≡ DONE → Holds (rule x y c) before after
-  holds-done done =
-      let met : AllMet (add-meaning (rule x y c) lent .asks) =
-      done-met DONE (given (reply .answer) .number) (add-meaning (rule x y c) lent .asks) (add-rises (rule x y c) lent) (adds .first-unmet) done in
-      record {
-        fits = met .1 .1 .1 .1 .1 .0;
-        rule-held = adds .when-done done .rule-held;
-        planned = adds .when-done done .planned;
-      }
-
-  -- What is asked of the tables, the rule and the lists.
   module _
-      (heads nexts : List ℕ)
-      (asked :
-      Border before
-      × (LentChains (counts .steps) (counts .rules) xs heads nexts
-      × (InBounds (counts .steps) (rule x y c) × ((counts .rules < RULES) × ((RULES ≤ length nexts) × (STEPS ≤ length ring)))))) where
-    -- Where the answer is DONE the rule can be put on its chain, and with that it is added.
-    pub new-linkable : given (reply .answer) .number ≡ DONE → Linkable (counts .rules) xs′ heads nexts
-    new-linkable done =
-        linkable (rule x y c) before after (holds-done done) heads nexts (asked .0) (asked .1 .1 .0) (asked .1 .1 .1 .0) (asked .1 .0) (asked .1 .1 .1 .1 .0)
+      (fits : Bool) (moved : ℕ) (xs′ ys′ : List ℕ) (cs′ : List ℤ) (days′ : List ℕ)
+      (tells : Tells (counts .steps) (first (counts .rules)) (counts .rules) (rule x y c) (columns xs ys cs) days fits moved (columns xs′ ys′ cs′) days′) where
+    -- Where it fits, it is held with one more rule counted.
+    holds : fits ≡ true → (after : Counts) → after ≡ one-more counts → Holds (rule x y c) before (tables after xs′ ys′ cs′ days′ marks wxs wys wcs)
+    holds is after counted = record {
+      fits = more-fits (rules-of before) (held-in before) (counts .rules) (rule x y c) (λ h. omega arith) (λ v. pos (at days′ v)) (tells .when-fits is .planned .earliest .plan);
+      rule-held = tables-equal _ _ counted (tells .when-fits is .written) refl refl refl;
+      planned = tells .when-fits is .planned;
+    }
+
+    -- Then it can be put on its chain, and with that it is added.
+    pub new-linkable : fits ≡ true → Linkable (counts .rules) xs′ heads nexts
+    new-linkable is =
+        linkable (rule x y c) before (tables (one-more counts) xs′ ys′ cs′ days′ marks wxs wys wcs) (holds is (one-more counts) refl) heads nexts (asked .0) (asked .1 .1 .0)
+        (asked .1 .1 .1 .0) (asked .1 .0) (asked .1 .1 .1 .1)
 
     pub one-held :
-        given (reply .answer) .number ≡ DONE → (heads′ nexts′ : List ℕ) → Pushed (counts .rules) xs′ heads nexts heads′ nexts′ →
-        AddsOne (rule x y c) before false after × LentChains (reply .counts .steps) (reply .counts .rules) xs′ heads′ nexts′
-    one-held done heads′ nexts′ pushed = (
-      record { held-now = λ e. holds-done done; unfit = λ e. absurd (false≢true e); unchanged = λ e. absurd (false≢true e) },
-      chains-pushed (rule x y c) before after (holds-done done) heads nexts (asked .0) (asked .1 .1 .0) (asked .1 .1 .1 .0) (asked .1 .0) (asked .1 .1 .1 .1 .0)
-          heads′ nexts′ pushed,
+        fits ≡ true → (after : Counts) → after ≡ one-more counts → (heads′ nexts′ : List ℕ) → Pushed (counts .rules) xs′ heads nexts heads′ nexts′ →
+        AddsOne (rule x y c) before false (tables after xs′ ys′ cs′ days′ marks wxs wys wcs) × LentChains (after .steps) (after .rules) xs′ heads′ nexts′
+    one-held is after counted heads′ nexts′ pushed = (
+      record { held-now = λ e. holds is after counted; unfit = λ e. absurd (false≢true e); unchanged = λ e. absurd (false≢true e) },
+      chains-pushed (rule x y c) before (tables after xs′ ys′ cs′ days′ marks wxs wys wcs) (holds is after counted) heads nexts (asked .0) (asked .1 .1 .0)
+          (asked .1 .1 .1 .0) (asked .1 .0) (asked .1 .1 .1 .1) heads′ nexts′ pushed,
     )
 
-    -- Where it is not, it is CONFLICT: the rule does not fit.
-    conflicts :
-        (given (reply .answer) .number ≡ DONE → ⊥) → (given (reply .answer) .number ≡ CONFLICT) × (Fits (rules-of before) (held-in before) (rule x y c) → ⊥)
-    conflicts not-done = pass (adds .first-unmet)
-      where
-        pass :
-            First (add-meaning (rule x y c) lent .asks) (given (reply .answer) .number) →
-            (given (reply .answer) .number ≡ CONFLICT) × (Fits (rules-of before) (held-in before) (rule x y c) → ⊥)
-        pass (inl short) = absurd (short .1 (asked .0 .room, asked .1 .1 .1 .1 .1))
-        pass (inr (a, inl damaged)) = absurd (damaged .1 (asked .0 .sound))
-        pass (inr (a, inr (b, inl step))) = absurd (step .1 (asked .1 .1 .0 .steps-in))
-        pass (inr (a, inr (b, inr (d, inl amount)))) = absurd (amount .1 (asked .1 .1 .0 .amount-in))
-        pass (inr (a, inr (b, inr (d, inr (e, inl full))))) = absurd (full .1 (asked .1 .1 .1 .0))
-        pass (inr (a, inr (b, inr (d, inr (e, inr (f, inl conflict)))))) = conflict
-        pass (inr (a, inr (b, inr (d, inr (e, inr (f, inr (g, done))))))) = absurd (not-done done)
-
-    pub one-clash :
-        (given (reply .answer) .number ≡ DONE → ⊥) → AddsOne (rule x y c) before true after × LentChains (reply .counts .steps) (reply .counts .rules) xs′ heads nexts
-    one-clash not-done =
-        let stays : after ≡ before = adds .on-conflict (conflicts not-done .0) .0 .tables-stay in (
-          record { held-now = λ e. absurd (true≢false e); unfit = λ e. conflicts not-done .1; unchanged = λ e. stays },
+    -- Where it does not fit, nothing changed.
+    pub one-clash : fits ≡ false → AddsOne (rule x y c) before true (tables counts xs′ ys′ cs′ days′ marks wxs wys wcs) × LentChains (counts .steps) (counts .rules) xs′ heads nexts
+    one-clash is =
+        let left = tells .when-not is in
+        let stays : tables counts xs′ ys′ cs′ days′ marks wxs wys wcs ≡ before = tables-equal _ _ refl (left .rules-stay) (left .days-stay) refl refl in (
+          record { held-now = λ e. absurd (true≢false e); unfit = λ e. left .unfit; unchanged = λ e. stays },
           subst (λ (t : Tables). LentChains (t .counts .steps) (t .counts .rules) (t .rules .firsts) heads nexts) (sym stays) (asked .1 .0),
         )

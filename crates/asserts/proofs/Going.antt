@@ -26,14 +26,13 @@ use Rattle.asserts.specs.One.{AddsOne}
 
 -- The lists that are lent are as long as at start.
 pub record AsLong
-    (xs₀ ys₀ : List ℕ) (cs₀ : List ℤ) (days₀ heads₀ nexts₀ ring₀ xs ys : List ℕ) (cs : List ℤ) (days heads nexts ring : List ℕ) : Type 0 where
+    (xs₀ ys₀ : List ℕ) (cs₀ : List ℤ) (days₀ heads₀ nexts₀ xs ys : List ℕ) (cs : List ℤ) (days heads nexts : List ℕ) : Type 0 where
   pub xs-long : length xs ≡ length xs₀
   pub ys-long : length ys ≡ length ys₀
   pub cs-long : length cs ≡ length cs₀
   pub days-long : length days ≡ length days₀
   pub heads-long : length heads ≡ length heads₀
   pub nexts-long : length nexts ≡ length nexts₀
-  pub ring-long : length ring ≡ length ring₀
 
 -- The rule over steps that a rule over names says, among n names.
 abbrev pub in-steps : ℕ → List ℕ → List ℕ → Named → Rule

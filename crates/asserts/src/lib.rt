@@ -3,10 +3,9 @@ ghost use mathlib.Core.Path.{_≡_};
 ghost use mathlib.Core.List.{[], map};
 ghost use Prim.Native.Nat.{_+_, _≤_, _<_};
 ghost use lib.ListN.{length};
-ghost use Rattle.meaning.specs.Bounds.{STEPS, RULES, DONE};
+ghost use Rattle.meaning.specs.Bounds.{RULES, DONE};
 ghost use Rattle.meaning.specs.Rules.{InBounds};
-ghost use Rattle.meaning.specs.Promise.{First, given};
-ghost use Rattle.leaf.specs.Decides.{Decides};
+ghost use Rattle.meaning.specs.Promise.{First};
 ghost use Rattle.text.specs.Table.{TABLE};
 ghost use Rattle.leaf.specs.Lent.{tables};
 ghost use Rattle.leaf.specs.Promises.{Border, rule};
@@ -17,33 +16,12 @@ ghost use Rattle.script.specs.Record.{KnownIn, step-in};
 ghost use Rattle.script.specs.Effect.{resolved, AddsAll};
 ghost use Rattle.script.specs.Commands.{rule-needs};
 ghost use Rattle.asserts.specs.One.{AddsOne};
-use meaning::Answer;
 use meaning::Counts;
 
 // What adding rules came to: the counts after it, and whether one of the rules did not fit.
 pub struct Added {
     pub counts: Counts,
     pub clash: bool,
-}
-
-// Whether the answer is that the rule was added.
-fn is_done(a: Answer) -> bool
-    ensures { λ r. ⌜ Decides r (given a .number ≡ DONE) ⌝ }
-{
-    match a {
-        Answer::Done(_, _) => true,
-        Answer::Short => false,
-        Answer::Damaged => false,
-        Answer::Step => false,
-        Answer::Amount => false,
-        Answer::Full => false,
-        Answer::Conflict(_) => false,
-        Answer::NoMark => false,
-        Answer::Syntax => false,
-        Answer::Mode => false,
-        Answer::Name => false,
-        Answer::Size => false,
-    }
 }
 
 // Adds one rule and puts it on its chain; where it does not fit nothing changes.
@@ -59,7 +37,6 @@ fn add_one(
     wcs: &[i32],
     heads: &mut [u16],
     nexts: &mut [u16],
-    ring: &mut [u32],
     x: u16,
     y: u16,
     c: i32,
@@ -69,7 +46,6 @@ fn add_one(
     requires { ⌜ InBounds (counts .steps) (rule x y c) ⌝ }
     requires { ⌜ counts .rules < RULES ⌝ }
     requires { ⌜ RULES ≤ length (now nexts) ⌝ }
-    requires { ⌜ STEPS ≤ length (now ring) ⌝ }
     ensures { λ r. ⌜
         AddsOne (rule x y c)
         (tables counts (now (xs .entry)) (now (ys .entry)) (now (cs .entry)) (now (days .entry)) (now (marks .entry)) (now (wxs .entry)) (now (wys .entry)) (now (wcs .entry)))
@@ -77,35 +53,18 @@ fn add_one(
         (tables (r .counts) (now (xs .exit)) (now (ys .exit)) (now (cs .exit)) (now (days .exit)) (now (marks .entry)) (now (wxs .entry)) (now (wys .entry)) (now (wcs .entry))) ⌝ }
     ensures { λ r. ⌜ LentChains (r .counts .steps) (r .counts .rules) (now (xs .exit)) (now (heads .exit)) (now (nexts .exit)) ⌝ }
 {
+    let n = counts.steps as usize;
     let m = counts.rules as usize;
-    let reply = newrule::add(
-        counts,
-        xs,
-        ys,
-        cs,
-        days,
-        marks,
-        wxs,
-        wys,
-        wcs,
-        heads,
-        nexts,
-        ring,
-        x,
-        y,
-        c,
-    );
-    let after = reply.counts;
-    let answer = reply.answer;
-    if is_done(answer) {
+    let fitted = newrule::fit(n, m, xs, ys, cs, days, heads, nexts, x, y, c);
+    if fitted.fits {
         chains::push(xs, heads, nexts, m);
         return Added {
-            counts: after,
+            counts: newrule::one_more(counts),
             clash: false,
         };
     }
     Added {
-        counts: after,
+        counts: counts,
         clash: true,
     }
 }
@@ -132,7 +91,6 @@ pub fn add_rules(
     wcs: &[i32],
     heads: &mut [u16],
     nexts: &mut [u16],
-    ring: &mut [u32],
 ) -> Added
     requires { ⌜ now tab ≡ TABLE ⌝ }
     requires { ⌜ at ≤ length (now s) ⌝ }
@@ -145,7 +103,6 @@ pub fn add_rules(
     requires { ⌜ Border (tables counts (now xs) (now ys) (now cs) (now days) (now marks) (now wxs) (now wys) (now wcs)) ⌝ }
     requires { ⌜ LentChains (counts .steps) (counts .rules) (now xs) (now heads) (now nexts) ⌝ }
     requires { ⌜ RULES ≤ length (now nexts) ⌝ }
-    requires { ⌜ STEPS ≤ length (now ring) ⌝ }
     ensures { λ r. ⌜
         AddsAll (map (resolved (step-in n (now (names .entry)) (now (lens .entry)))) (rules-at (now (s .entry)) at))
         (tables counts (now (xs .entry)) (now (ys .entry)) (now (cs .entry)) (now (days .entry)) (now (marks .entry)) (now (wxs .entry)) (now (wys .entry)) (now (wcs .entry)))
@@ -181,7 +138,6 @@ pub fn add_rules(
             wcs,
             heads,
             nexts,
-            ring,
             x,
             y,
             a.amount,

@@ -212,73 +212,6 @@ fn is_exit(c: Command) -> bool
     }
 }
 
-// Adds the rules of the term at place at, with a list of its own for a ring that nobody reads.
-fn add_term(
-    s: &[u8],
-    tab: &[u8; text::PLACES],
-    at: usize,
-    n: usize,
-    names: &[u8],
-    lens: &[u8],
-    hashes: &[u16],
-    name_heads: &[u16],
-    name_nexts: &[u16],
-    counts: Counts,
-    xs: &mut [u16],
-    ys: &mut [u16],
-    cs: &mut [i32],
-    days: &mut [u32],
-    marks: &[u32],
-    wxs: &[u16],
-    wys: &[u16],
-    wcs: &[i32],
-    heads: &mut [u16],
-    nexts: &mut [u16],
-) -> asserts::Added
-    requires { ⌜ now tab ≡ TABLE ⌝ }
-    requires { ⌜ at ≤ length (now s) ⌝ }
-    requires { ⌜ Shelved n (now names) (now lens) ⌝ }
-    requires { ⌜ Indexed n (now names) (now lens) (now hashes) (now «name_heads») (now «name_nexts») ⌝ }
-    requires { ⌜ AllDifferent n (now names) (now lens) ⌝ }
-    requires { ⌜ n ≤ counts .steps ⌝ }
-    requires { ⌜ First (rule-needs (KnownIn n (now names) (now lens)) (rules-at (now s) at) []) DONE ⌝ }
-    requires { ⌜ counts .rules + length (rules-at (now s) at) ≤ RULES ⌝ }
-    requires { ⌜ Border (tables counts (now xs) (now ys) (now cs) (now days) (now marks) (now wxs) (now wys) (now wcs)) ⌝ }
-    requires { ⌜ LentChains (counts .steps) (counts .rules) (now xs) (now heads) (now nexts) ⌝ }
-    requires { ⌜ RULES ≤ length (now nexts) ⌝ }
-    ensures { λ r. ⌜
-        AddsAll (map (resolved (step-in n (now (names .entry)) (now (lens .entry)))) (rules-at (now (s .entry)) at))
-        (tables counts (now (xs .entry)) (now (ys .entry)) (now (cs .entry)) (now (days .entry)) (now (marks .entry)) (now (wxs .entry)) (now (wys .entry)) (now (wcs .entry)))
-        (r .clash)
-        (tables (r .counts) (now (xs .exit)) (now (ys .exit)) (now (cs .exit)) (now (days .exit)) (now (marks .entry)) (now (wxs .entry)) (now (wys .entry)) (now (wcs .entry))) ⌝ }
-    ensures { λ r. ⌜ LentChains (r .counts .steps) (r .counts .rules) (now (xs .exit)) (now (heads .exit)) (now (nexts .exit)) ⌝ }
-{
-    let mut ring = [0u32; meaning::STEPS];
-    asserts::add_rules(
-        s,
-        tab,
-        at,
-        n,
-        names,
-        lens,
-        hashes,
-        name_heads,
-        name_nexts,
-        counts,
-        xs,
-        ys,
-        cs,
-        days,
-        marks,
-        wxs,
-        wys,
-        wcs,
-        heads,
-        nexts,
-        &mut ring,
-    )
-}
-
 // Prints what the command prints, from place to of out on, and gives back how many bytes that is.
 fn print(
     c: Command,
@@ -419,7 +352,7 @@ fn move_tables(
 {
     let work = work_of(c, broken, s.len());
     let term = work.term;
-    let added = add_term(
+    let added = asserts::add_rules(
         s,
         tab,
         term,

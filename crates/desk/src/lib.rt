@@ -228,23 +228,7 @@ pub fn add(
             answer: Answer::Damaged,
         };
     }
-    newrule::add(
-        counts,
-        xs,
-        ys,
-        cs,
-        days,
-        marks,
-        wxs,
-        wys,
-        wcs,
-        &heads,
-        &nexts,
-        list,
-        x,
-        y,
-        c,
-    )
+    newrule::add(counts, xs, ys, cs, days, &heads, &nexts, list, x, y, c)
 }
 
 // Trial: answers as Add would and writes to no table. List one gets the days where the rule fits, list two the ring on CONFLICT.
@@ -304,24 +288,7 @@ pub fn trial(
             answer: Answer::Damaged,
         };
     }
-    newrule::trial(
-        counts,
-        xs,
-        ys,
-        cs,
-        days,
-        marks,
-        wxs,
-        wys,
-        wcs,
-        &heads,
-        &nexts,
-        one,
-        two,
-        x,
-        y,
-        c,
-    )
+    newrule::trial(counts, xs, ys, cs, days, &heads, &nexts, one, two, x, y, c)
 }
 
 // Consequences: SHORT, DAMAGED; else list one gets the watched rules that hold in every arrangement, list two those that hold in none.

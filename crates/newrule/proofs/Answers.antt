@@ -3,14 +3,13 @@ use Prim.Native.Nat.{ℕ, _+_, _*_, _-_, _^_, _≤_, _<_}
 use native.Mathlib.Omega.{arith}
 use mathlib.Core.Path.{_≡_, refl, sym, subst}
 use mathlib.Core.List.{List}
-use lib.ListN.{length, take}
+use lib.ListN.{length, take, replicate, getD-replicate, length-replicate}
 use lib.IntN.{ℤ, pos}
 use Rattle.meaning.specs.declared.Counts.{Counts}
 use Rattle.meaning.specs.declared.Answer.{Answer}
-use Rattle.meaning.specs.declared.Reply.{Reply}
 use Rattle.meaning.specs.Bounds.{STEPS, RULES, LARGEST}
-use Rattle.meaning.specs.Rules.{Keeps, InBounds, Earliest, more, plus}
-use Rattle.meaning.specs.Tables.{ColumnsRoom, at}
+use Rattle.meaning.specs.Rules.{Keeps, InBounds, Earliest, Refutes, more, plus}
+use Rattle.meaning.specs.Tables.{Columns, ColumnsRoom, rule-at, put, at}
 use Rattle.meaning.specs.Promise as promise
 use Rattle.meaning.proofs.More.{more-all}
 use Rattle.meaning.proofs.Theory.{earliest-ext}
@@ -20,51 +19,50 @@ use Rattle.meaning.proofs.DayBound.{day-bound}
 use Rattle.meaning.proofs.Needs.{obeys-done, obeys-conflict}
 use Rattle.meaning.proofs.Possible.{Asked, plan-fits, first-conflict}
 use Rattle.leaf.specs.Lent.{columns, tables, Placed}
-use Rattle.leaf.specs.Promises.{rule, Adds, Tries}
+use Rattle.leaf.specs.Promises.{rule, Border}
 use Rattle.inside.proofs.Equal.{tables-equal}
 use Rattle.spread.specs.Ground.{rules, first, Ground}
 use Rattle.spread.specs.Ring.{RingIn}
 use Rattle.spread.proofs.Uses.{kept-earliest}
-use Rattle.newrule.specs.Planning.{Raised, Raisable}
-use Rattle.newrule.specs.Kept.{Held}
-use Rattle.newrule.specs.Lending.{Ready, LentChains, NoGains}
+use Rattle.newrule.specs.Planning.{Base, NoGains, Raised, Raisable}
+use Rattle.newrule.specs.Lending.{Ready, LentChains}
+use Rattle.newrule.specs.Fit.{Taken, Left, one-more}
+use Rattle.newrule.specs.Kept.{BothRoom, TrialKept, AddKept}
 use Rattle.newrule.proofs.Raising.{moved-self}
 
--- On sound tables with their chains a rule that can be asked for is ready.
-pub ready :
-    (counts : Counts) (xs ys : List ℕ) (cs : List ℤ) (days marks wxs wys : List ℕ) (wcs : List ℤ) (x y : ℕ) (c : ℤ) →
-    Asked (rule x y c) (tables counts xs ys cs days marks wxs wys wcs) → (heads nexts gains by : List ℕ) →
-    LentChains (counts .steps) (counts .rules) xs heads nexts → NoGains (counts .steps) gains by →
-    Ready (counts .steps) (counts .rules) xs ys cs days heads nexts gains by x y c
-ready counts xs ys cs days marks wxs wys wcs x y c a heads nexts gains by l g = record {
-  plannable = record {
-    ground = record {
-      steps-in = a .sound .counts-in .steps-in;
-      rules-in = a .sound .counts-in .rules-in;
-      rules-room = record {
-        firsts-room = omega (arith, a .room .rules-room .firsts-room, a .sound .counts-in .rules-in);
-        seconds-room = omega (arith, a .room .rules-room .seconds-room, a .sound .counts-in .rules-in);
-        amounts-room = omega (arith, a .room .rules-room .amounts-room, a .sound .counts-in .rules-in);
-      };
-      days-room = omega (arith, a .room .days-room, a .sound .counts-in .steps-in);
-      heads-room = l .heads-room;
-      nexts-room = l .nexts-room;
-      in-steps = λ i h. a .sound .rules-good i h .steps-in;
-      plan = a .sound .days-earliest .plan;
-      chained = l .chained;
+-- On sound tables with their chains a new rule can be planned.
+pub base :
+    (counts : Counts) (xs ys : List ℕ) (cs : List ℤ) (days marks wxs wys : List ℕ) (wcs : List ℤ) →
+    Border (tables counts xs ys cs days marks wxs wys wcs) → (heads nexts : List ℕ) →
+    LentChains (counts .steps) (counts .rules) xs heads nexts →
+    Base (counts .steps) (counts .rules) xs ys cs days heads nexts
+base counts xs ys cs days marks wxs wys wcs b heads nexts l = record {
+  ground = record {
+    steps-in = b .sound .counts-in .steps-in;
+    rules-in = b .sound .counts-in .rules-in;
+    rules-room = record {
+      firsts-room = omega (arith, b .room .rules-room .firsts-room, b .sound .counts-in .rules-in);
+      seconds-room = omega (arith, b .room .rules-room .seconds-room, b .sound .counts-in .rules-in);
+      amounts-room = omega (arith, b .room .rules-room .amounts-room, b .sound .counts-in .rules-in);
     };
-    earliest = a .sound .days-earliest;
-    first-in = a .steps-in .first-in;
-    second-in = a .steps-in .second-in;
-    none-yet = g .none-yet;
-    gains-room = g .gains-room;
-    by-room = g .by-room;
+    days-room = omega (arith, b .room .days-room, b .sound .counts-in .steps-in);
+    heads-room = l .heads-room;
+    nexts-room = l .nexts-room;
+    in-steps = λ i h. b .sound .rules-good i h .steps-in;
+    plan = b .sound .days-earliest .plan;
+    chained = l .chained;
   };
-  rules-good = a .sound .rules-good;
-  new-good = record { steps-in = a .steps-in; amount-in = a .amount-in };
-  columns-room = a .room .rules-room;
-  days-room = a .room .days-room;
-  not-full = a .not-full;
+  earliest = b .sound .days-earliest;
+  rules-good = b .sound .rules-good;
+  columns-room = b .room .rules-room;
+}
+
+-- Lists of zeros have no gains.
+pub no-gains : (n : ℕ) → n ≤ STEPS → NoGains n (replicate STEPS 0) (replicate STEPS 0)
+no-gains n few = record {
+  none-yet = λ v h. getD-replicate STEPS v 0 0 (omega (arith, h));
+  gains-room = omega (arith, length-replicate {A = ℕ} STEPS 0);
+  by-room = omega (arith, length-replicate {A = ℕ} STEPS 0);
 }
 
 -- There is a place for one rule more.
@@ -76,23 +74,23 @@ placed xs ys cs m room more-fit = record {
 }
 
 module _
-    (n m : ℕ) (xs ys : List ℕ) (cs : List ℤ) (days heads nexts gains₀ by₀ : List ℕ) (x y : ℕ) (c : ℤ) (r : Ready n m xs ys cs days heads nexts gains₀ by₀ x y c)
+    (n m : ℕ) (xs ys : List ℕ) (cs : List ℤ) (days heads nexts : List ℕ) (x y : ℕ) (c : ℤ) (r : Ready n m xs ys cs days heads nexts x y c)
     (gains : List ℕ) (e : Earliest n (more (rules xs ys cs) m (rule x y c)) (plus (first m) m) (λ v. at days v + at gains v)) where
   -- All rules held with the new one are within bounds.
   bounds : (i : ℕ) → plus (first m) m i → InBounds n (more (rules xs ys cs) m (rule x y c) i)
-  bounds = more-all (InBounds n) (rules xs ys cs) (first m) m (rule x y c) (r .new-good) (r .rules-good)
+  bounds = more-all (InBounds n) (rules xs ys cs) (first m) m (rule x y c) (r .new-good) (r .base .rules-good)
 
   -- An earliest day fits the day table.
-  pub raisable : (list : List ℕ) → n ≤ length gains → STEPS ≤ length list → Raisable n days gains list
+  pub raisable : (list : List ℕ) → n ≤ length gains → n ≤ length list → Raisable n days gains list
   raisable list gains-room list-room = record {
-    days-room = r .plannable .ground .days-room;
+    days-room = r .base .ground .days-room;
     gains-room = gains-room;
-    list-room = omega (arith, list-room, r .plannable .ground .steps-in);
-    few = r .plannable .ground .steps-in;
+    list-room = list-room;
+    few = r .base .ground .steps-in;
     fits = λ v h. omega (
       arith,
       day-bound n (more (rules xs ys cs) m (rule x y c)) (plus (first m) m) (λ w. at days w + at gains w) bounds e v h,
-      r .plannable .ground .steps-in,
+      r .base .ground .steps-in,
     );
   }
 
@@ -106,77 +104,107 @@ module _
     past = w .past;
   }
 
+  -- The rule was planned and fits: with the days raised and the rule written it is held.
+  pub taken :
+      (days′ : List ℕ) (k : ℕ) (after : Columns) → Raised n days gains days days′ k → after ≡ put (columns xs ys cs) m (rule x y c) →
+      Taken n (first m) m (rule x y c) (columns xs ys cs) days k after days′
+  taken days′ k after raised written = record { written = written; planned = planned-list days days′ k raised; count-moved = raised .count }
+
+-- The days keep the rule: they are the earliest plan with it, and none moves.
+pub taken-at-once :
+    (n m : ℕ) (xs ys : List ℕ) (cs : List ℤ) (days heads nexts : List ℕ) (x y : ℕ) (c : ℤ) → Ready n m xs ys cs days heads nexts x y c →
+    Keeps (λ v. pos (at days v)) (rule x y c) → (after : Columns) → after ≡ put (columns xs ys cs) m (rule x y c) →
+    Taken n (first m) m (rule x y c) (columns xs ys cs) days 0 after days
+taken-at-once n m xs ys cs days heads nexts x y c r kept after written = record {
+  written = written;
+  planned = record {
+    earliest = kept-earliest n (rules xs ys cs) (first m) (at days) m (rule x y c) (λ h. omega arith) (r .base .earliest) kept;
+    past = past-refl n days;
+  };
+  count-moved = moved-self n days;
+}
+
 -- ---- the answers
 
--- Trial, where the rule fits.
-pub trial-done :
-    (counts : Counts) (xs ys : List ℕ) (cs : List ℤ) (days marks wxs wys : List ℕ) (wcs : List ℤ) (x y : ℕ) (c : ℤ) →
-    (a : Asked (rule x y c) (tables counts xs ys cs days marks wxs wys wcs)) (one two one′ : List ℕ) → STEPS ≤ length one → STEPS ≤ length two → (k : ℕ) →
-    promise.Planned (counts .steps) (more (rules xs ys cs) (counts .rules) (rule x y c)) (plus (first (counts .rules)) (counts .rules)) one one′ →
-    k ≡ promise.moved (counts .steps) days one′ →
-    Tries counts xs ys cs days marks wxs wys wcs one two x y c (record { counts = counts; answer = Answer.Done k 0 }) one′ two
-trial-done counts xs ys cs days marks wxs wys wcs x y c a one two one′ long-one long-two k p count =
-    obeys-done _ _ k 0 _
-    ((a .room, long-one, long-two), (a .sound, (a .steps-in, (a .amount-in, (a .not-full, (plan-fits (rule x y c) _ a (at one′) (p .earliest), tt))))))
-    (record { tables-stay = refl; planned = p; count-moved = count; no-second = refl; two-stays = refl })
+module _
+    (counts : Counts) (xs ys : List ℕ) (cs : List ℤ) (days heads nexts : List ℕ) (x y : ℕ) (c : ℤ)
+    (ready : Ready (counts .steps) (counts .rules) xs ys cs days heads nexts x y c) where
+  -- On sound tables the rule can be asked for.
+  asked :
+      (marks wxs wys : List ℕ) (wcs : List ℤ) → Border (tables counts xs ys cs days marks wxs wys wcs) →
+      Asked (rule x y c) (tables counts xs ys cs days marks wxs wys wcs)
+  asked marks wxs wys wcs b = record {
+    room = b .room;
+    sound = b .sound;
+    steps-in = ready .new-good .steps-in;
+    amount-in = ready .new-good .amount-in;
+    not-full = ready .not-full;
+  }
 
--- Trial, on conflict.
-pub trial-conflict :
-    (counts : Counts) (xs ys : List ℕ) (cs : List ℤ) (days marks wxs wys : List ℕ) (wcs : List ℤ) (x y : ℕ) (c : ℤ) →
-    (a : Asked (rule x y c) (tables counts xs ys cs days marks wxs wys wcs)) (one two two′ : List ℕ) → STEPS ≤ length one → STEPS ≤ length two → (k : ℕ) →
-    RingIn (counts .rules) xs ys cs x y c k two two′ →
-    Tries counts xs ys cs days marks wxs wys wcs one two x y c (record { counts = counts; answer = Answer.Conflict k }) one two′
-trial-conflict counts xs ys cs days marks wxs wys wcs x y c a one two two′ long-one long-two k ring =
-    obeys-conflict _ _ k _ (first-conflict (rule x y c) _ a (take k two′) (a .room, long-one, long-two) (ring .holds))
-    (record { tables-stay = refl; one-stays = refl; ring-given = ring })
+  -- Trial, where the rule fits.
+  pub trial-done :
+      (one two one′ : List ℕ) → BothRoom one two → (k : ℕ) →
+      promise.Planned (counts .steps) (more (rules xs ys cs) (counts .rules) (rule x y c)) (plus (first (counts .rules)) (counts .rules)) one one′ →
+      k ≡ promise.moved (counts .steps) days one′ →
+      TrialKept counts xs ys cs days one two x y c (record { counts = counts; answer = Answer.Done k 0 }) one′ two
+  trial-done one two one′ long k p count marks wxs wys wcs b =
+      let a = asked marks wxs wys wcs b in
+      obeys-done _ _ k 0 _
+      ((a .room, long .one-room, long .two-room), (a .sound, (a .steps-in, (a .amount-in, (a .not-full, (plan-fits (rule x y c) _ a (at one′) (p .earliest), tt))))))
+      (record { tables-stay = refl; planned = p; count-moved = count; no-second = refl; two-stays = refl })
 
--- Add, where the rule fits.
-pub add-done :
-    (counts : Counts) (xs ys : List ℕ) (cs : List ℤ) (days marks wxs wys : List ℕ) (wcs : List ℤ) (x y : ℕ) (c : ℤ) →
-    (a : Asked (rule x y c) (tables counts xs ys cs days marks wxs wys wcs)) (list : List ℕ) → STEPS ≤ length list → (k : ℕ)
-    (r : Reply) (xs′ ys′ : List ℕ) (cs′ : List ℤ) (days′ : List ℕ) →
-    Held counts (columns xs ys cs) x y c k r (columns xs′ ys′ cs′) →
-    promise.Planned (counts .steps) (more (rules xs ys cs) (counts .rules) (rule x y c)) (plus (first (counts .rules)) (counts .rules)) days days′ →
-    k ≡ promise.moved (counts .steps) days days′ →
-    Adds counts xs ys cs days marks wxs wys wcs list x y c r xs′ ys′ cs′ days′ list
-add-done counts xs ys cs days marks wxs wys wcs x y c a list long k r xs′ ys′ cs′ days′ held p count =
-    subst (λ (q : Reply). Adds counts xs ys cs days marks wxs wys wcs list x y c q xs′ ys′ cs′ days′ list) (sym (held .reply))
-    (obeys-done _ _ k 0 _
-    ((a .room, long), (a .sound, (a .steps-in, (a .amount-in, (a .not-full, (plan-fits (rule x y c) _ a (at days′) (p .earliest), tt))))))
-    (record { rule-held = tables-equal _ _ refl (held .written) refl refl refl; planned = p; count-moved = count; no-second = refl; list-stays = refl }))
+  -- Trial, on conflict.
+  pub trial-conflict :
+      (one two two′ : List ℕ) → BothRoom one two → (k : ℕ) → RingIn (counts .rules) xs ys cs x y c k two two′ →
+      TrialKept counts xs ys cs days one two x y c (record { counts = counts; answer = Answer.Conflict k }) one two′
+  trial-conflict one two two′ long k ring marks wxs wys wcs b =
+      let a = asked marks wxs wys wcs b in
+      obeys-conflict _ _ k _ (first-conflict (rule x y c) _ a (take k two′) (a .room, long .one-room, long .two-room) (ring .holds))
+      (record { tables-stay = refl; one-stays = refl; ring-given = ring })
 
--- Add, where the days keep the rule: they are the earliest plan with it, and none moves.
-pub add-at-once :
-    (counts : Counts) (xs ys : List ℕ) (cs : List ℤ) (days marks wxs wys : List ℕ) (wcs : List ℤ) (x y : ℕ) (c : ℤ) →
-    (a : Asked (rule x y c) (tables counts xs ys cs days marks wxs wys wcs)) (list : List ℕ) → STEPS ≤ length list →
-    Keeps (λ v. pos (at days v)) (rule x y c) →
-    (r : Reply) (xs′ ys′ : List ℕ) (cs′ : List ℤ) → Held counts (columns xs ys cs) x y c 0 r (columns xs′ ys′ cs′) →
-    Adds counts xs ys cs days marks wxs wys wcs list x y c r xs′ ys′ cs′ days list
-add-at-once counts xs ys cs days marks wxs wys wcs x y c a list long kept r xs′ ys′ cs′ held =
-    add-done counts xs ys cs days marks wxs wys wcs x y c a list long 0 r xs′ ys′ cs′ days held
-    (record {
-      earliest = kept-earliest (counts .steps) (rules xs ys cs) (first (counts .rules)) (at days) (counts .rules) (rule x y c) (λ h. omega arith) (a .sound .days-earliest) kept;
-      past = past-refl (counts .steps) days;
-    })
-    (moved-self (counts .steps) days)
+  -- Add, where the rule fits.
+  pub add-done :
+      (list : List ℕ) → STEPS ≤ length list → (k : ℕ) (after : Counts) (xs′ ys′ : List ℕ) (cs′ : List ℤ) (days′ : List ℕ) → after ≡ one-more counts →
+      Taken (counts .steps) (first (counts .rules)) (counts .rules) (rule x y c) (columns xs ys cs) days k (columns xs′ ys′ cs′) days′ →
+      AddKept counts xs ys cs days list x y c (record { counts = after; answer = Answer.Done k 0 }) xs′ ys′ cs′ days′ list
+  add-done list long k after xs′ ys′ cs′ days′ counted t marks wxs wys wcs b =
+      let a = asked marks wxs wys wcs b in
+      obeys-done _ _ k 0 _
+      ((a .room, long), (a .sound, (a .steps-in, (a .amount-in, (a .not-full, (plan-fits (rule x y c) _ a (at days′) (t .planned .earliest), tt))))))
+      (record {
+        rule-held = tables-equal _ _ counted (t .written) refl refl refl;
+        planned = t .planned;
+        count-moved = t .count-moved;
+        no-second = refl;
+        list-stays = refl;
+      })
 
--- Add, on conflict.
-pub add-conflict :
-    (counts : Counts) (xs ys : List ℕ) (cs : List ℤ) (days marks wxs wys : List ℕ) (wcs : List ℤ) (x y : ℕ) (c : ℤ) →
-    (a : Asked (rule x y c) (tables counts xs ys cs days marks wxs wys wcs)) (list list′ : List ℕ) → STEPS ≤ length list → (k : ℕ) →
-    RingIn (counts .rules) xs ys cs x y c k list list′ →
-    Adds counts xs ys cs days marks wxs wys wcs list x y c (record { counts = counts; answer = Answer.Conflict k }) xs ys cs days list′
-add-conflict counts xs ys cs days marks wxs wys wcs x y c a list list′ long k ring =
-    obeys-conflict _ _ k _ (first-conflict (rule x y c) _ a (take k list′) (a .room, long) (ring .holds)) (record { tables-stay = refl; ring-given = ring })
+  -- Add, on conflict.
+  pub add-conflict :
+      (list list′ : List ℕ) → STEPS ≤ length list → (k moved : ℕ) (xs′ ys′ : List ℕ) (cs′ : List ℤ) (days′ : List ℕ) →
+      Left (first (counts .rules)) (rule x y c) (columns xs ys cs) days moved (columns xs′ ys′ cs′) days′ →
+      RingIn (counts .rules) xs ys cs x y c k list list′ →
+      AddKept counts xs ys cs days list x y c (record { counts = counts; answer = Answer.Conflict k }) xs′ ys′ cs′ days′ list′
+  add-conflict list list′ long k moved xs′ ys′ cs′ days′ left ring marks wxs wys wcs b =
+      let a = asked marks wxs wys wcs b in
+      obeys-conflict _ _ k _ (first-conflict (rule x y c) _ a (take k list′) (a .room, long) (ring .holds))
+      (record { tables-stay = tables-equal _ _ refl (left .rules-stay) (left .days-stay) refl refl; ring-given = ring })
+
+-- A ring found in columns that are as before is one of those before.
+pub ring-before :
+    (m : ℕ) (xs ys : List ℕ) (cs : List ℤ) (xs′ ys′ : List ℕ) (cs′ : List ℤ) (x y : ℕ) (c : ℤ) (k : ℕ) (list list′ : List ℕ) → columns xs′ ys′ cs′ ≡ columns xs ys cs →
+    RingIn m xs′ ys′ cs′ x y c k list list′ → RingIn m xs ys cs x y c k list list′
+ring-before m xs ys cs xs′ ys′ cs′ x y c k list list′ same =
+    subst (λ (r : Columns). promise.Filled k (Refutes (rule-at r) (first m) m (rule x y c)) list list′) same
 
 -- A ring has no more rules than there are steps.
 pub ring-short :
-    (n m : ℕ) (xs ys : List ℕ) (cs : List ℤ) (days heads nexts gains by : List ℕ) (x y : ℕ) (c : ℤ) → Ready n m xs ys cs days heads nexts gains by x y c →
+    (n m : ℕ) (xs ys : List ℕ) (cs : List ℤ) (days heads nexts : List ℕ) (x y : ℕ) (c : ℤ) → Ready n m xs ys cs days heads nexts x y c →
     (k : ℕ) (before after : List ℕ) → RingIn m xs ys cs x y c k before after → k ≤ STEPS
-ring-short n m xs ys cs days heads nexts gains by x y c r k before after ring =
+ring-short n m xs ys cs days heads nexts x y c r k before after ring =
     omega (
       arith,
       filled-length k before after ring,
-      ring-length n (rules xs ys cs) (first m) m (rule x y c) (take k after) (λ i h. r .rules-good i h .steps-in) (r .new-good .steps-in) (ring .holds),
-      r .plannable .ground .steps-in,
+      ring-length n (rules xs ys cs) (first m) m (rule x y c) (take k after) (λ i h. r .base .rules-good i h .steps-in) (r .new-good .steps-in) (ring .holds),
+      r .base .ground .steps-in,
     )

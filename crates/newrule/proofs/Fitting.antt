@@ -7,7 +7,7 @@ use mathlib.Core.Bool.{Bool, true, false, true≢false, false≢true}
 use mathlib.Core.List.{List}
 use lib.ListN.{length}
 use lib.IntN.{ℤ, pos}
-use Rattle.meaning.specs.Rules.{Rule, Keeps, InSteps, Earliest, more, plus}
+use Rattle.meaning.specs.Rules.{Rule, Keeps, InSteps, Earliest, Fits, more, plus}
 use Rattle.meaning.specs.Tables.{at}
 use Rattle.meaning.proofs.Whole.{up, dn}
 use Rattle.meaning.proofs.More.{more-all}
@@ -18,16 +18,13 @@ use Rattle.spread.specs.Trace.{Traced}
 use Rattle.spread.specs.Contracts.{alone, Spread}
 use Rattle.spread.specs.Ring.{Reached, Lacks}
 use Rattle.spread.proofs.Collecting.{alone-there, alone-elsewhere}
-use Rattle.spread.proofs.Uses.{gains-bounded, kept-earliest, added-earliest}
+use Rattle.spread.proofs.Uses.{gains-bounded, kept-earliest, added-earliest, reached-unfit}
 use Rattle.newrule.specs.Planning.{Lack, Plannable, Planned}
 
-module _ (n m : ℕ) (xs ys : List ℕ) (cs : List ℤ) (days heads nexts gains by : List ℕ) (x y : ℕ) (c : ℤ) (p : Plannable n m xs ys cs days heads nexts gains by x y) where
+module _ (n m : ℕ) (xs ys : List ℕ) (cs : List ℤ) (days heads nexts gains by : List ℕ) (x y : ℕ) (c : ℤ) (p : Plannable n m xs ys cs days heads nexts gains by x y c) where
   -- The steps of the rules held, and of the new rule, are below n.
-  new-in : InSteps n (rule x y c)
-  new-in = record { first-in = p .first-in; second-in = p .second-in }
-
   all-in : (i : ℕ) → plus (first m) m i → InSteps n (more (rules xs ys cs) m (rule x y c) i)
-  all-in = more-all (InSteps n) (rules xs ys cs) (first m) m (rule x y c) new-in (p .ground .in-steps)
+  all-in = more-all (InSteps n) (rules xs ys cs) (first m) m (rule x y c) (p .new-in) (p .base .ground .in-steps)
 
   -- The days keep the rule: with no gain they are the earliest plan with it.
   pub fits-at-once : Keeps (λ v. pos (at days v)) (rule x y c) → (by′ : List ℕ) → Planned n m xs ys cs days gains by′ x y c true
@@ -42,8 +39,9 @@ module _ (n m : ℕ) (xs ys : List ℕ) (cs : List ℤ) (days heads nexts gains 
             (at days)
             (λ v. at days v + at gains v)
             all-in
-            (λ v h. omega (arith, p .none-yet v h))
-            (kept-earliest n (rules xs ys cs) (first m) (at days) m (rule x y c) (λ h. omega arith) (p .earliest) kept);
+            (λ v h. omega (arith, p .no-gains .none-yet v h))
+            (kept-earliest n (rules xs ys cs) (first m) (at days) m (rule x y c) (λ h. omega arith) (p .base .earliest) kept);
+        unfit = λ e. absurd (true≢false e);
         reached = λ e. absurd (true≢false e);
         lacks = λ e. absurd (true≢false e);
       }
@@ -54,9 +52,9 @@ module _ (n m : ℕ) (xs ys : List ℕ) (cs : List ℤ) (days heads nexts gains 
     gain-stays =
         omega (
           arith,
-          s .forced .not-below y (p .second-in),
+          s .forced .not-below y (p .new-in .second-in),
           alone-there y gain y refl,
-          gains-bounded n (rules xs ys cs) (first m) (at days) (alone y gain) (at gains′) gain (p .ground .plan) (s .forced) most y (p .second-in),
+          gains-bounded n (rules xs ys cs) (first m) (at days) (alone y gain) (at gains′) gain (p .base .ground .plan) (s .forced) most y (p .new-in .second-in),
         )
       where
         most : (v : ℕ) → v < n → alone y gain v ≤ gain
@@ -79,24 +77,29 @@ module _ (n m : ℕ) (xs ys : List ℕ) (cs : List ℤ) (days heads nexts gains 
         m
         (rule x y c)
         (λ h. omega arith)
-        new-in
-        (p .earliest)
+        (p .new-in)
+        (p .base .earliest)
         (omega (arith, lack, alone-there y gain y refl))
         (λ v h other. alone-elsewhere y gain v other)
         (record { plan = s .plan (λ h. none); forced = s .forced })
         none
 
-    -- It has reached x.
+    -- It has reached x: the rule does not fit.
+    unfit-where : 0 < at gains′ x → Fits (rules xs ys cs) (first m) (rule x y c) → ⊥
+    unfit-where some =
+        reached-unfit n (rules xs ys cs) (first m) (at days) (alone y gain) (at gains′) (rule x y c) (p .new-in) (p .base .ground .plan)
+        (omega (arith, lack, alone-there y gain y refl)) (λ v h other. alone-elsewhere y gain v other) (s .forced) some
+
     reached-where : 0 < at gains′ x → Reached n m xs ys cs days gains′ by′ x y
     reached-where some =
         record {
-          first-in = p .first-in;
-          second-in = p .second-in;
-          rules-in = p .ground .rules-in;
-          firsts-room = p .ground .rules-room .firsts-room;
+          first-in = p .new-in .first-in;
+          second-in = p .new-in .second-in;
+          rules-in = p .base .ground .rules-in;
+          firsts-room = p .base .ground .rules-room .firsts-room;
           by-room = by-room;
-          in-steps = p .ground .in-steps;
-          plan = p .ground .plan;
+          in-steps = p .base .ground .in-steps;
+          plan = p .base .ground .plan;
           traced = subst (λ k. Traced n (rules xs ys cs) (first m) (at days) (λ v. at days v + alone y k v) (at gains′) (at by′)) (sym gain-stays) (s .traced);
           reached = some;
         }
@@ -105,6 +108,7 @@ module _ (n m : ℕ) (xs ys : List ℕ) (cs : List ℤ) (days heads nexts gains 
     pub planned : (fits : Bool) → (fits ≡ true → at gains′ x ≡ 0) → (fits ≡ false → 0 < at gains′ x) → Planned n m xs ys cs days gains′ by′ x y c fits
     planned fits none some = record {
       earliest = λ e. earliest-where (none e);
+      unfit = λ e. unfit-where (some e);
       reached = λ e. reached-where (some e);
       lacks = λ e. omega (arith, lack, gain-stays);
     }

@@ -5,11 +5,12 @@ use mathlib.Core.Bool.{Bool, true, false}
 use mathlib.Core.List.{List}
 use lib.ListN.{length}
 use lib.IntN.{ℤ, pos}
-use Rattle.meaning.specs.Bounds.{STEPS}
-use Rattle.meaning.specs.Rules.{Rule, Keeps, InSteps, Earliest, more, plus}
-use Rattle.meaning.specs.Tables.{at}
+use Rattle.meaning.specs.Bounds.{STEPS, RULES}
+use Rattle.meaning.specs.Rules.{Rule, Keeps, InSteps, InBounds, Earliest, Fits, more, plus}
+use Rattle.meaning.specs.Tables.{ColumnsRoom, at}
 use Rattle.meaning.specs.Promise.{Past, moved}
 use Rattle.meaning.proofs.Whole.{up, dn}
+use Rattle.leaf.specs.Lent.{columns}
 use Rattle.leaf.specs.Promises.{rule}
 use Rattle.spread.specs.Ground.{rules, first, Ground}
 use Rattle.spread.specs.Ring.{Reached, Lacks}
@@ -20,15 +21,24 @@ pub record Lack (days : List ℕ) (x y : ℕ) (c : ℤ) (r : ℕ) : Type 0 where
   pub some : 0 < r → at days x + dn c ≡ at days y + r + up c
   pub small : r < 2 ^ 62
 
--- The rule x, y, c can be planned: the days are the earliest plan of the first m rules, no step has a gain yet, and all have their places.
-pub record Plannable (n m : ℕ) (xs ys : List ℕ) (cs : List ℤ) (days heads nexts gains by : List ℕ) (x y : ℕ) : Type 0 where
+-- What a new rule is planned on: the rules held are within bounds, the days are their earliest plan, the chains are theirs, and all have their places.
+pub record Base (n m : ℕ) (xs ys : List ℕ) (cs : List ℤ) (days heads nexts : List ℕ) : Type 0 where
   pub ground : Ground n m xs ys cs days heads nexts
   pub earliest : Earliest n (rules xs ys cs) (first m) (at days)
-  pub first-in : x < n
-  pub second-in : y < n
+  pub rules-good : (i : ℕ) → i < m → InBounds n (rules xs ys cs i)
+  pub columns-room : ColumnsRoom RULES (columns xs ys cs)
+
+-- Places for the gains of n steps and for the rules that they came by; no step has a gain yet.
+pub record NoGains (n : ℕ) (gains by : List ℕ) : Type 0 where
   pub none-yet : (v : ℕ) → v < n → at gains v ≡ 0
   pub gains-room : n ≤ length gains
   pub by-room : n ≤ length by
+
+-- The rule x, y, c can be planned: its steps are among the steps, and no step has a gain yet.
+pub record Plannable (n m : ℕ) (xs ys : List ℕ) (cs : List ℤ) (days heads nexts gains by : List ℕ) (x y : ℕ) (c : ℤ) : Type 0 where
+  pub base : Base n m xs ys cs days heads nexts
+  pub new-in : InSteps n (rule x y c)
+  pub no-gains : NoGains n gains by
 
 -- The list has the days with their gains in its first n places, r of them other than the days, and from place n on what it had.
 pub record Raised (n : ℕ) (days gains before after : List ℕ) (r : ℕ) : Type 0 where
@@ -44,9 +54,10 @@ pub record Raisable (n : ℕ) (days gains list : List ℕ) : Type 0 where
   pub few : n ≤ STEPS
   pub fits : (v : ℕ) → v < n → at days v + at gains v < 2 ^ 32
 
--- The rule x, y, c was planned. It fits: the days with their gains are the earliest plan of the first m rules and of it. Or the gain that it asks of
--- y has reached x.
+-- The rule x, y, c was planned. It fits: the days with their gains are the earliest plan of the first m rules and of it. Or it does not: the gain
+-- that it asks of y has reached x.
 pub record Planned (n m : ℕ) (xs ys : List ℕ) (cs : List ℤ) (days gains by : List ℕ) (x y : ℕ) (c : ℤ) (fits : Bool) : Type 0 where
   pub earliest : fits ≡ true → Earliest n (more (rules xs ys cs) m (rule x y c)) (plus (first m) m) (λ v. at days v + at gains v)
+  pub unfit : fits ≡ false → Fits (rules xs ys cs) (first m) (rule x y c) → ⊥
   pub reached : fits ≡ false → Reached n m xs ys cs days gains by x y
   pub lacks : fits ≡ false → Lacks days gains x y c

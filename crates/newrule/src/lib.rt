@@ -1,14 +1,16 @@
-// Add and Trial on tables that are known to have room and to be sound. A rule that the days break asks a gain of its second step, just what
+// Whether a rule fits the rules held, and Add and Trial on tables that are known to have room and to be sound. A rule that the days break asks a gain of its second step, just what
 // the days lack; the gain is spread, and where it reaches the rule's first step there is a ring, else the days with their gains are the earliest plan.
+ghost use mathlib.Core.Path.{_≡_};
 ghost use Prim.Native.Nat.{_<_, _≤_};
 ghost use lib.ListN.{length};
-ghost use Rattle.meaning.specs.Tables.{at};
 ghost use Rattle.meaning.specs.Bounds.{STEPS, RULES};
-ghost use Rattle.leaf.specs.Lent.{columns, tables, Placed};
-ghost use Rattle.leaf.specs.Promises.{Border, Adds, Tries};
-ghost use Rattle.newrule.specs.Lending.{Ready, LentChains};
-ghost use Rattle.newrule.specs.Kept.{BothRoom, Held, TrialKept, AddKept};
-ghost use Rattle.newrule.specs.Planning.{Lack, Plannable, Planned, Raised, Raisable};
+ghost use Rattle.leaf.specs.Lent.{columns};
+ghost use Rattle.leaf.specs.Promises.{rule};
+ghost use Rattle.spread.specs.Ground.{first};
+ghost use Rattle.newrule.specs.Planning.{Lack, Base, NoGains, Plannable, Planned, Raised, Raisable};
+ghost use Rattle.newrule.specs.Lending.{Ready};
+ghost use Rattle.newrule.specs.Fit.{Tells, TellsWhy, one-more};
+ghost use Rattle.newrule.specs.Kept.{BothRoom, TrialKept, AddKept};
 use meaning::Answer;
 use meaning::Counts;
 use meaning::Reply;
@@ -44,7 +46,7 @@ fn plan(
     gains: &mut [u64],
     by: &mut [u16],
 ) -> bool
-    requires { ⌜ Plannable n m (now xs) (now ys) (now cs) (now days) (now heads) (now nexts) (now gains) (now by) x y ⌝ }
+    requires { ⌜ Plannable n m (now xs) (now ys) (now cs) (now days) (now heads) (now nexts) (now gains) (now by) x y c ⌝ }
     ensures { λ r. ⌜ Planned n m (now (xs .entry)) (now (ys .entry)) (now (cs .entry)) (now (days .entry)) (now (gains .exit)) (now (by .exit)) x y c r ⌝ }
 {
     let lacks = lack(days, x, y, c);
@@ -89,32 +91,119 @@ fn raise_days(n: usize, gains: &[u64], days: &mut [u32]) -> u32
     count
 }
 
-// Holds the rule x, y, c, the days being up to date with it; moved says how many of them moved.
-fn hold(
-    counts: Counts,
+// Whether a rule fits, and how many steps have a day different from before where it does.
+pub struct Fitted {
+    pub fits: bool,
+    pub moved: u32,
+}
+
+// Says whether the rule x, y, c fits, and holds it then, with gains and by to work in: where it does not fit they are left as its ring is found from.
+fn fit_with(
+    n: usize,
+    m: usize,
     xs: &mut [u16],
     ys: &mut [u16],
     cs: &mut [i32],
+    days: &mut [u32],
+    heads: &[u16],
+    nexts: &[u16],
     x: u16,
     y: u16,
     c: i32,
-    moved: u32,
-) -> Reply
-    requires { ⌜ Placed (now xs) (now ys) (now cs) (counts .rules) ⌝ }
-    requires { ⌜ counts .rules < RULES ⌝ }
+    gains: &mut [u64],
+    by: &mut [u16],
+) -> Fitted
+    requires { ⌜ Ready n m (now xs) (now ys) (now cs) (now days) (now heads) (now nexts) x y c ⌝ }
+    requires { ⌜ NoGains n (now gains) (now by) ⌝ }
     ensures { λ r. ⌜
-        Held counts (columns (now (xs .entry)) (now (ys .entry)) (now (cs .entry))) x y c moved r
-        (columns (now (xs .exit)) (now (ys .exit)) (now (cs .exit))) ⌝ }
+        TellsWhy n m (now (xs .entry)) (now (ys .entry)) (now (cs .entry)) (now (days .entry)) x y c (r .fits) (r .moved)
+        (now (xs .exit)) (now (ys .exit)) (now (cs .exit)) (now (days .exit)) (now (gains .exit)) (now (by .exit)) ⌝ }
 {
-    inside::write_rule(xs, ys, cs, counts.rules as usize, x, y, c);
-    Reply {
-        counts: Counts {
-            steps: counts.steps,
-            rules: counts.rules + 1,
-            marks: counts.marks,
-            watched: counts.watched,
-        },
-        answer: Answer::Done(moved, 0),
+    if !plan(
+        n,
+        m,
+        xs,
+        ys,
+        cs,
+        days,
+        heads,
+        nexts,
+        x as usize,
+        y as usize,
+        c,
+        gains,
+        by,
+    ) {
+        return Fitted {
+            fits: false,
+            moved: 0,
+        };
+    }
+    let moved = raise_days(n, gains, days);
+    inside::write_rule(xs, ys, cs, m, x, y, c);
+    Fitted {
+        fits: true,
+        moved: moved,
+    }
+}
+
+// Says whether the rule x, y, c fits the first m rules over n steps. Where it does it is held under number m and the days are brought to the earliest
+// plan with it; where it does not nothing changes.
+pub fn fit(
+    n: usize,
+    m: usize,
+    xs: &mut [u16],
+    ys: &mut [u16],
+    cs: &mut [i32],
+    days: &mut [u32],
+    heads: &[u16],
+    nexts: &[u16],
+    x: u16,
+    y: u16,
+    c: i32,
+) -> Fitted
+    requires { ⌜ Ready n m (now xs) (now ys) (now cs) (now days) (now heads) (now nexts) x y c ⌝ }
+    ensures { λ r. ⌜
+        Tells n (first m) m (rule x y c) (columns (now (xs .entry)) (now (ys .entry)) (now (cs .entry))) (now (days .entry)) (r .fits) (r .moved)
+        (columns (now (xs .exit)) (now (ys .exit)) (now (cs .exit))) (now (days .exit)) ⌝ }
+{
+    // A rule that the days keep already is held before any list is cleared.
+    if lack(days, x as usize, y as usize, c) == 0 {
+        inside::write_rule(xs, ys, cs, m, x, y, c);
+        return Fitted {
+            fits: true,
+            moved: 0,
+        };
+    }
+    let mut gains = [0u64; meaning::STEPS];
+    let mut by = [0u16; meaning::STEPS];
+    fit_with(
+        n,
+        m,
+        xs,
+        ys,
+        cs,
+        days,
+        heads,
+        nexts,
+        x,
+        y,
+        c,
+        &mut gains,
+        &mut by,
+    )
+}
+
+// The counts with one more rule held.
+pub fn one_more(counts: Counts) -> Counts
+    requires { ⌜ counts .rules < RULES ⌝ }
+    ensures { λ r. ⌜ r ≡ one-more counts ⌝ }
+{
+    Counts {
+        steps: counts.steps,
+        rules: counts.rules + 1,
+        marks: counts.marks,
+        watched: counts.watched,
     }
 }
 
@@ -135,7 +224,8 @@ fn trial_fine(
     y: u16,
     c: i32,
 ) -> Reply
-    requires { ⌜ Ready (counts .steps) (counts .rules) (now xs) (now ys) (now cs) (now days) (now heads) (now nexts) (now gains) (now by) x y c ⌝ }
+    requires { ⌜ Ready (counts .steps) (counts .rules) (now xs) (now ys) (now cs) (now days) (now heads) (now nexts) x y c ⌝ }
+    requires { ⌜ NoGains (counts .steps) (now gains) (now by) ⌝ }
     requires { ⌜ BothRoom (now one) (now two) ⌝ }
     ensures { λ r. ⌜
         TrialKept counts (now (xs .entry)) (now (ys .entry)) (now (cs .entry)) (now (days .entry)) (now (one .entry)) (now (two .entry))
@@ -200,7 +290,8 @@ fn add_fine(
     y: u16,
     c: i32,
 ) -> Reply
-    requires { ⌜ Ready (counts .steps) (counts .rules) (now xs) (now ys) (now cs) (now days) (now heads) (now nexts) (now gains) (now by) x y c ⌝ }
+    requires { ⌜ Ready (counts .steps) (counts .rules) (now xs) (now ys) (now cs) (now days) (now heads) (now nexts) x y c ⌝ }
+    requires { ⌜ NoGains (counts .steps) (now gains) (now by) ⌝ }
     requires { ⌜ STEPS ≤ length (now list) ⌝ }
     ensures { λ r. ⌜
         AddKept counts (now (xs .entry)) (now (ys .entry)) (now (cs .entry)) (now (days .entry)) (now (list .entry)) x y c r
@@ -208,23 +299,12 @@ fn add_fine(
 {
     let n = counts.steps as usize;
     let m = counts.rules as usize;
-    if plan(
-        n,
-        m,
-        xs,
-        ys,
-        cs,
-        days,
-        heads,
-        nexts,
-        x as usize,
-        y as usize,
-        c,
-        gains,
-        by,
-    ) {
-        let moved = raise_days(n, gains, days);
-        return hold(counts, xs, ys, cs, x, y, c, moved);
+    let fitted = fit_with(n, m, xs, ys, cs, days, heads, nexts, x, y, c, gains, by);
+    if fitted.fits {
+        return Reply {
+            counts: one_more(counts),
+            answer: Answer::Done(fitted.moved, 0),
+        };
     }
     let k = spread::ring(
         n,
@@ -254,10 +334,6 @@ pub fn trial(
     ys: &[u16],
     cs: &[i32],
     days: &[u32],
-    marks: &[u32],
-    wxs: &[u16],
-    wys: &[u16],
-    wcs: &[i32],
     heads: &[u16],
     nexts: &[u16],
     one: &mut [u32],
@@ -266,12 +342,11 @@ pub fn trial(
     y: u16,
     c: i32,
 ) -> Reply
-    requires { ⌜ Border (tables counts (now xs) (now ys) (now cs) (now days) (now marks) (now wxs) (now wys) (now wcs)) ⌝ }
-    requires { ⌜ LentChains (counts .steps) (counts .rules) (now xs) (now heads) (now nexts) ⌝ }
+    requires { ⌜ Base (counts .steps) (counts .rules) (now xs) (now ys) (now cs) (now days) (now heads) (now nexts) ⌝ }
     requires { ⌜ BothRoom (now one) (now two) ⌝ }
     ensures { λ r. ⌜
-        Tries counts (now (xs .entry)) (now (ys .entry)) (now (cs .entry)) (now (days .entry)) (now (marks .entry))
-        (now (wxs .entry)) (now (wys .entry)) (now (wcs .entry)) (now (one .entry)) (now (two .entry)) x y c r (now (one .exit)) (now (two .exit)) ⌝ }
+        TrialKept counts (now (xs .entry)) (now (ys .entry)) (now (cs .entry)) (now (days .entry)) (now (one .entry)) (now (two .entry))
+        x y c r (now (one .exit)) (now (two .exit)) ⌝ }
 {
     if !inside::steps_fit(counts.steps as usize, x, y) {
         return Reply {
@@ -319,10 +394,6 @@ pub fn add(
     ys: &mut [u16],
     cs: &mut [i32],
     days: &mut [u32],
-    marks: &[u32],
-    wxs: &[u16],
-    wys: &[u16],
-    wcs: &[i32],
     heads: &[u16],
     nexts: &[u16],
     list: &mut [u32],
@@ -330,12 +401,10 @@ pub fn add(
     y: u16,
     c: i32,
 ) -> Reply
-    requires { ⌜ Border (tables counts (now xs) (now ys) (now cs) (now days) (now marks) (now wxs) (now wys) (now wcs)) ⌝ }
-    requires { ⌜ LentChains (counts .steps) (counts .rules) (now xs) (now heads) (now nexts) ⌝ }
+    requires { ⌜ Base (counts .steps) (counts .rules) (now xs) (now ys) (now cs) (now days) (now heads) (now nexts) ⌝ }
     requires { ⌜ STEPS ≤ length (now list) ⌝ }
     ensures { λ r. ⌜
-        Adds counts (now (xs .entry)) (now (ys .entry)) (now (cs .entry)) (now (days .entry)) (now (marks .entry))
-        (now (wxs .entry)) (now (wys .entry)) (now (wcs .entry)) (now (list .entry)) x y c r
+        AddKept counts (now (xs .entry)) (now (ys .entry)) (now (cs .entry)) (now (days .entry)) (now (list .entry)) x y c r
         (now (xs .exit)) (now (ys .exit)) (now (cs .exit)) (now (days .exit)) (now (list .exit)) ⌝ }
 {
     if !inside::steps_fit(counts.steps as usize, x, y) {
@@ -356,9 +425,13 @@ pub fn add(
             answer: Answer::Full,
         };
     }
-    // A rule that the days keep already moves none of them.
+    // A rule that the days keep already is held before any list is cleared.
     if lack(days, x as usize, y as usize, c) == 0 {
-        return hold(counts, xs, ys, cs, x, y, c, 0);
+        inside::write_rule(xs, ys, cs, counts.rules as usize, x, y, c);
+        return Reply {
+            counts: one_more(counts),
+            answer: Answer::Done(0, 0),
+        };
     }
     let mut gains = [0u64; meaning::STEPS];
     let mut by = [0u16; meaning::STEPS];

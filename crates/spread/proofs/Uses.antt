@@ -5,7 +5,7 @@ use native.Mathlib.Omega.{arith}
 use native.Mathlib.Decide.{ℕ-discrete}
 use mathlib.Core.Path.{_≡_, ap}
 use lib.IntN.{ℤ, pos}
-use Rattle.meaning.specs.Rules.{Rule, Keeps, InSteps, Plan, Earliest, Always, more, plus}
+use Rattle.meaning.specs.Rules.{Rule, Keeps, InSteps, Plan, Earliest, Always, Fits, more, plus}
 use Rattle.meaning.proofs.Whole.{up, dn, keeps→, →keeps, plan→, →plan}
 use Rattle.meaning.proofs.More.{more-arrangement, arrangement-new, arrangement-old}
 use Rattle.spread.specs.Least.{ForcedFrom, EarliestFrom}
@@ -60,6 +60,30 @@ added-earliest n R H d g₀ g m r free steps earliest lacks alone from stays = r
               plan→ q r (arrangement-new R H m r (λ u. pos (q u)) plan),
             )
         by-step (no e) = omega (arith, not-before v below, alone v below e)
+
+-- **Add**, where the rule's first step gets a gain too: no arrangement keeps the rule.
+pub reached-unfit :
+    (n : ℕ) (R : ℕ → Rule) (H : ℕ → Type 0) (d g₀ g : ℕ → ℕ) (r : Rule) → InSteps n r → Plan R H d →
+    d (r .first) + dn (r .amount) ≡ d (r .second) + g₀ (r .second) + up (r .amount) →
+    ((v : ℕ) → v < n → (v ≡ r .second → ⊥) → g₀ v ≡ 0) → ForcedFrom n R H (λ v. d v + g₀ v) (λ v. d v + g v) → 0 < g (r .first) → Fits R H r → ⊥
+reached-unfit n R H d g₀ g r steps plan lacks alone forced has fits =
+    omega (arith, forced .no-later together together-plan not-before (r .first) (steps .first-in), keeps→ (fits .days) r (fits .kept))
+  where
+    -- The later of d and of the days that keep the rule, shifted so that they give the second step its gain. They give the first step no more than d.
+    together : ℕ → ℕ
+    together v =
+        max (d v)
+        (d (r .second) + g₀ (r .second) + dn (fits .days (r .second)) + up (fits .days v) - (up (fits .days (r .second)) + dn (fits .days v)))
+
+    together-plan : Plan R H together
+    together-plan i held = →plan together (R i) (omega (arith, plan→ d (R i) (plan i held), keeps→ (fits .days) (R i) (fits .arrangement i held)))
+
+    not-before : (v : ℕ) → v < n → d v + g₀ v ≤ together v
+    not-before v below = by-step (ℕ-discrete v (r .second))
+      where
+        by-step : Dec (v ≡ r .second) → d v + g₀ v ≤ together v
+        by-step (yes p) = omega (arith, ap d p, ap g₀ p, ap (λ w. up (fits .days w)) p, ap (λ w. dn (fits .days w)) p)
+        by-step (no p) = omega (arith, alone v below p)
 
 -- **Back**: each step is asked to reach the day k. The days with their gains, less k, are the earliest plan.
 pub back-earliest :

@@ -1,4 +1,5 @@
 -- `desk::add`: the list, the room and the soundness of the tables decide the first refusals; the rest is `newrule::add`.
+use Rattle.newrule.proofs.Answers.{base}
 use Prim.Native.Nat.{ℕ, _≤_, _<_}
 use mathlib.Core.Path.{_≡_, refl}
 use mathlib.Core.Logic.{inl, inr}
@@ -70,17 +71,23 @@ slice-aggregate-add-2 : tie.Need-slice-aggregate-add-2
 slice-aggregate-add-2 c = search needs
 
 add-requires : tie.Need-add-requires
-add-requires c κs = (
-  record { room = (c .before .before .before .before .before .before .before .before .before .before .before .before .before .before .before .before .before .before .has-room .ensures (c .before .before .before .before .before .before .before .before .before .before .before .before .before .before .before .before .before .before .before .before .before .before .before .before .before .before .before .before .before .before .before .args .counts) .so (not-false _ (c .before .before .before .before .before .before .before .before .before .before .before .before .before .before .before .before .before .if2 .left))); sound = c .before .before .before .before .before .before .before .before .before .before .is-sound .ensures .decides .so (not-false _ (c .before .before .before .before .before .before .before .if3 .left)) },
-  (
-    record {
-      chained = c .before .before .before .before .before .before .before .before .before .before .is-sound .ensures .chained (not-false _ (c .before .before .before .before .before .before .before .if3 .left));
-      heads-room = omega (arith, c .before .before .before .before .before .before .before .before .before .before .is-sound .kept .1 .1 .1 .1 .1 .1 .1 .1 .1 .0, length-replicate {A = ℕ} STEPS 0, (c .before .before .before .before .before .before .before .before .before .before .is-sound .ensures .decides .so (not-false _ (c .before .before .before .before .before .before .before .if3 .left))) .counts-in .steps-in);
-      nexts-room = omega (arith, c .before .before .before .before .before .before .before .before .before .before .is-sound .kept .1 .1 .1 .1 .1 .1 .1 .1 .1 .1 .0, length-replicate {A = ℕ} RULES 0, (c .before .before .before .before .before .before .before .before .before .before .is-sound .ensures .decides .so (not-false _ (c .before .before .before .before .before .before .before .if3 .left))) .counts-in .rules-in);
-    },
-    omega (arith, c .before .before .before .before .before .before .before .before .before .before .before .before .before .before .before .before .before .before .before .before .before .before .before .if1 .left),
-  ),
-)
+add-requires c κs =
+    let start = c .before .before .before .before .before .before .before .before .before .before .before .before .before .before .before .before .before .before .before .before .before .before .before .before .before .before .before .before .before .before .before in
+    let if1 = c .before .before .before .before .before .before .before .before .before .before .before .before .before .before .before .before .before .before .before .before .before .before .before .if1 in
+    let has-room = c .before .before .before .before .before .before .before .before .before .before .before .before .before .before .before .before .before .before .has-room in
+    let if2 = c .before .before .before .before .before .before .before .before .before .before .before .before .before .before .before .before .before .if2 in
+    let is-sound = c .before .before .before .before .before .before .before .before .before .before .is-sound in
+    let if3 = c .before .before .before .before .before .before .before .if3 in
+    let s = is-sound .ensures .decides .so (not-false _ (if3 .left)) in (
+      base (start .args .counts) (start .args .xs .now) (start .args .ys .now) (start .args .cs .now) (start .args .days .now) (start .args .marks .now) (start .args .wxs .now) (start .args .wys .now) (start .args .wcs .now)
+          (record { room = has-room .ensures (start .args .counts) .so (not-false _ (if2 .left)); sound = s }) _ _
+          (record {
+            chained = is-sound .ensures .chained (not-false _ (if3 .left));
+            heads-room = omega (arith, is-sound .kept .1 .1 .1 .1 .1 .1 .1 .1 .1 .0, length-replicate {A = ℕ} STEPS 0, s .counts-in .steps-in);
+            nexts-room = omega (arith, is-sound .kept .1 .1 .1 .1 .1 .1 .1 .1 .1 .1 .0, length-replicate {A = ℕ} RULES 0, s .counts-in .rules-in);
+          }),
+      omega (arith, if1 .left),
+    )
 
 same-length-9 : tie.Need-same-length-9
 same-length-9 c = search needs
@@ -98,7 +105,15 @@ same-length-13 : tie.Need-same-length-13
 same-length-13 c = search needs
 
 returns-4 : tie.Need-returns-4
-returns-4 c = rw (toZ-ofZ w32 (c .before .before .before .before .before .before .before .before .before .before .before .before .before .before .before .before .before .before .before .before .before .before .before .before .before .before .before .before .before .before .before .before .before .before .before .before .before .before .before .before .before .args .c) (c .before .before .before .before .before .before .before .before .before .before .before .before .before .before .before .before .before .before .before .before .before .before .before .before .before .before .before .before .before .before .before .before .before .before .before .before .before .before .before .before .before .fits .c)) at (c .before .before .before .before .before .before .before .before .before .add .ensures)
+returns-4 c =
+    let start = c .before .before .before .before .before .before .before .before .before .before .before .before .before .before .before .before .before .before .before .before .before .before .before .before .before .before .before .before .before .before .before .before .before .before .before .before .before .before .before .before .before in
+    let has-room = c .before .before .before .before .before .before .before .before .before .before .before .before .before .before .before .before .before .before .before .before .before .before .before .before .before .before .before .before .has-room in
+    let if2 = c .before .before .before .before .before .before .before .before .before .before .before .before .before .before .before .before .before .before .before .before .before .before .before .before .before .before .before .if2 in
+    let is-sound = c .before .before .before .before .before .before .before .before .before .before .before .before .before .before .before .before .before .before .before .before .is-sound in
+    let if3 = c .before .before .before .before .before .before .before .before .before .before .before .before .before .before .before .before .before .if3 in
+    let add = c .before .before .before .before .before .before .before .before .before .add in
+    (rw (toZ-ofZ w32 (start .args .c) (start .fits .c)) at (add .ensures)) (start .args .marks .now) (start .args .wxs .now) (start .args .wys .now) (start .args .wcs .now)
+    (record { room = has-room .ensures (start .args .counts) .so (not-false _ (if2 .left)); sound = is-sound .ensures .decides .so (not-false _ (if3 .left)) })
 
 pub add-spec : {M : Type 1} → statement M
 add-spec =

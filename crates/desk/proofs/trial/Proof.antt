@@ -1,4 +1,5 @@
 -- `desk::trial`: the lists, the room and the soundness of the tables decide the first refusals; the rest is `newrule::trial`.
+use Rattle.newrule.proofs.Answers.{base}
 use Prim.Native.Nat.{ℕ, _≤_, _<_}
 use mathlib.Core.Path.{_≡_, refl}
 use mathlib.Core.Logic.{inl, inr}
@@ -49,17 +50,24 @@ slice-aggregate-trial-2 : tie.Need-slice-aggregate-trial-2
 slice-aggregate-trial-2 c = search needs
 
 trial-requires : tie.Need-trial-requires
-trial-requires c κs = (
-  record { room = (c .before .before .before .before .before .before .before .before .before .before .before .has-room .ensures (c .before .before .before .before .before .before .before .before .before .before .before .before .before .before .before .before .before .before .before .before .before .before .args .counts) .so (not-false _ (c .before .before .before .before .before .before .before .before .before .before .if3 .left))); sound = c .before .before .before .before .before .before .before .is-sound .ensures .decides .so (not-false _ (c .before .before .before .before .if4 .left)) },
-  (
-    record {
-      chained = c .before .before .before .before .before .before .before .is-sound .ensures .chained (not-false _ (c .before .before .before .before .if4 .left));
-      heads-room = omega (arith, c .before .before .before .before .before .before .before .is-sound .kept .1 .1 .1 .1 .1 .1 .1 .1 .1 .0, length-replicate {A = ℕ} STEPS 0, (c .before .before .before .before .before .before .before .is-sound .ensures .decides .so (not-false _ (c .before .before .before .before .if4 .left))) .counts-in .steps-in);
-      nexts-room = omega (arith, c .before .before .before .before .before .before .before .is-sound .kept .1 .1 .1 .1 .1 .1 .1 .1 .1 .1 .0, length-replicate {A = ℕ} RULES 0, (c .before .before .before .before .before .before .before .is-sound .ensures .decides .so (not-false _ (c .before .before .before .before .if4 .left))) .counts-in .rules-in);
-    },
-    record { one-room = omega (arith, c .before .before .before .before .before .before .before .before .before .before .before .before .before .if1 .left); two-room = omega (arith, c .before .before .before .before .before .before .before .before .before .before .before .before .if2 .left) },
-  ),
-)
+trial-requires c κs =
+    let start = c .before .before .before .before .before .before .before .before .before .before .before .before .before .before .before .before .before .before .before .before .before .before in
+    let if1 = c .before .before .before .before .before .before .before .before .before .before .before .before .before .if1 in
+    let if2 = c .before .before .before .before .before .before .before .before .before .before .before .before .if2 in
+    let has-room = c .before .before .before .before .before .before .before .before .before .before .before .has-room in
+    let if3 = c .before .before .before .before .before .before .before .before .before .before .if3 in
+    let is-sound = c .before .before .before .before .before .before .before .is-sound in
+    let if4 = c .before .before .before .before .if4 in
+    let s = is-sound .ensures .decides .so (not-false _ (if4 .left)) in (
+      base (start .args .counts) (start .args .xs .now) (start .args .ys .now) (start .args .cs .now) (start .args .days .now) (start .args .marks .now) (start .args .wxs .now) (start .args .wys .now) (start .args .wcs .now)
+          (record { room = has-room .ensures (start .args .counts) .so (not-false _ (if3 .left)); sound = s }) _ _
+          (record {
+            chained = is-sound .ensures .chained (not-false _ (if4 .left));
+            heads-room = omega (arith, is-sound .kept .1 .1 .1 .1 .1 .1 .1 .1 .1 .0, length-replicate {A = ℕ} STEPS 0, s .counts-in .steps-in);
+            nexts-room = omega (arith, is-sound .kept .1 .1 .1 .1 .1 .1 .1 .1 .1 .1 .0, length-replicate {A = ℕ} RULES 0, s .counts-in .rules-in);
+          }),
+      record { one-room = omega (arith, if1 .left); two-room = omega (arith, if2 .left) },
+    )
 
 same-length : tie.Need-same-length
 same-length c = search needs
@@ -68,7 +76,15 @@ same-length-2 : tie.Need-same-length-2
 same-length-2 c = search needs
 
 returns-5 : tie.Need-returns-5
-returns-5 c = rw (toZ-ofZ w32 (c .before .before .before .before .before .before .before .before .before .before .before .before .before .before .before .before .before .before .before .before .before .before .before .before .before .before .before .args .c) (c .before .before .before .before .before .before .before .before .before .before .before .before .before .before .before .before .before .before .before .before .before .before .before .before .before .before .before .fits .c)) at (c .before .before .before .before .trial .ensures)
+returns-5 c =
+    let start = c .before .before .before .before .before .before .before .before .before .before .before .before .before .before .before .before .before .before .before .before .before .before .before .before .before .before .before in
+    let has-room = c .before .before .before .before .before .before .before .before .before .before .before .before .before .before .before .before .has-room in
+    let if3 = c .before .before .before .before .before .before .before .before .before .before .before .before .before .before .before .if3 in
+    let is-sound = c .before .before .before .before .before .before .before .before .before .before .before .before .is-sound in
+    let if4 = c .before .before .before .before .before .before .before .before .before .if4 in
+    let trial = c .before .before .before .before .trial in
+    (rw (toZ-ofZ w32 (start .args .c) (start .fits .c)) at (trial .ensures)) (start .args .marks .now) (start .args .wxs .now) (start .args .wys .now) (start .args .wcs .now)
+    (record { room = has-room .ensures (start .args .counts) .so (not-false _ (if3 .left)); sound = is-sound .ensures .decides .so (not-false _ (if4 .left)) })
 
 pub trial-spec : {M : Type 1} → statement M
 trial-spec =

@@ -2,17 +2,14 @@
 use Prim.Native.Nat.{ℕ, _≤_, _<_}
 use mathlib.Core.Path.{_≡_, refl}
 use mathlib.Core.Logic.{inl, inr}
-use lib.ListN.{replicate, getD-replicate, length-replicate}
 use mir.Syntax.{w32}
 use mir.ValLaws.{toZ-ofZ}
 use borrow.Author.Tests.{not-true, not-false}
-use Rattle.meaning.specs.Bounds.{STEPS, STEP, AMOUNT, FULL}
+use Rattle.meaning.specs.Bounds.{STEP, AMOUNT, FULL}
 use Rattle.meaning.proofs.Needs.{obeys-refused}
-use Rattle.meaning.proofs.Possible.{Asked}
-use Rattle.leaf.specs.Lent.{tables}
-use Rattle.leaf.specs.Promises.{rule}
 use Rattle.newrule.specs.Planning.{Lack}
-use Rattle.newrule.proofs.Answers.{ready, placed, add-at-once}
+use Rattle.newrule.specs.Lending.{Ready}
+use Rattle.newrule.proofs.Answers.{placed, taken-at-once, add-done, no-gains}
 use native.Mathlib.Omega.{arith}
 use borrow.Author.Needs.{needs}
 use Rattle.newrule.proofs.add.Statement.{statement}
@@ -20,10 +17,11 @@ use Rattle.newrule.proofs.add.Tie as tie
 use Rattle.newrule.proofs.add.Reads as reads
 use Rattle.newrule.proofs.add.Lts as lts
 use Rattle.inside.proofs.steps_fit.Reads as steps-fit-reads
+use Rattle.inside.proofs.write_rule.Reads as write-rule-reads
 use Rattle.leaf.proofs.amount_fits.Reads as amount-fits-reads
 use Rattle.newrule.proofs.add_fine.Reads as add-fine-reads
-use Rattle.newrule.proofs.hold.Reads as hold-reads
 use Rattle.newrule.proofs.lack.Reads as lack-reads
+use Rattle.newrule.proofs.one_more.Reads as one-more-reads
 
 cast-steps-fit : tie.Need-cast-steps-fit
 cast-steps-fit c = search needs
@@ -33,44 +31,63 @@ steps-fit-requires c κs = search needs
 
 returns : tie.Need-returns
 returns c =
+    let start = c .before .before .before .before .before .before .before .before .before in
+    let steps-fit = c .before .steps-fit in
+    let if1 = c .if1 in
+    λ marks wxs wys wcs b.
     obeys-refused _ _ STEP (λ e. omega arith) (λ e. omega arith)
-    (inr ((c .before .before .before .before .before .before .before .before .before .before .before .before .pre .0 .room, c .before .before .before .before .before .before .before .before .before .before .before .before .pre .1 .1), inr (c .before .before .before .before .before .before .before .before .before .before .before .before .pre .0 .sound, inl (refl, c .before .steps-fit .ensures (c .before .before .before .before .before .before .before .before .before .before .before .before .args .c) .not-so (not-true _ (c .if1 .taken))))))
+    (inr ((b .room, start .pre .1), inr (b .sound, inl (refl, steps-fit .ensures (start .args .c) .not-so (not-true _ (if1 .taken))))))
 
 amount-fits-requires : tie.Need-amount-fits-requires
 amount-fits-requires c κs = search needs
 
 returns-2 : tie.Need-returns-2
 returns-2 c =
+    let start = c .before .before .before .before .before .before .before .before .before .before .before in
+    let steps-fit = c .before .before .before .steps-fit in
+    let if1 = c .before .before .if1 in
+    let amount-fits = c .before .amount-fits in
+    let if2 = c .if2 in
+    λ marks wxs wys wcs b.
     obeys-refused _ _ AMOUNT (λ e. omega arith) (λ e. omega arith)
-    (inr ((c .before .before .before .before .before .before .before .before .before .before .before .before .before .before .pre .0 .room, c .before .before .before .before .before .before .before .before .before .before .before .before .before .before .pre .1 .1), inr (c .before .before .before .before .before .before .before .before .before .before .before .before .before .before .pre .0 .sound, inr (c .before .before .before .steps-fit .ensures (c .before .before .before .before .before .before .before .before .before .before .before .before .before .before .args .c) .so (not-false _ (c .before .before .if1 .left)), inl (refl, (rw (toZ-ofZ w32 (c .before .before .before .before .before .before .before .before .before .before .before .before .before .before .args .c) (c .before .before .before .before .before .before .before .before .before .before .before .before .before .before .fits .c)) at (c .before .amount-fits .ensures)) .not-so (not-true _ (c .if2 .taken)))))))
+    (inr ((b .room, start .pre .1), inr (b .sound, inr (steps-fit .ensures (start .args .c) .so (not-false _ (if1 .left)), inl (refl, (rw (toZ-ofZ w32 (start .args .c) (start .fits .c)) at (amount-fits .ensures)) .not-so (not-true _ (if2 .taken)))))))
 
 cast-if3 : tie.Need-cast-if3
 cast-if3 c = search needs
 
 returns-3 : tie.Need-returns-3
 returns-3 c =
+    let start = c .before .before .before .before .before .before .before .before .before .before .before .before .before in
+    let steps-fit = c .before .before .before .before .before .steps-fit in
+    let if1 = c .before .before .before .before .if1 in
+    let amount-fits = c .before .before .before .amount-fits in
+    let if2 = c .before .before .if2 in
+    let if3 = c .if3 in
+    λ marks wxs wys wcs b.
     obeys-refused _ _ FULL (λ e. omega arith) (λ e. omega arith)
-    (inr ((c .before .before .before .before .before .before .before .before .before .before .before .before .before .before .before .before .pre .0 .room, c .before .before .before .before .before .before .before .before .before .before .before .before .before .before .before .before .pre .1 .1), inr (c .before .before .before .before .before .before .before .before .before .before .before .before .before .before .before .before .pre .0 .sound, inr (c .before .before .before .before .before .steps-fit .ensures (c .before .before .before .before .before .before .before .before .before .before .before .before .before .before .before .before .args .c) .so (not-false _ (c .before .before .before .before .if1 .left)), inr ((rw (toZ-ofZ w32 (c .before .before .before .before .before .before .before .before .before .before .before .before .before .before .before .before .args .c) (c .before .before .before .before .before .before .before .before .before .before .before .before .before .before .before .before .fits .c)) at (c .before .before .before .amount-fits .ensures)) .so (not-false _ (c .before .before .if2 .left)), inl (refl, λ h. omega arith))))))
-
--- The rule can be asked for.
-asked : (c : tie.Else3) → Asked (rule (c .before .before .before .before .before .before .before .before .before .before .before .before .before .before .before .before .args .x) (c .before .before .before .before .before .before .before .before .before .before .before .before .before .before .before .before .args .y) (c .before .before .before .before .before .before .before .before .before .before .before .before .before .before .before .before .args .c)) (tables (c .before .before .before .before .before .before .before .before .before .before .before .before .before .before .before .before .args .counts) (c .before .before .before .before .before .before .before .before .before .before .before .before .before .before .before .before .args .xs .now) (c .before .before .before .before .before .before .before .before .before .before .before .before .before .before .before .before .args .ys .now) (c .before .before .before .before .before .before .before .before .before .before .before .before .before .before .before .before .args .cs .now) (c .before .before .before .before .before .before .before .before .before .before .before .before .before .before .before .before .args .days .now) (c .before .before .before .before .before .before .before .before .before .before .before .before .before .before .before .before .args .marks .now) (c .before .before .before .before .before .before .before .before .before .before .before .before .before .before .before .before .args .wxs .now) (c .before .before .before .before .before .before .before .before .before .before .before .before .before .before .before .before .args .wys .now) (c .before .before .before .before .before .before .before .before .before .before .before .before .before .before .before .before .args .wcs .now))
-asked c = record {
-  room = c .before .before .before .before .before .before .before .before .before .before .before .before .before .before .before .before .pre .0 .room;
-  sound = c .before .before .before .before .before .before .before .before .before .before .before .before .before .before .before .before .pre .0 .sound;
-  steps-in = c .before .before .before .before .before .steps-fit .ensures (c .before .before .before .before .before .before .before .before .before .before .before .before .before .before .before .before .args .c) .so (not-false _ (c .before .before .before .before .if1 .left));
-  amount-in = (rw (toZ-ofZ w32 (c .before .before .before .before .before .before .before .before .before .before .before .before .before .before .before .before .args .c) (c .before .before .before .before .before .before .before .before .before .before .before .before .before .before .before .before .fits .c)) at (c .before .before .before .amount-fits .ensures)) .so (not-false _ (c .before .before .if2 .left));
-  not-full = omega (arith, c .if3 .left);
-}
+    (inr ((b .room, start .pre .1), inr (b .sound, inr (steps-fit .ensures (start .args .c) .so (not-false _ (if1 .left)), inr ((rw (toZ-ofZ w32 (start .args .c) (start .fits .c)) at (amount-fits .ensures)) .so (not-false _ (if2 .left)), inl (refl, λ h. omega (arith, h, if3 .taken)))))))
 
 lack-requires : tie.Need-lack-requires
 lack-requires c κs =
-    let a = asked (c .before) in
-    (omega (arith, a .steps-in .first-in, a .sound .counts-in .steps-in, a .room .days-room), omega (arith, a .steps-in .second-in, a .sound .counts-in .steps-in, a .room .days-room))
+    let start = c .before .before .before .before .before .before .before .before .before .before .before .before .before .before in
+    let steps-fit = c .before .before .before .before .before .before .steps-fit in
+    let if1 = c .before .before .before .before .before .if1 in
+    let steps = steps-fit .ensures (start .args .c) .so (not-false _ (if1 .left)) in
+    (omega (arith, steps .first-in, start .pre .0 .ground .days-room), omega (arith, steps .second-in, start .pre .0 .ground .days-room))
 
-hold-requires : tie.Need-hold-requires
-hold-requires c κs =
-    let a = asked (c .before .before .before .before .before .before) in
-    (placed (c .before .before .before .before .before .before .before .before .before .before .before .before .before .before .before .before .before .before .before .before .before .before .args .xs .now) (c .before .before .before .before .before .before .before .before .before .before .before .before .before .before .before .before .before .before .before .before .before .before .args .ys .now) (c .before .before .before .before .before .before .before .before .before .before .before .before .before .before .before .before .before .before .before .before .before .before .args .cs .now) (c .before .before .before .before .before .before .before .before .before .before .before .before .before .before .before .before .before .before .before .before .before .before .args .counts .rules) (a .room .rules-room) (a .not-full), a .not-full)
+cast-write-rule : tie.Need-cast-write-rule
+cast-write-rule c = search needs
+
+write-rule-requires : tie.Need-write-rule-requires
+write-rule-requires c κs =
+    let start = c .before .before .before .before .before .before .before .before .before .before .before .before .before .before .before .before .before .before .before .before in
+    let if3 = c .before .before .before .before .before .before .before .if3 in
+    placed (start .args .xs .now) (start .args .ys .now) (start .args .cs .now) (start .args .counts .rules) (start .pre .0 .columns-room) (omega (arith, if3 .left))
+
+one-more-requires : tie.Need-one-more-requires
+one-more-requires c κs =
+    let if3 = c .before .before .before .before .before .before .before .before .before .before .before .before .before .if3 in
+    omega (arith, if3 .left)
 
 same-length : tie.Need-same-length
 same-length c = search needs
@@ -86,9 +103,31 @@ same-length-4 c = search needs
 
 returns-4 : tie.Need-returns-4
 returns-4 c =
-    let l : Lack (c .before .before .before .before .before .before .before .before .before .before .before .before .before .before .before .before .before .before .before .before .before .before .before .before .before .before .before .before .args .days .now) (c .before .before .before .before .before .before .before .before .before .before .before .before .before .before .before .before .before .before .before .before .before .before .before .before .before .before .before .before .args .x) (c .before .before .before .before .before .before .before .before .before .before .before .before .before .before .before .before .before .before .before .before .before .before .before .before .before .before .before .before .args .y) (c .before .before .before .before .before .before .before .before .before .before .before .before .before .before .before .before .before .before .before .before .before .before .before .before .before .before .before .before .args .c) (c .before .before .before .before .before .before .before .before .before .before .lack .result) = rw (toZ-ofZ w32 (c .before .before .before .before .before .before .before .before .before .before .before .before .before .before .before .before .before .before .before .before .before .before .before .before .before .before .before .before .args .c) (c .before .before .before .before .before .before .before .before .before .before .before .before .before .before .before .before .before .before .before .before .before .before .before .before .before .before .before .before .fits .c)) at (c .before .before .before .before .before .before .before .before .before .before .lack .ensures) in
-    add-at-once (c .before .before .before .before .before .before .before .before .before .before .before .before .before .before .before .before .before .before .before .before .before .before .before .before .before .before .before .before .args .counts) (c .before .before .before .before .before .before .before .before .before .before .before .before .before .before .before .before .before .before .before .before .before .before .before .before .before .before .before .before .args .xs .now) (c .before .before .before .before .before .before .before .before .before .before .before .before .before .before .before .before .before .before .before .before .before .before .before .before .before .before .before .before .args .ys .now) (c .before .before .before .before .before .before .before .before .before .before .before .before .before .before .before .before .before .before .before .before .before .before .before .before .before .before .before .before .args .cs .now) (c .before .before .before .before .before .before .before .before .before .before .before .before .before .before .before .before .before .before .before .before .before .before .before .before .before .before .before .before .args .days .now) (c .before .before .before .before .before .before .before .before .before .before .before .before .before .before .before .before .before .before .before .before .before .before .before .before .before .before .before .before .args .marks .now) (c .before .before .before .before .before .before .before .before .before .before .before .before .before .before .before .before .before .before .before .before .before .before .before .before .before .before .before .before .args .wxs .now) (c .before .before .before .before .before .before .before .before .before .before .before .before .before .before .before .before .before .before .before .before .before .before .before .before .before .before .before .before .args .wys .now) (c .before .before .before .before .before .before .before .before .before .before .before .before .before .before .before .before .before .before .before .before .before .before .before .before .before .before .before .before .args .wcs .now) (c .before .before .before .before .before .before .before .before .before .before .before .before .before .before .before .before .before .before .before .before .before .before .before .before .before .before .before .before .args .x) (c .before .before .before .before .before .before .before .before .before .before .before .before .before .before .before .before .before .before .before .before .before .before .before .before .before .before .before .before .args .y) (c .before .before .before .before .before .before .before .before .before .before .before .before .before .before .before .before .before .before .before .before .before .before .before .before .before .before .before .before .args .c) (asked (c .before .before .before .before .before .before .before .before .before .before .before .before)) (c .before .before .before .before .before .before .before .before .before .before .before .before .before .before .before .before .before .before .before .before .before .before .before .before .before .before .before .before .args .list .now) (c .before .before .before .before .before .before .before .before .before .before .before .before .before .before .before .before .before .before .before .before .before .before .before .before .before .before .before .before .pre .1 .1) (l .none (c .before .before .before .before .before .before .before .before .before .if4 .taken))
-    (c .before .before .before .before .before .hold .result) _ _ _ (rw (toZ-ofZ w32 (c .before .before .before .before .before .before .before .before .before .before .before .before .before .before .before .before .before .before .before .before .before .before .before .before .before .before .before .before .args .c) (c .before .before .before .before .before .before .before .before .before .before .before .before .before .before .before .before .before .before .before .before .before .before .before .before .before .before .before .before .fits .c)) at (c .before .before .before .before .before .hold .ensures))
+    let start = c .before .before .before .before .before .before .before .before .before .before .before .before .before .before .before .before .before .before .before .before .before .before .before .before .before .before .before in
+    let steps-fit = c .before .before .before .before .before .before .before .before .before .before .before .before .before .before .before .before .before .before .before .steps-fit in
+    let if1 = c .before .before .before .before .before .before .before .before .before .before .before .before .before .before .before .before .before .before .if1 in
+    let amount-fits = c .before .before .before .before .before .before .before .before .before .before .before .before .before .before .before .before .before .amount-fits in
+    let if2 = c .before .before .before .before .before .before .before .before .before .before .before .before .before .before .before .before .if2 in
+    let if3 = c .before .before .before .before .before .before .before .before .before .before .before .before .before .before .if3 in
+    let lack = c .before .before .before .before .before .before .before .before .before .before .before .before .lack in
+    let if4 = c .before .before .before .before .before .before .before .before .before .before .before .if4 in
+    let write-rule = c .before .before .before .before .before .before .write-rule in
+    let one-more = c .one-more in
+    let args = start .args in
+    let l : Lack (args .days .now) (args .x) (args .y) (args .c) (lack .result) = rw (toZ-ofZ w32 (args .c) (start .fits .c)) at (lack .ensures) in
+    let ready : Ready (args .counts .steps) (args .counts .rules) (args .xs .now) (args .ys .now) (args .cs .now) (args .days .now) (args .heads .now) (args .nexts .now) (args .x) (args .y) (args .c)
+    = record {
+      base = start .pre .0;
+      new-good = record {
+        steps-in = steps-fit .ensures (args .c) .so (not-false _ (if1 .left));
+        amount-in = (rw (toZ-ofZ w32 (args .c) (start .fits .c)) at (amount-fits .ensures)) .so (not-false _ (if2 .left));
+      };
+      not-full = omega (arith, if3 .left);
+    } in
+    add-done (args .counts) (args .xs .now) (args .ys .now) (args .cs .now) (args .days .now) (args .heads .now) (args .nexts .now) (args .x) (args .y) (args .c) ready
+    (args .list .now) (start .pre .1) 0 (one-more .result) _ _ _ _ (one-more .ensures)
+    (taken-at-once (args .counts .steps) (args .counts .rules) (args .xs .now) (args .ys .now) (args .cs .now) (args .days .now) (args .heads .now) (args .nexts .now) (args .x) (args .y) (args .c) ready
+    (l .none (if4 .taken)) _ (rw (toZ-ofZ w32 (args .c) (start .fits .c)) at (write-rule .ensures)))
 
 slice-aggregate-add-fine : tie.Need-slice-aggregate-add-fine
 slice-aggregate-add-fine c = search needs
@@ -98,15 +137,22 @@ slice-aggregate-add-fine-2 c = search needs
 
 add-fine-requires : tie.Need-add-fine-requires
 add-fine-requires c κs =
-    let a = asked (c .before .before .before .before .before .before .before .before .before .before) in (
-      rw (toZ-ofZ w32 (c .before .before .before .before .before .before .before .before .before .before .before .before .before .before .before .before .before .before .before .before .before .before .before .before .before .before .args .c) (c .before .before .before .before .before .before .before .before .before .before .before .before .before .before .before .before .before .before .before .before .before .before .before .before .before .before .fits .c))
-          (ready (c .before .before .before .before .before .before .before .before .before .before .before .before .before .before .before .before .before .before .before .before .before .before .before .before .before .before .args .counts) (c .before .before .before .before .before .before .before .before .before .before .before .before .before .before .before .before .before .before .before .before .before .before .before .before .before .before .args .xs .now) (c .before .before .before .before .before .before .before .before .before .before .before .before .before .before .before .before .before .before .before .before .before .before .before .before .before .before .args .ys .now) (c .before .before .before .before .before .before .before .before .before .before .before .before .before .before .before .before .before .before .before .before .before .before .before .before .before .before .args .cs .now) (c .before .before .before .before .before .before .before .before .before .before .before .before .before .before .before .before .before .before .before .before .before .before .before .before .before .before .args .days .now) (c .before .before .before .before .before .before .before .before .before .before .before .before .before .before .before .before .before .before .before .before .before .before .before .before .before .before .args .marks .now) (c .before .before .before .before .before .before .before .before .before .before .before .before .before .before .before .before .before .before .before .before .before .before .before .before .before .before .args .wxs .now) (c .before .before .before .before .before .before .before .before .before .before .before .before .before .before .before .before .before .before .before .before .before .before .before .before .before .before .args .wys .now) (c .before .before .before .before .before .before .before .before .before .before .before .before .before .before .before .before .before .before .before .before .before .before .before .before .before .before .args .wcs .now) (c .before .before .before .before .before .before .before .before .before .before .before .before .before .before .before .before .before .before .before .before .before .before .before .before .before .before .args .x) (c .before .before .before .before .before .before .before .before .before .before .before .before .before .before .before .before .before .before .before .before .before .before .before .before .before .before .args .y) (c .before .before .before .before .before .before .before .before .before .before .before .before .before .before .before .before .before .before .before .before .before .before .before .before .before .before .args .c) a (c .before .before .before .before .before .before .before .before .before .before .before .before .before .before .before .before .before .before .before .before .before .before .before .before .before .before .args .heads .now) (c .before .before .before .before .before .before .before .before .before .before .before .before .before .before .before .before .before .before .before .before .before .before .before .before .before .before .args .nexts .now) (replicate STEPS 0) (replicate STEPS 0) (c .before .before .before .before .before .before .before .before .before .before .before .before .before .before .before .before .before .before .before .before .before .before .before .before .before .before .pre .1 .0)
+    let start = c .before .before .before .before .before .before .before .before .before .before .before .before .before .before .before .before .before .before .before .before .before .before .before in
+    let steps-fit = c .before .before .before .before .before .before .before .before .before .before .before .before .before .before .before .steps-fit in
+    let if1 = c .before .before .before .before .before .before .before .before .before .before .before .before .before .before .if1 in
+    let amount-fits = c .before .before .before .before .before .before .before .before .before .before .before .before .before .amount-fits in
+    let if2 = c .before .before .before .before .before .before .before .before .before .before .before .before .if2 in
+    let if3 = c .before .before .before .before .before .before .before .before .before .before .if3 in (
+      rw (toZ-ofZ w32 (start .args .c) (start .fits .c))
           (record {
-            none-yet = λ v h. getD-replicate STEPS v 0 0 (omega (arith, h, c .before .before .before .before .before .before .before .before .before .before .before .before .before .before .before .before .before .before .before .before .before .before .before .before .before .before .pre .0 .sound .counts-in .steps-in));
-            gains-room = omega (arith, length-replicate {A = ℕ} STEPS 0, c .before .before .before .before .before .before .before .before .before .before .before .before .before .before .before .before .before .before .before .before .before .before .before .before .before .before .pre .0 .sound .counts-in .steps-in);
-            by-room = omega (arith, length-replicate {A = ℕ} STEPS 0, c .before .before .before .before .before .before .before .before .before .before .before .before .before .before .before .before .before .before .before .before .before .before .before .before .before .before .pre .0 .sound .counts-in .steps-in);
-          })),
-      c .before .before .before .before .before .before .before .before .before .before .before .before .before .before .before .before .before .before .before .before .before .before .before .before .before .before .pre .1 .1,
+            base = start .pre .0;
+            new-good = record {
+              steps-in = steps-fit .ensures (start .args .c) .so (not-false _ (if1 .left));
+              amount-in = (rw (toZ-ofZ w32 (start .args .c) (start .fits .c)) at (amount-fits .ensures)) .so (not-false _ (if2 .left));
+            };
+            not-full = omega (arith, if3 .left);
+          }),
+      (no-gains (start .args .counts .steps) (start .pre .0 .ground .steps-in), start .pre .1),
     )
 
 same-length-5 : tie.Need-same-length-5
@@ -126,8 +172,9 @@ same-length-9 c = search needs
 
 returns-5 : tie.Need-returns-5
 returns-5 c =
-    (rw (toZ-ofZ w32 (c .before .before .before .before .before .before .before .before .before .before .before .before .before .before .before .before .before .before .before .before .before .before .before .before .before .before .before .before .before .before .before .before .before .before .before .before .before .before .args .c) (c .before .before .before .before .before .before .before .before .before .before .before .before .before .before .before .before .before .before .before .before .before .before .before .before .before .before .before .before .before .before .before .before .before .before .before .before .before .before .fits .c)) at (c .before .before .before .before .before .before .before .before .before .before .before .add-fine .ensures)) (c .before .before .before .before .before .before .before .before .before .before .before .before .before .before .before .before .before .before .before .before .before .before .before .before .before .before .before .before .before .before .before .before .before .before .before .before .before .before .args .marks .now) (c .before .before .before .before .before .before .before .before .before .before .before .before .before .before .before .before .before .before .before .before .before .before .before .before .before .before .before .before .before .before .before .before .before .before .before .before .before .before .args .wxs .now) (c .before .before .before .before .before .before .before .before .before .before .before .before .before .before .before .before .before .before .before .before .before .before .before .before .before .before .before .before .before .before .before .before .before .before .before .before .before .before .args .wys .now) (c .before .before .before .before .before .before .before .before .before .before .before .before .before .before .before .before .before .before .before .before .before .before .before .before .before .before .before .before .before .before .before .before .before .before .before .before .before .before .args .wcs .now)
-    (asked (c .before .before .before .before .before .before .before .before .before .before .before .before .before .before .before .before .before .before .before .before .before .before))
+    let start = c .before .before .before .before .before .before .before .before .before .before .before .before .before .before .before .before .before .before .before .before .before .before .before .before .before .before .before .before .before .before .before .before .before .before .before in
+    let add-fine = c .before .before .before .before .before .before .before .before .before .before .before .add-fine in
+    rw (toZ-ofZ w32 (start .args .c) (start .fits .c)) at (add-fine .ensures)
 
 pub add-spec : {M : Type 1} → statement M
 add-spec =
@@ -141,7 +188,9 @@ add-spec =
     cast-if3
     returns-3
     lack-requires
-    hold-requires
+    cast-write-rule
+    write-rule-requires
+    one-more-requires
     same-length
     same-length-2
     same-length-3

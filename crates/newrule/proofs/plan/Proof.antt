@@ -28,14 +28,14 @@ returns c =
 spread-one-requires : tie.Need-spread-one-requires
 spread-one-requires c κs =
     let l : Lack (c .before .before .before .before .before .before .before .before .before .before .before .args .days .now) (c .before .before .before .before .before .before .before .before .before .before .before .args .x) (c .before .before .before .before .before .before .before .before .before .before .before .args .y) (c .before .before .before .before .before .before .before .before .before .before .before .args .c) (c .before .before .before .lack .result) = rw (toZ-ofZ w32 (c .before .before .before .before .before .before .before .before .before .before .before .args .c) (c .before .before .before .before .before .before .before .before .before .before .before .fits .c)) at (c .before .before .before .lack .ensures) in (
-      c .before .before .before .before .before .before .before .before .before .before .before .pre .ground,
+      c .before .before .before .before .before .before .before .before .before .before .before .pre .base .ground,
       record {
-        step-in = c .before .before .before .before .before .before .before .before .before .before .before .pre .second-in;
+        step-in = c .before .before .before .before .before .before .before .before .before .before .before .pre .new-in .second-in;
         some = omega (arith, c .before .before .if1 .left);
         small = l .small;
-        none-yet = c .before .before .before .before .before .before .before .before .before .before .before .pre .none-yet;
-        gains-room = c .before .before .before .before .before .before .before .before .before .before .before .pre .gains-room;
-        by-room = c .before .before .before .before .before .before .before .before .before .before .before .pre .by-room;
+        none-yet = c .before .before .before .before .before .before .before .before .before .before .before .pre .no-gains .none-yet;
+        gains-room = c .before .before .before .before .before .before .before .before .before .before .before .pre .no-gains .gains-room;
+        by-room = c .before .before .before .before .before .before .before .before .before .before .before .pre .no-gains .by-room;
       },
     )
 
@@ -56,7 +56,7 @@ returns-2 c =
     let l : Lack (c .before .before .before .before .before .before .before .before .before .before .before .before .before .before .before .before .before .args .days .now) (c .before .before .before .before .before .before .before .before .before .before .before .before .before .before .before .before .before .args .x) (c .before .before .before .before .before .before .before .before .before .before .before .before .before .before .before .before .before .args .y) (c .before .before .before .before .before .before .before .before .before .before .before .before .before .before .before .before .before .args .c) (c .before .before .before .before .before .before .before .before .before .lack .result) = rw (toZ-ofZ w32 (c .before .before .before .before .before .before .before .before .before .before .before .before .before .before .before .before .before .args .c) (c .before .before .before .before .before .before .before .before .before .before .before .before .before .before .before .before .before .fits .c)) at (c .before .before .before .before .before .before .before .before .before .lack .ensures) in
     planned (c .before .before .before .before .before .before .before .before .before .before .before .before .before .before .before .before .before .args .n) (c .before .before .before .before .before .before .before .before .before .before .before .before .before .before .before .before .before .args .m) (c .before .before .before .before .before .before .before .before .before .before .before .before .before .before .before .before .before .args .xs .now) (c .before .before .before .before .before .before .before .before .before .before .before .before .before .before .before .before .before .args .ys .now) (c .before .before .before .before .before .before .before .before .before .before .before .before .before .before .before .before .before .args .cs .now) (c .before .before .before .before .before .before .before .before .before .before .before .before .before .before .before .before .before .args .days .now)
     (c .before .before .before .before .before .before .before .before .before .before .before .before .before .before .before .before .before .args .heads .now) (c .before .before .before .before .before .before .before .before .before .before .before .before .before .before .before .before .before .args .nexts .now) (c .before .before .before .before .before .before .before .before .before .before .before .before .before .before .before .before .before .args .gains .now) (c .before .before .before .before .before .before .before .before .before .before .before .before .before .before .before .before .before .args .by .now) (c .before .before .before .before .before .before .before .before .before .before .before .before .before .before .before .before .before .args .x) (c .before .before .before .before .before .before .before .before .before .before .before .before .before .before .before .before .before .args .y) (c .before .before .before .before .before .before .before .before .before .before .before .before .before .before .before .before .before .args .c)
-    (c .before .before .before .before .before .before .before .before .before .before .before .before .before .before .before .before .before .pre) (c .before .before .before .before .before .before .before .before .before .lack .result) (l .some (omega (arith, c .before .before .before .before .before .before .before .before .if1 .left))) _ _ _ (omega (arith, c .before .before .before .before .before .spread-one .kept .1 .1 .1 .1 .1 .1 .1 .1 .1 .1 .1 .1 .0, c .before .before .before .before .before .before .before .before .before .before .before .before .before .before .before .before .before .pre .by-room)) (c .before .before .before .before .before .spread-one .ensures)
+    (c .before .before .before .before .before .before .before .before .before .before .before .before .before .before .before .before .before .pre) (c .before .before .before .before .before .before .before .before .before .lack .result) (l .some (omega (arith, c .before .before .before .before .before .before .before .before .if1 .left))) _ _ _ (omega (arith, c .before .before .before .before .before .spread-one .kept .1 .1 .1 .1 .1 .1 .1 .1 .1 .1 .1 .1 .0, c .before .before .before .before .before .before .before .before .before .before .before .before .before .before .before .before .before .pre .no-gains .by-room)) (c .before .before .before .before .before .spread-one .ensures)
     _ (λ e. omega (arith, eqb-true, leb-true, ltb-true)) (λ e. omega (arith, eqb-false, leb-false, ltb-false))
 
 pub plan-spec : {M : Type 1} → statement M

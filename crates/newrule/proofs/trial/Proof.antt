@@ -2,16 +2,12 @@
 use Prim.Native.Nat.{ℕ, _≤_, _<_}
 use mathlib.Core.Path.{_≡_, refl}
 use mathlib.Core.Logic.{inl, inr}
-use lib.ListN.{replicate, getD-replicate, length-replicate}
 use mir.Syntax.{w32}
 use mir.ValLaws.{toZ-ofZ}
 use borrow.Author.Tests.{not-true, not-false}
-use Rattle.meaning.specs.Bounds.{STEPS, STEP, AMOUNT, FULL}
+use Rattle.meaning.specs.Bounds.{STEP, AMOUNT, FULL}
 use Rattle.meaning.proofs.Needs.{obeys-refused}
-use Rattle.meaning.proofs.Possible.{Asked}
-use Rattle.leaf.specs.Lent.{tables}
-use Rattle.leaf.specs.Promises.{rule}
-use Rattle.newrule.proofs.Answers.{ready}
+use Rattle.newrule.proofs.Answers.{no-gains}
 use native.Mathlib.Omega.{arith}
 use borrow.Author.Needs.{needs}
 use Rattle.newrule.proofs.trial.Statement.{statement}
@@ -30,24 +26,41 @@ steps-fit-requires c κs = search needs
 
 returns : tie.Need-returns
 returns c =
+    let start = c .before .before .before .before .before .before .before .before .before .before in
+    let steps-fit = c .before .steps-fit in
+    let if1 = c .if1 in
+    λ marks wxs wys wcs b.
     obeys-refused _ _ STEP (λ e. omega arith) (λ e. omega arith)
-    (inr ((c .before .before .before .before .before .before .before .before .before .before .before .before .before .pre .0 .room, c .before .before .before .before .before .before .before .before .before .before .before .before .before .pre .1 .1 .one-room, c .before .before .before .before .before .before .before .before .before .before .before .before .before .pre .1 .1 .two-room), inr (c .before .before .before .before .before .before .before .before .before .before .before .before .before .pre .0 .sound, inl (refl, c .before .steps-fit .ensures (c .before .before .before .before .before .before .before .before .before .before .before .before .before .args .c) .not-so (not-true _ (c .if1 .taken))))))
+    (inr ((b .room, start .pre .1 .one-room, start .pre .1 .two-room), inr (b .sound, inl (refl, steps-fit .ensures (start .args .c) .not-so (not-true _ (if1 .taken))))))
 
 amount-fits-requires : tie.Need-amount-fits-requires
 amount-fits-requires c κs = search needs
 
 returns-2 : tie.Need-returns-2
 returns-2 c =
+    let start = c .before .before .before .before .before .before .before .before .before .before .before .before in
+    let steps-fit = c .before .before .before .steps-fit in
+    let if1 = c .before .before .if1 in
+    let amount-fits = c .before .amount-fits in
+    let if2 = c .if2 in
+    λ marks wxs wys wcs b.
     obeys-refused _ _ AMOUNT (λ e. omega arith) (λ e. omega arith)
-    (inr ((c .before .before .before .before .before .before .before .before .before .before .before .before .before .before .before .pre .0 .room, c .before .before .before .before .before .before .before .before .before .before .before .before .before .before .before .pre .1 .1 .one-room, c .before .before .before .before .before .before .before .before .before .before .before .before .before .before .before .pre .1 .1 .two-room), inr (c .before .before .before .before .before .before .before .before .before .before .before .before .before .before .before .pre .0 .sound, inr (c .before .before .before .steps-fit .ensures (c .before .before .before .before .before .before .before .before .before .before .before .before .before .before .before .args .c) .so (not-false _ (c .before .before .if1 .left)), inl (refl, (rw (toZ-ofZ w32 (c .before .before .before .before .before .before .before .before .before .before .before .before .before .before .before .args .c) (c .before .before .before .before .before .before .before .before .before .before .before .before .before .before .before .fits .c)) at (c .before .amount-fits .ensures)) .not-so (not-true _ (c .if2 .taken)))))))
+    (inr ((b .room, start .pre .1 .one-room, start .pre .1 .two-room), inr (b .sound, inr (steps-fit .ensures (start .args .c) .so (not-false _ (if1 .left)), inl (refl, (rw (toZ-ofZ w32 (start .args .c) (start .fits .c)) at (amount-fits .ensures)) .not-so (not-true _ (if2 .taken)))))))
 
 cast-if3 : tie.Need-cast-if3
 cast-if3 c = search needs
 
 returns-3 : tie.Need-returns-3
 returns-3 c =
+    let start = c .before .before .before .before .before .before .before .before .before .before .before .before .before .before in
+    let steps-fit = c .before .before .before .before .before .steps-fit in
+    let if1 = c .before .before .before .before .if1 in
+    let amount-fits = c .before .before .before .amount-fits in
+    let if2 = c .before .before .if2 in
+    let if3 = c .if3 in
+    λ marks wxs wys wcs b.
     obeys-refused _ _ FULL (λ e. omega arith) (λ e. omega arith)
-    (inr ((c .before .before .before .before .before .before .before .before .before .before .before .before .before .before .before .before .before .pre .0 .room, c .before .before .before .before .before .before .before .before .before .before .before .before .before .before .before .before .before .pre .1 .1 .one-room, c .before .before .before .before .before .before .before .before .before .before .before .before .before .before .before .before .before .pre .1 .1 .two-room), inr (c .before .before .before .before .before .before .before .before .before .before .before .before .before .before .before .before .before .pre .0 .sound, inr (c .before .before .before .before .before .steps-fit .ensures (c .before .before .before .before .before .before .before .before .before .before .before .before .before .before .before .before .before .args .c) .so (not-false _ (c .before .before .before .before .if1 .left)), inr ((rw (toZ-ofZ w32 (c .before .before .before .before .before .before .before .before .before .before .before .before .before .before .before .before .before .args .c) (c .before .before .before .before .before .before .before .before .before .before .before .before .before .before .before .before .before .fits .c)) at (c .before .before .before .amount-fits .ensures)) .so (not-false _ (c .before .before .if2 .left)), inl (refl, λ h. omega arith))))))
+    (inr ((b .room, start .pre .1 .one-room, start .pre .1 .two-room), inr (b .sound, inr (steps-fit .ensures (start .args .c) .so (not-false _ (if1 .left)), inr ((rw (toZ-ofZ w32 (start .args .c) (start .fits .c)) at (amount-fits .ensures)) .so (not-false _ (if2 .left)), inl (refl, λ h. omega (arith, h, if3 .taken)))))))
 
 slice-aggregate-trial-fine : tie.Need-slice-aggregate-trial-fine
 slice-aggregate-trial-fine c = search needs
@@ -57,15 +70,22 @@ slice-aggregate-trial-fine-2 c = search needs
 
 trial-fine-requires : tie.Need-trial-fine-requires
 trial-fine-requires c κs =
-    let a : Asked (rule (c .before .before .before .before .before .before .before .before .before .before .before .before .before .before .before .before .before .before .before .before .before .args .x) (c .before .before .before .before .before .before .before .before .before .before .before .before .before .before .before .before .before .before .before .before .before .args .y) (c .before .before .before .before .before .before .before .before .before .before .before .before .before .before .before .before .before .before .before .before .before .args .c)) (tables (c .before .before .before .before .before .before .before .before .before .before .before .before .before .before .before .before .before .before .before .before .before .args .counts) (c .before .before .before .before .before .before .before .before .before .before .before .before .before .before .before .before .before .before .before .before .before .args .xs .now) (c .before .before .before .before .before .before .before .before .before .before .before .before .before .before .before .before .before .before .before .before .before .args .ys .now) (c .before .before .before .before .before .before .before .before .before .before .before .before .before .before .before .before .before .before .before .before .before .args .cs .now) (c .before .before .before .before .before .before .before .before .before .before .before .before .before .before .before .before .before .before .before .before .before .args .days .now) (c .before .before .before .before .before .before .before .before .before .before .before .before .before .before .before .before .before .before .before .before .before .args .marks .now) (c .before .before .before .before .before .before .before .before .before .before .before .before .before .before .before .before .before .before .before .before .before .args .wxs .now) (c .before .before .before .before .before .before .before .before .before .before .before .before .before .before .before .before .before .before .before .before .before .args .wys .now) (c .before .before .before .before .before .before .before .before .before .before .before .before .before .before .before .before .before .before .before .before .before .args .wcs .now)) = record { room = c .before .before .before .before .before .before .before .before .before .before .before .before .before .before .before .before .before .before .before .before .before .pre .0 .room; sound = c .before .before .before .before .before .before .before .before .before .before .before .before .before .before .before .before .before .before .before .before .before .pre .0 .sound; steps-in = c .before .before .before .before .before .before .before .before .before .steps-fit .ensures (c .before .before .before .before .before .before .before .before .before .before .before .before .before .before .before .before .before .before .before .before .before .args .c) .so (not-false _ (c .before .before .before .before .before .before .before .before .if1 .left)); amount-in = (rw (toZ-ofZ w32 (c .before .before .before .before .before .before .before .before .before .before .before .before .before .before .before .before .before .before .before .before .before .args .c) (c .before .before .before .before .before .before .before .before .before .before .before .before .before .before .before .before .before .before .before .before .before .fits .c)) at (c .before .before .before .before .before .before .before .amount-fits .ensures)) .so (not-false _ (c .before .before .before .before .before .before .if2 .left)); not-full = omega (arith, c .before .before .before .before .if3 .left) } in (
-      rw (toZ-ofZ w32 (c .before .before .before .before .before .before .before .before .before .before .before .before .before .before .before .before .before .before .before .before .before .args .c) (c .before .before .before .before .before .before .before .before .before .before .before .before .before .before .before .before .before .before .before .before .before .fits .c))
-          (ready (c .before .before .before .before .before .before .before .before .before .before .before .before .before .before .before .before .before .before .before .before .before .args .counts) (c .before .before .before .before .before .before .before .before .before .before .before .before .before .before .before .before .before .before .before .before .before .args .xs .now) (c .before .before .before .before .before .before .before .before .before .before .before .before .before .before .before .before .before .before .before .before .before .args .ys .now) (c .before .before .before .before .before .before .before .before .before .before .before .before .before .before .before .before .before .before .before .before .before .args .cs .now) (c .before .before .before .before .before .before .before .before .before .before .before .before .before .before .before .before .before .before .before .before .before .args .days .now) (c .before .before .before .before .before .before .before .before .before .before .before .before .before .before .before .before .before .before .before .before .before .args .marks .now) (c .before .before .before .before .before .before .before .before .before .before .before .before .before .before .before .before .before .before .before .before .before .args .wxs .now) (c .before .before .before .before .before .before .before .before .before .before .before .before .before .before .before .before .before .before .before .before .before .args .wys .now) (c .before .before .before .before .before .before .before .before .before .before .before .before .before .before .before .before .before .before .before .before .before .args .wcs .now) (c .before .before .before .before .before .before .before .before .before .before .before .before .before .before .before .before .before .before .before .before .before .args .x) (c .before .before .before .before .before .before .before .before .before .before .before .before .before .before .before .before .before .before .before .before .before .args .y) (c .before .before .before .before .before .before .before .before .before .before .before .before .before .before .before .before .before .before .before .before .before .args .c) a (c .before .before .before .before .before .before .before .before .before .before .before .before .before .before .before .before .before .before .before .before .before .args .heads .now) (c .before .before .before .before .before .before .before .before .before .before .before .before .before .before .before .before .before .before .before .before .before .args .nexts .now) (replicate STEPS 0) (replicate STEPS 0) (c .before .before .before .before .before .before .before .before .before .before .before .before .before .before .before .before .before .before .before .before .before .pre .1 .0)
+    let start = c .before .before .before .before .before .before .before .before .before .before .before .before .before .before .before .before .before .before in
+    let steps-fit = c .before .before .before .before .before .before .before .before .before .steps-fit in
+    let if1 = c .before .before .before .before .before .before .before .before .if1 in
+    let amount-fits = c .before .before .before .before .before .before .before .amount-fits in
+    let if2 = c .before .before .before .before .before .before .if2 in
+    let if3 = c .before .before .before .before .if3 in (
+      rw (toZ-ofZ w32 (start .args .c) (start .fits .c))
           (record {
-            none-yet = λ v h. getD-replicate STEPS v 0 0 (omega (arith, h, c .before .before .before .before .before .before .before .before .before .before .before .before .before .before .before .before .before .before .before .before .before .pre .0 .sound .counts-in .steps-in));
-            gains-room = omega (arith, length-replicate {A = ℕ} STEPS 0, c .before .before .before .before .before .before .before .before .before .before .before .before .before .before .before .before .before .before .before .before .before .pre .0 .sound .counts-in .steps-in);
-            by-room = omega (arith, length-replicate {A = ℕ} STEPS 0, c .before .before .before .before .before .before .before .before .before .before .before .before .before .before .before .before .before .before .before .before .before .pre .0 .sound .counts-in .steps-in);
-          })),
-      c .before .before .before .before .before .before .before .before .before .before .before .before .before .before .before .before .before .before .before .before .before .pre .1 .1,
+            base = start .pre .0;
+            new-good = record {
+              steps-in = steps-fit .ensures (start .args .c) .so (not-false _ (if1 .left));
+              amount-in = (rw (toZ-ofZ w32 (start .args .c) (start .fits .c)) at (amount-fits .ensures)) .so (not-false _ (if2 .left));
+            };
+            not-full = omega (arith, if3 .left);
+          }),
+      (no-gains (start .args .counts .steps) (start .pre .0 .ground .steps-in), start .pre .1),
     )
 
 same-length : tie.Need-same-length
@@ -76,8 +96,9 @@ same-length-2 c = search needs
 
 returns-4 : tie.Need-returns-4
 returns-4 c =
-    (rw (toZ-ofZ w32 (c .before .before .before .before .before .before .before .before .before .before .before .before .before .before .before .before .before .before .before .before .before .before .before .before .before .before .before .before .args .c) (c .before .before .before .before .before .before .before .before .before .before .before .before .before .before .before .before .before .before .before .before .before .before .before .before .before .before .before .before .fits .c)) at (c .before .before .before .before .before .before .trial-fine .ensures)) (c .before .before .before .before .before .before .before .before .before .before .before .before .before .before .before .before .before .before .before .before .before .before .before .before .before .before .before .before .args .marks .now) (c .before .before .before .before .before .before .before .before .before .before .before .before .before .before .before .before .before .before .before .before .before .before .before .before .before .before .before .before .args .wxs .now) (c .before .before .before .before .before .before .before .before .before .before .before .before .before .before .before .before .before .before .before .before .before .before .before .before .before .before .before .before .args .wys .now) (c .before .before .before .before .before .before .before .before .before .before .before .before .before .before .before .before .before .before .before .before .before .before .before .before .before .before .before .before .args .wcs .now)
-    (record { room = c .before .before .before .before .before .before .before .before .before .before .before .before .before .before .before .before .before .before .before .before .before .before .before .before .before .before .before .before .pre .0 .room; sound = c .before .before .before .before .before .before .before .before .before .before .before .before .before .before .before .before .before .before .before .before .before .before .before .before .before .before .before .before .pre .0 .sound; steps-in = c .before .before .before .before .before .before .before .before .before .before .before .before .before .before .before .before .steps-fit .ensures (c .before .before .before .before .before .before .before .before .before .before .before .before .before .before .before .before .before .before .before .before .before .before .before .before .before .before .before .before .args .c) .so (not-false _ (c .before .before .before .before .before .before .before .before .before .before .before .before .before .before .before .if1 .left)); amount-in = (rw (toZ-ofZ w32 (c .before .before .before .before .before .before .before .before .before .before .before .before .before .before .before .before .before .before .before .before .before .before .before .before .before .before .before .before .args .c) (c .before .before .before .before .before .before .before .before .before .before .before .before .before .before .before .before .before .before .before .before .before .before .before .before .before .before .before .before .fits .c)) at (c .before .before .before .before .before .before .before .before .before .before .before .before .before .before .amount-fits .ensures)) .so (not-false _ (c .before .before .before .before .before .before .before .before .before .before .before .before .before .if2 .left)); not-full = omega (arith, c .before .before .before .before .before .before .before .before .before .before .before .if3 .left) })
+    let start = c .before .before .before .before .before .before .before .before .before .before .before .before .before .before .before .before .before .before .before .before .before .before .before .before .before in
+    let trial-fine = c .before .before .before .before .before .before .trial-fine in
+    rw (toZ-ofZ w32 (start .args .c) (start .fits .c)) at (trial-fine .ensures)
 
 pub trial-spec : {M : Type 1} → statement M
 trial-spec =
