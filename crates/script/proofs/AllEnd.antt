@@ -22,11 +22,12 @@ use Rattle.script.specs.Whole.{error-line, rest, command-at, after-comma
 use Rattle.script.specs.ByCalls.{CallsAt, Goes, RunsByCalls}
 use Rattle.script.proofs.Granted.{granted}
 use Rattle.script.proofs.Naming.{declared-in-form}
-use Rattle.script.proofs.Keeping.{Fine, other-fine, does-fine}
+use Rattle.script.proofs.Keeping.{Fine, does-fine}
 use Rattle.script.proofs.InForce.{fresh-fine}
 use Rattle.script.proofs.Calling.{start-fresh}
 use Rattle.script.proofs.Playing.{blank-fresh}
 use Rattle.script.proofs.Decided.{first-told, command-told}
+use Rattle.script.proofs.ByCalls.{call-fine}
 use Rattle.script.proofs.Possible.{does-some, command-possible, start-met}
 
 module _ (s : List ℕ) where
@@ -123,9 +124,7 @@ module _ (s : List ℕ) where
       by-exit done false is =
           let r = granted (rest s i) (with-out out l) (subst (First (command-meaning (rest s i) (with-out out l) .asks)) done (x .keeps .first-unmet)) in
           let d = x .keeps .when-done done in
-          let fine : Fine (x .after) =
-          does-fine (form (command-at s i)) (command-at s i) 0 (x .answer .two) (with-out out l) (x .after) (other-fine out l f) (λ a b e. declared-in-form (command-at s i) a b e) (r .met) (d .done) in
-          let y = on (r .spans) (x .after) fine in
+          let y = on (r .spans) (x .after) (call-fine s i l (x .answer) (x .after) calls done f) in
           record {
             number = y .number;
             bytes = take (x .answer .two) (x .after .out) ++ y .bytes;

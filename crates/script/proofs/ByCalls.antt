@@ -7,7 +7,7 @@ use mathlib.Core.Path.{_≡_, refl, sym, _∙_, ap, subst}
 use mathlib.Core.List.{List, [], _++_}
 use mathlib.Core.Logic.{_⊎_, inl, inr}
 use lib.ListN.{length, take, replicate, length-append, length-replicate}
-use Rattle.meaning.specs.Bounds.{ROOM, TEXT, DONE, SHORT, CONFLICT, SYNTAX}
+use Rattle.meaning.specs.Bounds.{ROOM, TEXT, DONE, SHORT, DAMAGED, CONFLICT, SYNTAX}
 use Rattle.meaning.specs.Promise.{Given, First, bare}
 use Rattle.meaning.proofs.Needs.{obeys-refused}
 use Rattle.text.specs.Lexicon.{END, token-at}
@@ -21,8 +21,8 @@ use Rattle.script.specs.Commands.{own, command-needs, command-meaning, s
 use Rattle.script.specs.Traces.{with-out}
 use Rattle.script.specs.Whole.{error-line, rest, command-at, after-command, Plays, Fresh, blank, RunsScript}
 use Rattle.script.specs.ByCalls.{CallsAt, Goes, RunsByCalls}
-use Rattle.script.proofs.Granted.{start-granted}
-use Rattle.script.proofs.Refusing.{never-conflict}
+use Rattle.script.proofs.Granted.{start-granted, granted}
+use Rattle.script.proofs.Refusing.{never-short, never-damaged, never-conflict}
 use Rattle.script.proofs.Naming.{declared-in-form}
 use Rattle.script.proofs.Keeping.{Fine, other-fine, does-fine}
 use Rattle.script.proofs.Printing.{printed, does-printed, printed-room, written-part}
@@ -89,6 +89,27 @@ beside t l p a f g room met met′ k v w m q does does′ =
 -- ---- from the calls to the script
 
 module _ (s : List ℕ) where
+  -- A command call that is carried out leaves what is sound.
+  pub call-fine : (i : ℕ) (l : Lent) (a : Given) (m : Lent) → CallsAt s i l a m → a .number ≡ DONE → Fine l → Fine m
+  call-fine i l a m c done f =
+      let r = granted (rest s i) (with-out (c .out) l) (subst (First (command-meaning (rest s i) (with-out (c .out) l) .asks)) done (c .keeps .first-unmet)) in
+      does-fine (form (command-at s i)) (command-at s i) 0 (a .two) (with-out (c .out) l) m (other-fine (c .out) l f) (λ x y e. declared-in-form (command-at s i) x y e) (r .met) (c .keeps .when-done done .done)
+
+  -- So no call of a caller is SHORT or DAMAGED.
+  goes-apart : (i : ℕ) (l : Lent) (g : ℕ) (b : List ℕ) → Goes s i l g b → Fine l → (g ≡ SHORT → ⊥) × (g ≡ DAMAGED → ⊥)
+  goes-apart i l g b (Goes.at-end _ _ over-here) f = ((λ e. omega (arith, e)), (λ e. omega (arith, e)))
+  goes-apart i l g b (Goes.refused _ _ a m c refuses) f =
+      tell (judged (rest s i) (with-out (c .out) l) (other-fine (c .out) l f) (c .room) (a .number) (c .keeps .first-unmet))
+    where
+      tell : Judged (rest s i) (with-out (c .out) l) (other-fine (c .out) l f) (c .room) (a .number) → (a .number ≡ SHORT → ⊥) × (a .number ≡ DAMAGED → ⊥)
+      tell (inl (syntax, none)) = ((λ e. omega (arith, syntax, e)), (λ e. omega (arith, syntax, e)))
+      tell (inr (spans, unmet)) = (
+        never-short (form (command-at s i)) (command-at s i) (with-out (c .out) l) (a .number) unmet,
+        never-damaged (form (command-at s i)) (command-at s i) (with-out (c .out) l) (a .number) unmet,
+      )
+  goes-apart i l g b (Goes.exited _ _ a m c done exit) f = ((λ e. omega (arith, e)), (λ e. omega (arith, e)))
+  goes-apart i l g b (Goes.goes-on _ _ a m c done stays _ d on) f = goes-apart _ m g d on (call-fine i l a m c done f)
+
   -- A command call that is carried out, beside a play of the script that has come to the same place.
   record Follows (i : ℕ) (l : Lent) (a : Given) (m p : Lent) (k : ℕ) : Type 0 where
     spans : 1 ≤ span (rest s i)
@@ -150,7 +171,7 @@ module _ (s : List ℕ) where
       let many : k + x .w + length b₁ ≡ k + length (b₀ ++ b₁) = omega (arith, length-append b₀ b₁, x .both .as-many) in
       let end : over (x .q .out) (k + x .w) b₁ ≡ over (p .out) k (b₀ ++ b₁) =
       ap (λ (o : List ℕ). over o (k + x .w) b₁) (x .both .there) ∙ ap (λ (n : ℕ). over (over (p .out) k b₀) (k + n) b₁) (x .both .as-many) ∙ over-append (p .out) k b₀ b₁ in
-      let then = goes-plays (token-at s i .from + a .one) m g b₁ on (x .q) (k + x .w) (x .both .left-alike) (x .both .call-fine) (x .both .play-fine)
+      let then = goes-plays _ m g b₁ on (x .q) (k + x .w) (x .both .left-alike) (x .both .call-fine) (x .both .play-fine)
       (omega (arith, room, many, ap length (x .both .there), length-over (p .out) k b₀)) in
       let there : Plays s (after-command s i) (x .q) (k + x .w) g (k + x .w + length b₁) (over (x .q .out) (k + x .w) b₁) =
       subst (λ (n : ℕ). Plays s (token-at s i .from + n) (x .q) (k + x .w) g (k + x .w + length b₁) (over (x .q .out) (k + x .w) b₁)) (x .read) then in
@@ -255,6 +276,10 @@ module _ (s : List ℕ) where
       }
 
 -- ---- whole scripts
+
+-- **SHORT and DAMAGED are no end of a caller's script.**
+pub caller-apart : (s : List ℕ) (l : Lent) (g : ℕ) (b : List ℕ) → RunsByCalls s l g b → (g ≡ SHORT → ⊥) × (g ≡ DAMAGED → ⊥)
+caller-apart s l g b x = goes-apart s 0 (x .after) g b (x .goes) (fresh-fine (x .after) (start-fresh l (x .answer) (x .after) (x .started) (x .accepted)))
 
 -- **What a caller prints, and the number he ends with, are those of the whole script**, for a script of at most TEXT bytes and where there are bytes enough.
 pub calls-run :
