@@ -1,4 +1,4 @@
-# What the scripts of this folder share: installing what is missing, and building programs of Rust and C for x86-64, and of Rust for
+# What the scripts of this folder share: installing what is missing, and building and running programs of Rust and C for x86-64, and of Rust for
 # this machine. It is read by `.` from the top of the repository and runs nothing by itself.
 
 # The crate whose archive holds the exported entry, and the program's crate.
@@ -10,6 +10,11 @@ machine=$(uname -m)
 left_out=''
 
 say() { printf 'host: %s\n' "$*"; }
+
+die() {
+    say "$*"
+    exit 1
+}
 
 # Notes what could not be had, for the end of the run.
 leave_out() { # WORDS
@@ -42,60 +47,87 @@ fresh() { # FILE
 # Makes the library's archive ready. Not 0 where it is not proved.
 need_archive() { fresh "$ARCHIVE" || rt staticlib "$ENTRY"; }
 
-# An emulated processor that says nothing of fast string moves: the emulator does these byte by byte, and the tests copy and compare whole tables.
-export QEMU_CPU=${QEMU_CPU:-max,-erms,-fsrm}
-
-# Debian's own rustc, which alone knows Debian's x86-64 standard library.
-debian_rustc() { dpkg -L rustc 2>/dev/null | grep -m 1 'bin/rustc$'; }
-
-# Makes ready what builds and runs x86-64 Rust programs here. Not 0 where that cannot be had.
-need_x86_64() {
-    if [ "$machine" = x86_64 ]; then need_native; return; fi
-    if [ -n "$(debian_rustc)" ] && command -v x86_64-linux-gnu-gcc >/dev/null && command -v qemu-x86_64 >/dev/null &&
-        dpkg -s libstd-rust-dev:amd64 libc6-dev:amd64 >/dev/null 2>&1; then return 0; fi
-    get_packages rustc libstd-rust-dev:amd64 gcc-x86-64-linux-gnu libc6-dev:amd64 qemu-user
-}
-
-# Makes ready a rustc for this machine, with a linker.
-need_native() {
-    if ! native_rustc >/dev/null; then get_packages rustc || return; fi
-    command -v cc >/dev/null || get_packages gcc libc6-dev
-}
-
-# Prints the rustc that builds for this machine: the one on the path, else Debian's.
-native_rustc() { command -v rustc || { [ -n "$(debian_rustc)" ] && debian_rustc; }; }
-
 # Makes a peer ready. Not 0 where it cannot be had.
 need_peer() { # z3 or cvc5
     command -v "$1" >/dev/null || get_packages "$1"
 }
 
-# Builds a Rust program for x86-64. It is static: on Arm the emulator runs no other.
-build_x86_64() { # SOURCE OUT WORDS..
-    local source=$1 out=$2
-    shift 2
-    if [ "$machine" = x86_64 ]; then
-        "$(native_rustc)" --edition 2021 -O "$@" "$source" -o "$out"
-    else
-        "$(debian_rustc)" --edition 2021 -O --target x86_64-unknown-linux-gnu -C linker=x86_64-linux-gnu-gcc \
-            -C target-feature=+crt-static "$@" "$source" -o "$out"
-    fi
-}
+# An emulated processor that says nothing of fast string moves: the emulator does these byte by byte, and the tests copy and compare whole tables.
+export QEMU_CPU=${QEMU_CPU:-max,-erms,-fsrm}
 
-# Builds a Rust program for this machine.
-build_native() { # SOURCE OUT WORDS..
-    local source=$1 out=$2
-    shift 2
-    "$(native_rustc)" --edition 2021 -O "$@" "$source" -o "$out"
-}
-
-# Runs a static x86-64 program.
+# Runs an x86-64 program; on Arm a static one, the emulator runs no other.
 run_x86_64() { # PROGRAM WORDS..
     if [ "$machine" = x86_64 ]; then "$@"; else qemu-x86_64 "$@"; fi
 }
 
-# Runs a program of this machine.
-run_native() { "$@"; }
+# Debian's own rustc and cargo: that rustc alone knows Debian's x86-64 standard library, and that cargo alone drives it.
+debian_rustc() { dpkg -L rustc 2>/dev/null | grep -m 1 'bin/rustc$'; }
+debian_cargo() { dpkg -L cargo 2>/dev/null | grep -m 1 '^/usr/bin/cargo$'; }
+have_debian_rust() { [ -n "$(debian_rustc)" ] && [ -n "$(debian_cargo)" ]; }
+
+# The rustc and cargo that build for this machine: those on the path where both are there, else Debian's.
+have_own_rust() { command -v rustc && command -v cargo; } >/dev/null
+native_rustc() { if have_own_rust; then command -v rustc; else debian_rustc; fi; }
+native_cargo() { if have_own_rust; then command -v cargo; else debian_cargo; fi; }
+
+# Makes ready what builds Rust programs for this machine. Not 0 where that cannot be had.
+need_native() {
+    have_own_rust || have_debian_rust || get_packages rustc cargo || return
+    command -v cc >/dev/null || get_packages gcc libc6-dev
+}
+
+# Makes ready what builds and runs x86-64 Rust programs here. Not 0 where that cannot be had.
+need_x86_64() {
+    if [ "$machine" = x86_64 ]; then need_native; return; fi
+    if have_debian_rust && command -v x86_64-linux-gnu-gcc >/dev/null && command -v qemu-x86_64 >/dev/null &&
+        dpkg -s libstd-rust-dev:amd64 libc6-dev:amd64 >/dev/null 2>&1; then return 0; fi
+    get_packages rustc cargo libstd-rust-dev:amd64 gcc-x86-64-linux-gnu libc6-dev:amd64 qemu-user
+}
+
+# Runs cargo for this machine.
+cargo_native() { # WORDS..
+    RUSTC=$(native_rustc) "$(native_cargo)" "$@"
+}
+
+# Runs cargo for x86-64. The words come after its command.
+cargo_x86_64() { # COMMAND WORDS..
+    local command=$1
+    shift
+    if [ "$machine" = x86_64 ]; then
+        cargo_native "$command" "$@"
+    else
+        RUSTC=$(debian_rustc) CARGO_TARGET_X86_64_UNKNOWN_LINUX_GNU_LINKER=x86_64-linux-gnu-gcc CARGO_TARGET_X86_64_UNKNOWN_LINUX_GNU_RUNNER=qemu-x86_64 \
+            CARGO_TARGET_X86_64_UNKNOWN_LINUX_GNU_RUSTFLAGS='-C target-feature=+crt-static' \
+            "$(debian_cargo)" "$command" --target x86_64-unknown-linux-gnu "$@"
+    fi
+}
+
+# What cargo is told at each command over the workspace, and where the programs are that it builds with these words.
+WORKSPACE=(--quiet --locked --offline --release --manifest-path host/Cargo.toml --target-dir "target/host/cargo-$machine")
+BUILT_NATIVE=target/host/cargo-$machine/release
+BUILT_X86_64=$BUILT_NATIVE
+[ "$machine" = x86_64 ] || BUILT_X86_64=target/host/cargo-$machine/x86_64-unknown-linux-gnu/release
+
+# Builds a member of the workspace for this machine, or for x86-64.
+build_native() { # MEMBER WORDS..
+    cargo_native build "${WORKSPACE[@]}" -p "$@"
+}
+build_x86_64() { # MEMBER WORDS..
+    cargo_x86_64 build "${WORKSPACE[@]}" -p "$@"
+}
+
+# Runs the examples in the comments of a library among the members, which is built, as x86-64 programs. On Arm cargo would leave them out.
+test_docs_x86_64() { # MEMBER
+    local words=(--edition 2021 --test --crate-name "$1" --extern "$1=$BUILT_X86_64/lib$1.rlib" "host/$1/src/lib.rs") rustc
+    if [ "$machine" = x86_64 ]; then
+        rustc=$(native_rustc)
+        "${rustc%rustc}rustdoc" "${words[@]}"
+    else
+        rustc=$(debian_rustc)
+        RUSTC_BOOTSTRAP=1 "${rustc%rustc}rustdoc" -Z unstable-options --target x86_64-unknown-linux-gnu --runtool qemu-x86_64 \
+            -C linker=x86_64-linux-gnu-gcc -C target-feature=+crt-static "${words[@]}"
+    fi
+}
 
 # Makes ready what builds and runs x86-64 programs of C and C++ here. Not 0 where that cannot be had.
 need_c_x86_64() {
@@ -117,40 +149,4 @@ build_c_x86_64() { # STANDARD SOURCE OUT WORDS..
     local words=(-O2 -Wall -Wextra -Wpedantic -Wconversion -Wshadow -Werror)
     [ "$machine" = x86_64 ] || { compiler=x86_64-linux-gnu-$compiler && words+=(-static); }
     "$compiler" -std="$standard" "${words[@]}" -x "$language" "$source" -x none "$@" -o "$out"
-}
-
-# Runs the examples in the comments of a Rust source, as x86-64 programs.
-test_docs_x86_64() { # SOURCE WORDS..
-    local source=$1 rustc
-    shift
-    if [ "$machine" = x86_64 ]; then
-        rustc=$(native_rustc)
-        "${rustc%rustc}rustdoc" --edition 2021 --test "$@" "$source"
-    else
-        rustc=$(debian_rustc)
-        RUSTC_BOOTSTRAP=1 "${rustc%rustc}rustdoc" --edition 2021 --test -Z unstable-options --target x86_64-unknown-linux-gnu --runtool qemu-x86_64 \
-            -C linker=x86_64-linux-gnu-gcc -C target-feature=+crt-static "$@" "$source"
-    fi
-}
-
-# Debian's own cargo, which alone drives Debian's rustc.
-debian_cargo() { dpkg -L cargo 2>/dev/null | grep -m 1 '^/usr/bin/cargo$'; }
-
-# Makes ready a cargo that builds for x86-64. Not 0 where that cannot be had.
-need_cargo_x86_64() {
-    if [ "$machine" = x86_64 ] && command -v cargo >/dev/null; then return 0; fi
-    [ -n "$(debian_cargo)" ] || get_packages cargo
-}
-
-# Runs cargo for x86-64. The words come after its command.
-cargo_x86_64() { # COMMAND WORDS..
-    local command=$1
-    shift
-    if [ "$machine" = x86_64 ]; then
-        "$(command -v cargo || debian_cargo)" "$command" "$@"
-    else
-        RUSTC=$(debian_rustc) CARGO_TARGET_X86_64_UNKNOWN_LINUX_GNU_LINKER=x86_64-linux-gnu-gcc CARGO_TARGET_X86_64_UNKNOWN_LINUX_GNU_RUNNER=qemu-x86_64 \
-            CARGO_TARGET_X86_64_UNKNOWN_LINUX_GNU_RUSTFLAGS='-C target-feature=+crt-static' \
-            "$(debian_cargo)" "$command" --target x86_64-unknown-linux-gnu "$@"
-    fi
 }

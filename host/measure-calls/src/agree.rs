@@ -1,0 +1,107 @@
+//! Holds the calls written by hand against the library: the same number, values, counts, tables and lists after every call, over random
+//! sequences of calls, with spoiled and short tables among them.
+
+use crate::office::{Call, Office, BY_HAND, LIBRARY};
+use common::Random;
+use planner::calls::Rule;
+
+const SEQUENCES: u64 = 600;
+const CALLS: usize = 60;
+
+/// Carries a call out by both engines, on copies, and stops the run where they differ. Gives back what the library left, and its number.
+pub fn both(office: &Office, call: Call) -> (Office, u32) {
+    let (mut ours, mut theirs) = (office.clone(), office.clone());
+    let (wanted, got) = (ours.carry(&LIBRARY, call), theirs.carry(&BY_HAND, call));
+    assert!(wanted == got && ours == theirs, "{:?}: the library gives {:?}, the calls by hand {:?}; tables are equal: {}", call, wanted, got, ours == theirs);
+    (ours, wanted.number)
+}
+
+/// Returns how many calls were compared, and how many of them gave each number from DONE to NOMARK.
+pub fn check() -> (usize, [usize; 8]) {
+    let (mut compared, mut given) = (0, [0; 8]);
+    for seed in 0..SEQUENCES {
+        let random = &mut Random::new(seed);
+        let steps = if seed % 8 == 0 { 1 + random.below(256) } else { 1 + random.below(9) };
+        let mut office = Office::new(steps);
+        if seed % 5 == 0 {
+            fill(&mut office, random);
+        }
+        for _ in 0..CALLS {
+            let call = any_call(steps, random);
+            let number = if random.chance(120) {
+                both(&spoiled(&office, random), call).1
+            } else {
+                let (after, number) = both(&office, call);
+                office = after;
+                number
+            };
+            compared += 1;
+            given[number as usize] += 1;
+        }
+    }
+    assert!(given.iter().all(|count| *count > 0), "some number was never given: {:?}", given);
+    (compared, given)
+}
+
+/// Brings one table to its bound, or near it.
+fn fill(office: &mut Office, random: &mut Random) {
+    let last = office.counts.steps as usize - 1;
+    let loose = Rule { first: 0, second: last as u32, amount: 1_000_000 };
+    match random.below(3) {
+        0 => (0..4096 - random.below(3)).for_each(|_| office.hold(loose)),
+        1 => (0..1024 - random.below(3)).for_each(|_| office.watch(loose)),
+        _ => office.counts.marks = 64 - random.below(3) as u32,
+    }
+}
+
+fn any_call(steps: usize, random: &mut Random) -> Call {
+    match random.below(24) {
+        0..=9 => Call::Add(any_rule(steps, random)),
+        10..=13 => Call::Trial(any_rule(steps, random)),
+        14..=16 => Call::Watch(any_rule(steps, random)),
+        17..=18 => Call::Mark,
+        19..=20 => Call::Back,
+        21 if random.chance(150) => Call::Open(random.pick(&[0, steps as u32, 257])),
+        _ => Call::Consequences,
+    }
+}
+
+/// A rule over the steps, now and then one that is out of bounds.
+fn any_rule(steps: usize, random: &mut Random) -> Rule {
+    let last = steps as i64 - 1;
+    let past = i64::from(random.chance(15));
+    let amount = match random.below(12) {
+        0 => random.pick(&[-1_000_001, -1_000_000, 1_000_000, 1_000_001, i32::MIN, i32::MAX]),
+        _ => random.between(-9, 9 + last) as i32,
+    };
+    Rule { first: random.between(0, last + past) as u32, second: random.between(0, last + past) as u32, amount }
+}
+
+/// The office with one thing spoiled: a count, a cell, or a table or list with a place too few.
+fn spoiled(office: &Office, random: &mut Random) -> Office {
+    let mut spoiled = office.clone();
+    let number = random.pick(&[0u32, 1, 2, 5, 64, 65, 256, 257, 1024, 1025, 4096, 4097, u32::MAX]);
+    let place = random.below(12);
+    match random.below(20) {
+        0 => spoiled.counts.steps = number,
+        1 => spoiled.counts.rules = number,
+        2 => spoiled.counts.marks = number,
+        3 => spoiled.counts.watched = number,
+        4 => spoiled.xs[place] = number as u16,
+        5 => spoiled.ys[place] = number as u16,
+        6 => spoiled.cs[place] = number as i32,
+        7 | 8 => spoiled.days[place] = spoiled.days[place].wrapping_add(1),
+        9 => spoiled.days[place] = number,
+        10 => spoiled.marks[place] = number,
+        11 => spoiled.wxs[place] = number as u16,
+        12 => spoiled.wcs[place] = number as i32,
+        13 => spoiled.xs.truncate(4095),
+        14 => spoiled.cs.truncate(4095),
+        15 => spoiled.days.truncate(255),
+        16 => spoiled.marks.truncate(63),
+        17 => spoiled.wys.truncate(1023),
+        18 => spoiled.one.truncate(random.below(257)),
+        _ => spoiled.two.truncate(random.below(257)),
+    }
+    spoiled
+}

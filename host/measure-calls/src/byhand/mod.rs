@@ -1,0 +1,225 @@
+//! The calls written by hand in Rust, as a baseline: the same tables, the same checks, the same way of working as the proved library has, in
+//! plain safe Rust. `agree.rs` holds them against the library.
+
+mod chains;
+mod sound;
+mod split;
+mod spread;
+mod waiting;
+
+use chains::Chains;
+use planner::bounds::{MARKS, RULES, STEPS, WATCHED};
+use planner::calls::{Counts, Rule, Tables};
+use spread::Spread;
+
+/// The numbers given back.
+pub const DONE: u32 = 0;
+const SHORT: u32 = 1;
+const DAMAGED: u32 = 2;
+const STEP: u32 = 3;
+const AMOUNT: u32 = 4;
+pub const FULL: u32 = 5;
+pub const CONFLICT: u32 = 6;
+const NOMARK: u32 = 7;
+
+/// Tests the room and the tables; `chains` gets the rules held.
+fn test(counts: &Counts, t: &Tables, chains: &mut Chains<RULES>) -> Result<(), u32> {
+    if !sound::has_room(t) {
+        return Err(SHORT);
+    }
+    if !sound::is_sound(counts, t, chains) {
+        return Err(DAMAGED);
+    }
+    Ok(())
+}
+
+/// Tests whether a rule can be asked for where `count` places of `places` are taken.
+fn test_rule(counts: &Counts, rule: Rule, count: u32, places: usize) -> Result<(), u32> {
+    if !sound::steps_fit(counts.steps, rule) {
+        return Err(STEP);
+    }
+    if !sound::amount_fits(rule.amount) {
+        return Err(AMOUNT);
+    }
+    if count as usize >= places {
+        return Err(FULL);
+    }
+    Ok(())
+}
+
+/// The number given back.
+fn number(outcome: Result<(), u32>) -> u32 {
+    outcome.err().unwrap_or(DONE)
+}
+
+pub fn open(counts: &mut Counts, t: &mut Tables, steps: u32) -> u32 {
+    if !sound::has_room(t) {
+        return SHORT;
+    }
+    if steps < 1 || steps as usize > STEPS {
+        return STEP;
+    }
+    t.days[..steps as usize].fill(0);
+    *counts = Counts { steps, rules: 0, marks: 0, watched: 0 };
+    DONE
+}
+
+pub fn watch(counts: &mut Counts, t: &mut Tables, rule: Rule) -> u32 {
+    number(try_watch(counts, t, rule))
+}
+
+fn try_watch(counts: &mut Counts, t: &mut Tables, rule: Rule) -> Result<(), u32> {
+    test(counts, t, &mut Chains::new())?;
+    test_rule(counts, rule, counts.watched, WATCHED)?;
+    let at = counts.watched as usize;
+    t.wxs[at] = rule.first as u16;
+    t.wys[at] = rule.second as u16;
+    t.wcs[at] = rule.amount;
+    counts.watched += 1;
+    Ok(())
+}
+
+pub fn mark(counts: &mut Counts, t: &mut Tables) -> u32 {
+    number(try_mark(counts, t))
+}
+
+fn try_mark(counts: &mut Counts, t: &mut Tables) -> Result<(), u32> {
+    test(counts, t, &mut Chains::new())?;
+    if counts.marks as usize >= MARKS {
+        return Err(FULL);
+    }
+    t.marks[counts.marks as usize] = counts.rules;
+    counts.marks += 1;
+    Ok(())
+}
+
+pub fn back(counts: &mut Counts, t: &mut Tables) -> u32 {
+    number(try_back(counts, t))
+}
+
+fn try_back(counts: &mut Counts, t: &mut Tables) -> Result<(), u32> {
+    test(counts, t, &mut Chains::new())?;
+    if counts.marks == 0 {
+        return Err(NOMARK);
+    }
+    let mark = t.marks[counts.marks as usize - 1];
+    if mark < counts.rules {
+        plan_afresh(counts.steps as usize, mark as usize, t);
+    }
+    counts.marks -= 1;
+    counts.rules = mark;
+    Ok(())
+}
+
+/// Brings the days, which keep the first `rules` rules, to the earliest plan of these: every step is asked to reach the latest day, and all are then
+/// brought back by it.
+fn plan_afresh(steps: usize, rules: usize, t: &mut Tables) {
+    let chains = Chains::of_all(&t.xs[..rules]);
+    let days = &t.days[..steps];
+    let latest = days.iter().copied().max().map_or(0, i64::from);
+    let mut spread = Spread::new(days, t.ys, t.cs, &chains);
+    for (step, &day) in days.iter().enumerate() {
+        if i64::from(day) < latest {
+            spread.ask(step, latest - i64::from(day));
+        }
+    }
+    spread.run(None);
+    let gains = spread.gains;
+    for (day, gain) in t.days[..steps].iter_mut().zip(gains) {
+        *day = (i64::from(*day) + gain - latest) as u32;
+    }
+}
+
+/// What the days lack for a rule; 0 or less where they keep it.
+fn lack(days: &[u32], rule: Rule) -> i64 {
+    i64::from(days[rule.first as usize]) - i64::from(rule.amount) - i64::from(days[rule.second as usize])
+}
+
+/// Spreads what the days lack for a rule. True where the rule fits; else the gain has reached its first step.
+fn fits(spread: &mut Spread, rule: Rule) -> bool {
+    let (x, y) = (rule.first as usize, rule.second as usize);
+    let lack = lack(spread.days, rule);
+    if lack > 0 {
+        spread.ask(y, lack);
+        spread.run(Some(x));
+    }
+    spread.gains[x] == 0
+}
+
+pub fn add(counts: &mut Counts, t: &mut Tables, list: &mut [u32], rule: Rule, value: &mut u32) -> u32 {
+    *value = 0;
+    number(try_add(counts, t, list, rule, value))
+}
+
+fn try_add(counts: &mut Counts, t: &mut Tables, list: &mut [u32], rule: Rule, value: &mut u32) -> Result<(), u32> {
+    if list.len() < STEPS {
+        return Err(SHORT);
+    }
+    let mut chains = Chains::new();
+    test(counts, t, &mut chains)?;
+    test_rule(counts, rule, counts.rules, RULES)?;
+    let steps = counts.steps as usize;
+    if lack(t.days, rule) > 0 {
+        let mut spread = Spread::new(&t.days[..steps], t.ys, t.cs, &chains);
+        if !fits(&mut spread, rule) {
+            *value = spread.ring(t.xs, rule.first as usize, rule.second as usize, counts.rules, list) as u32;
+            return Err(CONFLICT);
+        }
+        let gains = spread.gains;
+        for (day, &gain) in t.days[..steps].iter_mut().zip(&gains) {
+            *day += gain as u32;
+            *value += u32::from(gain > 0);
+        }
+    }
+    let at = counts.rules as usize;
+    t.xs[at] = rule.first as u16;
+    t.ys[at] = rule.second as u16;
+    t.cs[at] = rule.amount;
+    counts.rules += 1;
+    Ok(())
+}
+
+pub fn trial(counts: &Counts, t: &mut Tables, days: &mut [u32], ring: &mut [u32], rule: Rule, value: &mut u32) -> u32 {
+    *value = 0;
+    number(try_trial(counts, t, days, ring, rule, value))
+}
+
+fn try_trial(counts: &Counts, t: &Tables, days: &mut [u32], ring: &mut [u32], rule: Rule, value: &mut u32) -> Result<(), u32> {
+    if days.len() < STEPS || ring.len() < STEPS {
+        return Err(SHORT);
+    }
+    let mut chains = Chains::new();
+    test(counts, t, &mut chains)?;
+    test_rule(counts, rule, counts.rules, RULES)?;
+    let held = &t.days[..counts.steps as usize];
+    let mut spread = Spread::new(held, t.ys, t.cs, &chains);
+    if !fits(&mut spread, rule) {
+        *value = spread.ring(t.xs, rule.first as usize, rule.second as usize, counts.rules, ring) as u32;
+        return Err(CONFLICT);
+    }
+    for ((to, &day), &gain) in days.iter_mut().zip(held).zip(&spread.gains) {
+        *to = day + gain as u32;
+        *value += u32::from(gain > 0);
+    }
+    Ok(())
+}
+
+pub fn consequences(counts: &Counts, t: &mut Tables, all: &mut [u32], none: &mut [u32], held: &mut u32, excluded: &mut u32) -> u32 {
+    *held = 0;
+    *excluded = 0;
+    number(try_consequences(counts, t, all, none).map(|(in_all, in_none)| {
+        *held = in_all as u32;
+        *excluded = in_none as u32;
+    }))
+}
+
+fn try_consequences(counts: &Counts, t: &Tables, all: &mut [u32], none: &mut [u32]) -> Result<(usize, usize), u32> {
+    let watched = counts.watched as usize;
+    if all.len() < watched || none.len() < watched {
+        return Err(SHORT);
+    }
+    let mut chains = Chains::new();
+    test(counts, t, &mut chains)?;
+    let spread = Spread::new(&t.days[..counts.steps as usize], t.ys, t.cs, &chains);
+    Ok(split::split(spread, t, watched, all, none))
+}

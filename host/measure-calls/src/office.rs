@@ -1,0 +1,138 @@
+//! Tables with everything that a call is lent, and the two engines that carry calls out on them.
+
+use crate::byhand;
+use planner::bounds::{MARKS, RULES, STEPS, WATCHED};
+use planner::calls::{self, Counts, Rule, Tables};
+
+/// The calls of one engine.
+pub struct Engine {
+    open: fn(&mut Counts, &mut Tables, u32) -> u32,
+    watch: fn(&mut Counts, &mut Tables, Rule) -> u32,
+    mark: fn(&mut Counts, &mut Tables) -> u32,
+    back: fn(&mut Counts, &mut Tables) -> u32,
+    add: fn(&mut Counts, &mut Tables, &mut [u32], Rule, &mut u32) -> u32,
+    trial: fn(&Counts, &mut Tables, &mut [u32], &mut [u32], Rule, &mut u32) -> u32,
+    consequences: fn(&Counts, &mut Tables, &mut [u32], &mut [u32], &mut u32, &mut u32) -> u32,
+}
+
+/// The proved library.
+pub const LIBRARY: Engine = Engine {
+    open: calls::open,
+    watch: calls::watch,
+    mark: calls::mark,
+    back: calls::back,
+    add: calls::add,
+    trial: calls::trial,
+    consequences: calls::consequences,
+};
+
+/// The same calls written by hand.
+pub const BY_HAND: Engine = Engine {
+    open: byhand::open,
+    watch: byhand::watch,
+    mark: byhand::mark,
+    back: byhand::back,
+    add: byhand::add,
+    trial: byhand::trial,
+    consequences: byhand::consequences,
+};
+
+#[derive(Clone, Copy, Debug)]
+pub enum Call {
+    Open(u32),
+    Watch(Rule),
+    Mark,
+    Back,
+    Add(Rule),
+    Trial(Rule),
+    Consequences,
+}
+
+/// The number given back, and the values.
+#[derive(Clone, Copy, Debug, PartialEq, Eq)]
+pub struct Outcome {
+    pub number: u32,
+    pub values: [u32; 2],
+}
+
+/// The counts, the tables and two lists.
+#[derive(Clone, Debug, PartialEq, Eq)]
+pub struct Office {
+    pub counts: Counts,
+    pub xs: Vec<u16>,
+    pub ys: Vec<u16>,
+    pub cs: Vec<i32>,
+    pub days: Vec<u32>,
+    pub marks: Vec<u32>,
+    pub wxs: Vec<u16>,
+    pub wys: Vec<u16>,
+    pub wcs: Vec<i32>,
+    pub one: Vec<u32>,
+    pub two: Vec<u32>,
+}
+
+impl Office {
+    /// Tables with just the room that is asked for, with nothing in them, and that many steps.
+    pub fn new(steps: usize) -> Office {
+        Office {
+            counts: Counts { steps: steps as u32, rules: 0, marks: 0, watched: 0 },
+            xs: vec![0; RULES],
+            ys: vec![0; RULES],
+            cs: vec![0; RULES],
+            days: vec![0; STEPS],
+            marks: vec![0; MARKS],
+            wxs: vec![0; WATCHED],
+            wys: vec![0; WATCHED],
+            wcs: vec![0; WATCHED],
+            one: vec![0; WATCHED],
+            two: vec![0; WATCHED],
+        }
+    }
+
+    pub fn hold(&mut self, rule: Rule) {
+        let at = self.counts.rules as usize;
+        self.xs[at] = rule.first as u16;
+        self.ys[at] = rule.second as u16;
+        self.cs[at] = rule.amount;
+        self.counts.rules += 1;
+    }
+
+    pub fn watch(&mut self, rule: Rule) {
+        let at = self.counts.watched as usize;
+        self.wxs[at] = rule.first as u16;
+        self.wys[at] = rule.second as u16;
+        self.wcs[at] = rule.amount;
+        self.counts.watched += 1;
+    }
+
+    /// Carries a call out.
+    pub fn carry(&mut self, engine: &Engine, call: Call) -> Outcome {
+        let Office { counts, xs, ys, cs, days, marks, wxs, wys, wcs, one, two } = self;
+        let t = &mut Tables { xs, ys, cs, days, marks, wxs, wys, wcs };
+        let mut values = [0; 2];
+        let [first, second] = &mut values;
+        let number = match call {
+            Call::Open(steps) => (engine.open)(counts, t, steps),
+            Call::Watch(rule) => (engine.watch)(counts, t, rule),
+            Call::Mark => (engine.mark)(counts, t),
+            Call::Back => (engine.back)(counts, t),
+            Call::Add(rule) => (engine.add)(counts, t, one, rule, first),
+            Call::Trial(rule) => (engine.trial)(counts, t, one, two, rule, first),
+            Call::Consequences => (engine.consequences)(counts, t, one, two, first, second),
+        };
+        Outcome { number, values }
+    }
+
+    /// One plain pass over the rules held: how many the days break. It tests nothing else: a step is taken for a byte, so that no index needs a test.
+    #[inline(never)]
+    pub fn plain_pass(&self) -> u32 {
+        let rules = self.counts.rules as usize;
+        let days: &[u32; STEPS] = self.days[..STEPS].try_into().expect("room for the days");
+        let day = |step: u16| i64::from(days[usize::from(step as u8)]);
+        let mut broken = 0;
+        for ((&x, &y), &c) in self.xs[..rules].iter().zip(&self.ys[..rules]).zip(&self.cs[..rules]) {
+            broken += u32::from(day(x) - day(y) > i64::from(c));
+        }
+        broken
+    }
+}

@@ -1,0 +1,128 @@
+//! Sound tables of a given size, in two shapes, and the rules that calls on them ask for. The last step is the second step of no rule held, so that a
+//! rule from it can move every other step and is never refused.
+
+use crate::office::Office;
+use common::Random;
+use planner::calls::Rule;
+
+#[derive(Clone, Copy, Debug, PartialEq, Eq)]
+pub enum Shape {
+    /// One chain of rules with nothing to spare through all steps but the last; every other rule has days to spare.
+    Chain,
+    /// Rules between random steps that hidden days keep.
+    Random,
+}
+
+impl Shape {
+    pub const ALL: [Shape; 2] = [Shape::Chain, Shape::Random];
+
+    pub fn name(self) -> &'static str {
+        match self {
+            Shape::Chain => "chain",
+            Shape::Random => "random",
+        }
+    }
+}
+
+/// How large the tables are: steps, rules held, watched rules, and over how many steps these go; and the marks open, the newest of which has half of the
+/// rules before it.
+#[derive(Clone, Copy, Debug)]
+pub struct Size {
+    pub steps: usize,
+    pub rules: usize,
+    pub watched: usize,
+    pub over: usize,
+    pub marks: usize,
+}
+
+/// Sound tables of that shape and size. The order of the rules is random.
+pub fn office(shape: Shape, size: Size) -> Office {
+    let random = &mut Random::new(size.steps as u64);
+    let mut office = Office::new(size.steps);
+    let mut rules = match shape {
+        Shape::Chain => chain(size, random),
+        Shape::Random => scattered(size, random),
+    };
+    for left in (1..rules.len()).rev() {
+        rules.swap(left, random.below(left + 1));
+    }
+    rules.into_iter().for_each(|rule| office.hold(rule));
+    plan(&mut office);
+    for number in 0..size.watched {
+        let (x, y) = (number % size.over, random.below(size.over));
+        let amount = i64::from(office.days[x]) - i64::from(office.days[y]) + random.between(-200, 400);
+        office.watch(rule(x, y, amount));
+    }
+    for mark in 0..size.marks {
+        office.marks[mark] = ((mark + 1) * size.rules / 2 / size.marks) as u32;
+    }
+    office.counts.marks = size.marks as u32;
+    office
+}
+
+pub fn rule(x: usize, y: usize, amount: i64) -> Rule {
+    Rule { first: x as u32, second: y as u32, amount: amount as i32 }
+}
+
+fn chain(size: Size, random: &mut Random) -> Vec<Rule> {
+    let last = size.steps - 1;
+    let day = |step: usize| if step == last { 0 } else { step as i64 };
+    let mut rules: Vec<Rule> = (1..last).map(|step| rule(step - 1, step, -1)).collect();
+    while rules.len() < size.rules {
+        let (x, y) = (random.below(size.steps), random.below(last));
+        rules.push(rule(x, y, day(x) - day(y) + random.between(1, 100)));
+    }
+    rules
+}
+
+fn scattered(size: Size, random: &mut Random) -> Vec<Rule> {
+    let hidden: Vec<i64> = (0..size.steps).map(|_| random.between(0, 1000)).collect();
+    let one = |_| {
+        let (x, y) = (random.below(size.steps), random.below(size.steps - 1));
+        rule(x, y, hidden[x] - hidden[y] + random.between(0, 200))
+    };
+    (0..size.rules).map(one).collect()
+}
+
+/// Brings the days to the earliest plan, by raising them until every rule is kept.
+fn plan(office: &mut Office) {
+    let mut moved = true;
+    while moved {
+        moved = false;
+        for number in 0..office.counts.rules as usize {
+            let (x, y) = (usize::from(office.xs[number]), usize::from(office.ys[number]));
+            let least = i64::from(office.days[x]) - i64::from(office.cs[number]);
+            if i64::from(office.days[y]) < least {
+                office.days[y] = least as u32;
+                moved = true;
+            }
+        }
+    }
+}
+
+/// A rule that the days keep.
+pub fn still(office: &Office) -> Rule {
+    let (x, y) = (0, office.counts.steps as usize - 2);
+    rule(x, y, i64::from(office.days[x]) - i64::from(office.days[y]) + 10)
+}
+
+/// A rule from the last step that moves many: all of a chain by a day, and in the random shape whatever its second step leads to.
+pub fn moving(shape: Shape, office: &Office) -> Rule {
+    let last = office.counts.steps as usize - 1;
+    match shape {
+        Shape::Chain => rule(last, 0, -1),
+        Shape::Random => rule(last, 0, -100_000),
+    }
+}
+
+/// Rules that are refused; the one with the longest ring is for the caller to choose.
+pub fn clashing(shape: Shape, office: &Office) -> Vec<Rule> {
+    let last = office.counts.steps as usize - 1;
+    match shape {
+        Shape::Chain => vec![rule(last - 1, 0, i64::from(office.days[last - 1]) - 1)],
+        Shape::Random => {
+            let random = &mut Random::new(1);
+            (0..200).map(|_| rule(random.below(last), random.below(last), -2000)).collect()
+        }
+    }
+}

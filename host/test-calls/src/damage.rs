@@ -1,0 +1,163 @@
+//! Damaged and short tables: from sound states every count and every cell that matters is changed in turn, some cells past the counts too, which must not
+//! matter; every table and list is lent short, empty and longer than needed. After each change all calls are made. The independent engine says by the
+//! definition whether what is lent is still sound.
+
+use crate::Options;
+use crate::acts::Act;
+use crate::compare::{compare_all, Both};
+use crate::office::{Field, Office, Place};
+use crate::sequences::rule;
+use crate::shapes::{self, Shape};
+use crate::tests::Tally;
+use common::Random;
+
+pub fn all(options: &Options, tally: &mut Tally) {
+    let mut random = Random::new(options.seed ^ 0xDA_3A6E);
+    for shape in shapes::all() {
+        let seed = options.seed;
+        match compare_all(seed, &shape.acts) {
+            Err((at, why)) => tally.count_sequence(&format!("shape {}", shape.name), seed, &shape.acts[..=at], Some(why)),
+            Ok(base) => {
+                let changes = changes(base.office(), &shape, &mut random, options.long);
+                let (count, began) = (changes.len(), std::time::Instant::now());
+                for change in changes {
+                    changed(&base, &shape, seed, change, tally);
+                }
+                println!("calls: {} changes of the shape {}, {} ms", count, shape.name, began.elapsed().as_millis());
+            }
+        }
+    }
+}
+
+/// One change and all calls after it, which count as one sequence.
+fn changed(base: &Both, shape: &Shape, seed: u64, change: Vec<Act>, tally: &mut Tally) {
+    let mut both = base.clone();
+    let after: Vec<Act> = change.into_iter().chain(shape.calls.iter().cloned()).collect();
+    let mut failure = None;
+    for act in &after {
+        match both.make(act) {
+            Ok(given) => tally.note(act, given),
+            Err(why) => {
+                failure = Some(why);
+                break;
+            }
+        }
+    }
+    let name = format!("shape {} with {}", shape.name, after[0]);
+    match failure {
+        None => tally.count_sequence(&name, seed, &[], None),
+        Some(why) => tally.count_sequence(&name, seed, &[&shape.acts[..], &after[..]].concat(), Some(why)),
+    }
+}
+
+/// All changes of a shape, or some of them where it has many cells.
+fn changes(office: &Office, shape: &Shape, random: &mut Random, long: bool) -> Vec<Vec<Act>> {
+    let mut all = Vec::new();
+    for field in Field::ALL {
+        let old = office.field(field);
+        let past = match field {
+            Field::Steps | Field::Names => 257,
+            Field::Rules => 4_097,
+            Field::Marks => 65,
+            Field::Watched => 1_025,
+            _ => 2,
+        };
+        for new in [old.wrapping_add(1), old.wrapping_sub(1), 0, 1, past - 1, past, u32::MAX, random.next() as u32] {
+            all.push(vec![Act::SetField(field, new)]);
+        }
+    }
+    for (place, at) in cells(office, random, long) {
+        let old = office.cell(place, at);
+        let mut new = match place {
+            Place::Names => vec![old + 1, 0, b'('.into(), b';'.into(), b'0'.into()],
+            Place::Lens => vec![old + 1, old - 1, 0, 1, 32, 33, 255],
+            Place::Cs | Place::Wcs => vec![old + 1, old - 1, 1_000_000, 1_000_001, -1_000_001, i32::MIN.into()],
+            Place::Days => vec![old + 1, old - 1, 0, old + (1 << 31)],
+            _ => vec![old + 1, old - 1, 0, office.counts().steps.into(), u16::MAX.into(), u32::MAX.into()],
+        };
+        new.push(random.next() as i64);
+        new.dedup();
+        all.extend(new.into_iter().map(|number| vec![Act::Set(place, at, number)]));
+    }
+    all.extend(lengths(office));
+    all.extend(several(office, random, long));
+    all.extend(shape.changes.iter().cloned());
+    all
+}
+
+/// Every cell within the counts, and the first three past each; where a table has many, some of them.
+fn cells(office: &Office, random: &mut Random, long: bool) -> Vec<(Place, usize)> {
+    use Place::*;
+    let (counts, record) = (office.counts(), office.record());
+    let many = if long { 5_000 } else { 70 };
+    let mut some = |used: usize| -> Vec<usize> {
+        if used <= many {
+            return (0..used).collect();
+        }
+        let mut chosen = vec![0, used - 1];
+        chosen.extend((0..6).map(|_| random.below(used)));
+        chosen
+    };
+    let names = (record.names as usize).min(Lens.room());
+    let mut all = Vec::new();
+    for place in [Xs, Ys, Cs, Days, Marks, Wxs, Wys, Wcs, Lens, Out, One, Two] {
+        let used = match place {
+            Xs | Ys | Cs => counts.rules as usize,
+            Days => counts.steps as usize,
+            Marks => counts.marks as usize,
+            Wxs | Wys | Wcs => counts.watched as usize,
+            Lens => names,
+            _ => 0,
+        };
+        let past = used..(used + 3).min(office.lent(place));
+        all.extend(some(used).into_iter().chain(past).map(|at| (place, at)));
+    }
+    // The bytes of each name, and the first past it.
+    for number in some(names) {
+        let len = usize::from(office.lens.part()[number]).min(31);
+        all.extend((0..=len).map(|at| (Names, 32 * number + at)));
+    }
+    all
+}
+
+/// Each table and list with other lengths, alone and on damaged tables.
+fn lengths(office: &Office) -> Vec<Vec<Act>> {
+    let watched = office.counts().watched as usize;
+    let mut all = Vec::new();
+    for place in Place::ALL {
+        let room = place.room();
+        for len in [room - 1, room, room + 1, 0, 1, watched, watched.saturating_sub(1), watched + 1] {
+            all.push(vec![Act::Lend(place, len)]);
+        }
+        all.push(vec![Act::Lend(place, room - 1), Act::SetField(Field::Steps, 0)]);
+        all.push(vec![Act::Lend(place, room - 1), Act::SetField(Field::Rules, u32::MAX), Act::SetField(Field::Sat, 2)]);
+    }
+    all
+}
+
+/// Changes of several cells: plans that are not the earliest, and cells at random.
+fn several(office: &Office, random: &mut Random, long: bool) -> Vec<Vec<Act>> {
+    let steps = (office.counts().steps as usize).min(office.lent(Place::Days));
+    let later = |from: usize, to: usize, by: i64| (from..to).map(|at| Act::Set(Place::Days, at, office.cell(Place::Days, at) + by)).collect::<Vec<Act>>();
+    let mut all = vec![later(0, steps, 1), later(0, steps, 1_000), later(0, steps, 4_000_000_000)];
+    all.extend((2..=steps).step_by(1 + steps / 8).map(|to| later(to - 2, to, 1)));
+    let cells = cells(office, random, long);
+    for _ in 0..if long { 2_000 } else { 40 } {
+        let mut change = Vec::new();
+        for _ in 0..1 + random.below(3) {
+            let (place, at) = random.pick(&cells);
+            change.push(Act::Set(place, at, office.cell(place, at) + random.between(-2, 2)));
+        }
+        all.push(change);
+    }
+    // A rule over steps, held in place of another: within bounds, so the days alone tell.
+    for number in 0..(office.counts().rules as usize).min(12) {
+        let other = rule(random.below(steps), random.below(steps), random.between(-3, 3));
+        all.push(vec![
+            Act::Set(Place::Xs, number, other.first.into()),
+            Act::Set(Place::Ys, number, other.second.into()),
+            Act::Set(Place::Cs, number, other.amount.into()),
+        ]);
+    }
+    all
+}

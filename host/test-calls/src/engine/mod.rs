@@ -1,0 +1,214 @@
+//! An independent engine for the calls, written from the definitions: it keeps nothing between calls and plans from scratch, by rounds over all rules, at each
+//! of them. It is meant to be obviously right, and slow. What it gives and leaves is determined but for the choice among several rings.
+
+mod bounds;
+mod rings;
+mod scripts;
+mod sound;
+
+pub use rings::refutes;
+pub use sound::{is_sound, rules};
+
+use crate::acts::Act;
+use crate::office::{Office, Place, STEPS, WATCHED};
+use planner::calls::{Counts, Rule};
+use reader::{earliest, AMOUNT, DONE, FULL, LARGEST, MARKS, NOMARK, RULES, SHORT};
+use sound::{held, planned};
+
+/// Numbers given back that scripts do not have of their own.
+pub const DAMAGED: u32 = 2;
+pub const STEP: u32 = 3;
+pub const CONFLICT: u32 = 6;
+
+/// What a call gives back: its number and its values, 0 where it has none.
+#[derive(Clone, Copy, PartialEq, Eq, Debug)]
+pub struct Given {
+    pub number: u32,
+    pub one: u64,
+    pub two: u64,
+}
+
+/// What must come back: exactly this; or CONFLICT, with some ring of the refused rule in the list, and its length.
+pub enum Wanted {
+    Exactly(Given),
+    Ring(Rule, Place),
+}
+
+type Outcome = Result<Wanted, u32>;
+
+/// Carries the call out on what is lent. A ring is not written: the caller chooses it.
+pub fn carry_out(office: &mut Office, act: &Act) -> Wanted {
+    let outcome = match act {
+        Act::Open(steps) => open(office, *steps),
+        Act::Watch(rule) => watch(office, *rule),
+        Act::Add(rule) => add(office, *rule),
+        Act::Mark => mark(office),
+        Act::Back => back(office),
+        Act::Trial(rule) => trial(office, *rule),
+        Act::Consequences => consequences(office),
+        Act::RingCheck(rule, list) => ring_check(office, *rule, list),
+        Act::Start => scripts::start(office),
+        Act::Command(text) => scripts::command(office, text),
+        Act::Set(..) | Act::SetField(..) | Act::Lend(..) | Act::Hold(..) | Act::Follow(..) => {
+            act.by_caller(office);
+            done(0, 0)
+        }
+    };
+    outcome.unwrap_or_else(|number| Wanted::Exactly(Given { number, one: 0, two: 0 }))
+}
+
+fn done(one: usize, two: usize) -> Outcome {
+    Ok(Wanted::Exactly(Given { number: DONE, one: one as u64, two: two as u64 }))
+}
+
+/// The number is given where the need is not met.
+fn need(met: bool, number: u32) -> Result<(), u32> {
+    if met {
+        Ok(())
+    } else {
+        Err(number)
+    }
+}
+
+/// Every table has room for its full bound.
+fn room(office: &Office) -> bool {
+    use Place::*;
+    [Xs, Ys, Cs, Days, Marks, Wxs, Wys, Wcs].iter().all(|place| office.lent(*place) >= place.room())
+}
+
+/// A rule handed to a call: STEP, then AMOUNT.
+fn rule_in_bounds(office: &Office, rule: Rule) -> Result<(), u32> {
+    let steps = office.counts().steps;
+    need(rule.first < steps && rule.second < steps, STEP)?;
+    need(i64::from(rule.amount).abs() <= LARGEST, AMOUNT)
+}
+
+fn open(office: &mut Office, steps: u32) -> Outcome {
+    need(room(office), SHORT)?;
+    need(1 <= steps && steps as usize <= STEPS, STEP)?;
+    office.counts[1] = Counts { steps, rules: 0, marks: 0, watched: 0 };
+    office.shelf.days.part_mut()[..steps as usize].fill(0);
+    done(0, 0)
+}
+
+fn watch(office: &mut Office, rule: Rule) -> Outcome {
+    need(room(office), SHORT)?;
+    need(is_sound(office), DAMAGED)?;
+    rule_in_bounds(office, rule)?;
+    let number = office.counts().watched as usize;
+    need(number < WATCHED, FULL)?;
+    let shelf = &mut office.shelf;
+    shelf.wxs.part_mut()[number] = rule.first as u16;
+    shelf.wys.part_mut()[number] = rule.second as u16;
+    shelf.wcs.part_mut()[number] = rule.amount;
+    office.counts[1].watched += 1;
+    done(0, 0)
+}
+
+/// What Add and Trial need once their lists have room; the days with the rule, or nothing on a conflict.
+fn with_rule(office: &Office, rule: Rule) -> Result<Option<Vec<i64>>, u32> {
+    need(is_sound(office), DAMAGED)?;
+    rule_in_bounds(office, rule)?;
+    need((office.counts().rules as usize) < RULES, FULL)?;
+    let mut all = rules(office);
+    all.push(held(rule));
+    Ok(earliest(office.counts().steps as usize, all.iter().copied()))
+}
+
+/// How many steps have another day than the tables say.
+fn moved(office: &Office, days: &[i64]) -> usize {
+    days.iter().zip(office.shelf.days.part()).filter(|(new, old)| **new != i64::from(**old)).count()
+}
+
+fn add(office: &mut Office, rule: Rule) -> Outcome {
+    need(room(office) && office.lent(Place::One) >= STEPS, SHORT)?;
+    match with_rule(office, rule)? {
+        None => Ok(Wanted::Ring(rule, Place::One)),
+        Some(days) => {
+            let count = moved(office, &days);
+            hold(office, rule, &days);
+            done(count, 0)
+        }
+    }
+}
+
+/// The rule is held under the next number, and these are the days.
+fn hold(office: &mut Office, rule: Rule, days: &[i64]) {
+    let number = office.counts().rules as usize;
+    let shelf = &mut office.shelf;
+    shelf.xs.part_mut()[number] = rule.first as u16;
+    shelf.ys.part_mut()[number] = rule.second as u16;
+    shelf.cs.part_mut()[number] = rule.amount;
+    office.counts[1].rules += 1;
+    write_days(office.shelf.days.part_mut(), days);
+}
+
+fn write_days(list: &mut [u32], days: &[i64]) {
+    for (cell, day) in list.iter_mut().zip(days) {
+        *cell = *day as u32;
+    }
+}
+
+fn mark(office: &mut Office) -> Outcome {
+    need(room(office), SHORT)?;
+    need(is_sound(office), DAMAGED)?;
+    need((office.counts().marks as usize) < MARKS, FULL)?;
+    set_marks(office, 1);
+    done(0, 0)
+}
+
+/// That many more marks at the number of rules held.
+fn set_marks(office: &mut Office, more: usize) {
+    let counts = &mut office.counts[1];
+    let open = counts.marks as usize;
+    office.shelf.marks.part_mut()[open..open + more].fill(counts.rules);
+    counts.marks += more as u32;
+}
+
+fn back(office: &mut Office) -> Outcome {
+    need(room(office), SHORT)?;
+    need(is_sound(office), DAMAGED)?;
+    need(office.counts().marks >= 1, NOMARK)?;
+    drop_marks(office, 1);
+    done(0, 0)
+}
+
+/// The newest marks, that many, and every rule added after the oldest of them are dropped; the days are the earliest plan of the rules left.
+fn drop_marks(office: &mut Office, fewer: usize) {
+    for _ in 0..fewer {
+        let newest = office.counts().marks as usize - 1;
+        office.counts[1].rules = office.shelf.marks.part()[newest];
+        office.counts[1].marks = newest as u32;
+    }
+    let days = planned(office).expect("fewer rules than sound tables had");
+    write_days(office.shelf.days.part_mut(), &days);
+}
+
+fn trial(office: &mut Office, rule: Rule) -> Outcome {
+    need(room(office) && office.lent(Place::One) >= STEPS && office.lent(Place::Two) >= STEPS, SHORT)?;
+    match with_rule(office, rule)? {
+        None => Ok(Wanted::Ring(rule, Place::Two)),
+        Some(days) => {
+            write_days(office.one.part_mut(), &days);
+            done(moved(office, &days), 0)
+        }
+    }
+}
+
+fn consequences(office: &mut Office) -> Outcome {
+    let watched = office.counts().watched as usize;
+    need(room(office) && office.lent(Place::One) >= watched && office.lent(Place::Two) >= watched, SHORT)?;
+    need(is_sound(office), DAMAGED)?;
+    let (all, none) = bounds::split(office);
+    for (list, numbers) in [(&mut office.one, &all), (&mut office.two, &none)] {
+        list.part_mut()[..numbers.len()].copy_from_slice(numbers);
+    }
+    done(all.len(), none.len())
+}
+
+fn ring_check(office: &Office, rule: Rule, list: &[u32]) -> Outcome {
+    need(room(office), SHORT)?;
+    need(is_sound(office), DAMAGED)?;
+    rule_in_bounds(office, rule)?;
+    done(usize::from(refutes(office, rule, list)), 0)
+}

@@ -1,0 +1,311 @@
+//! Generated sequences. A call is chosen with the office as the calls before left it at hand, so that rules can be tight and rings real; what is chosen is
+//! written out in full, and can be made again without its beginning.
+
+use crate::acts::Act;
+use crate::commands::{self, Script};
+use crate::engine::{Given, CONFLICT};
+use crate::office::{Office, Place, STEPS};
+use common::Random;
+use planner::calls::Rule;
+
+#[derive(Clone, Copy, PartialEq, Eq, Debug)]
+pub enum Kind {
+    /// Few steps and small amounts.
+    Small,
+    /// Amounts around 0, rules that the days leave nothing to spare, equal rules, self rules.
+    Ties,
+    /// Amounts and step numbers at their bounds and past them.
+    Edges,
+    /// Many marks.
+    Levels,
+    /// Many watched rules, and what follows for them.
+    Watching,
+    /// Many steps, and rules that hidden days keep, most of them.
+    Wide,
+    /// The caller spoils a cell or lends too little, now and then.
+    Spoiled,
+    /// Script commands and the other calls.
+    Mixed,
+    /// A chain over all steps with the smallest amount, and what closes it.
+    Chain,
+    /// Tables that are nearly full, by calls and by script commands.
+    Brim,
+    /// Every table to its full bound and one past it.
+    Full,
+}
+
+impl Kind {
+    pub const ALL: [Kind; 11] = {
+        use Kind::*;
+        [Small, Ties, Edges, Levels, Watching, Wide, Spoiled, Mixed, Chain, Brim, Full]
+    };
+
+    /// The kind of a sequence by its place among all: the dear ones are few.
+    pub fn of(place: u64) -> Kind {
+        use Kind::*;
+        match place % 4_000 {
+            700 => Full,
+            n if n % 400 == 100 => Chain,
+            n if n % 125 == 10 => Brim,
+            n if n % 40 == 7 => Wide,
+            n => [Small, Ties, Edges, Levels, Spoiled, Mixed, Small, Watching][n as usize % 8],
+        }
+    }
+}
+
+/// Writes one sequence.
+pub struct Writer {
+    pub kind: Kind,
+    pub random: Random,
+    /// Acts that come next, before any other is chosen; the last one first.
+    plan: Vec<Act>,
+    /// How many more are chosen after that.
+    left: usize,
+    /// The newest refused rule with its ring.
+    pub refused: Option<(Rule, Vec<u32>)>,
+    /// How the last damage is undone.
+    pub undo: Option<Act>,
+    hidden: Vec<i64>,
+    script: Script,
+}
+
+impl Writer {
+    pub fn new(kind: Kind, seed: u64) -> Writer {
+        let mut random = Random::new(seed.wrapping_mul(16).wrapping_add(kind as u64));
+        let steps = match kind {
+            Kind::Small | Kind::Spoiled => 1 + random.below(8),
+            Kind::Ties => 1 + random.below(5),
+            Kind::Edges => random.pick(&[1, 2, 3, 255, 256]),
+            Kind::Levels | Kind::Watching => 2 + random.below(5),
+            Kind::Wide => 20 + random.below(237),
+            Kind::Mixed | Kind::Chain | Kind::Brim => STEPS,
+            Kind::Full => random.pick(&[3, 17, 40, 256]),
+        };
+        let span = random.pick(&[5, 300, 900_000]);
+        let hidden = (0..steps).map(|_| random.between(0, span)).collect();
+        let left = match kind {
+            Kind::Levels => 30 + random.below(80),
+            Kind::Mixed => 20 + random.below(60),
+            Kind::Brim => 30,
+            Kind::Chain | Kind::Full => 12,
+            Kind::Wide => 60 + random.below(200),
+            _ => 8 + random.below(50),
+        };
+        let script = Script::new(kind == Kind::Mixed, &mut random);
+        let mut writer = Writer { kind, random, plan: Vec::new(), left, refused: None, undo: None, hidden, script };
+        writer.plan = writer.opening(steps);
+        writer.plan.reverse();
+        writer
+    }
+
+    /// What every sequence of the kind begins with.
+    fn opening(&mut self, steps: usize) -> Vec<Act> {
+        match self.kind {
+            Kind::Chain => self.chain(),
+            Kind::Full => self.full(steps),
+            Kind::Brim => self.brim(),
+            // On tables that mean nothing.
+            _ if self.random.chance(30) => Vec::new(),
+            Kind::Mixed => vec![Act::Start],
+            _ => vec![Act::Open(steps as u32)],
+        }
+    }
+
+    /// The chain's rules in order, from its end, or in no order; then the rule that closes it.
+    fn chain(&mut self) -> Vec<Act> {
+        let last = STEPS - 1;
+        let mut rules: Vec<Rule> = (0..last).map(|at| rule(at, at + 1, -1_000_000)).collect();
+        match self.random.below(3) {
+            0 => (),
+            1 => rules.reverse(),
+            _ => shuffle(&mut rules, &mut self.random),
+        }
+        let mut acts = vec![Act::Open(STEPS as u32), Act::Watch(rule(0, last, -1_000_000)), Act::Watch(rule(last, 0, 1_000_000))];
+        acts.extend(rules.into_iter().map(Act::Add));
+        // Its ring fills a list that has no place too many.
+        acts.extend([Act::Consequences, Act::Mark, Act::Lend(Place::One, STEPS), Act::Lend(Place::Two, STEPS)]);
+        acts.extend([Act::Trial(rule(last, 0, 1_000_000)), Act::Add(rule(last, 0, 1_000_000))]);
+        acts
+    }
+
+    /// A script with a few names and rules; then the caller fills the tables but for some places.
+    fn brim(&mut self) -> Vec<Act> {
+        let mut acts = vec![Act::Start, Act::Command("(set-logic QF_IDL)".into())];
+        acts.extend(["cut", "dry", "turn"].map(|name| Act::Command(format!("(declare-fun {} () Int)", name).into())));
+        acts.extend([Act::Add(rule(0, 1, -2)), Act::Add(rule(1, 2, -3)), Act::Mark]);
+        let (spare, unwatched, unmarked) = (self.random.below(9), self.random.below(4), self.random.below(4));
+        let loose = self.random.pick(&[rule(0, 0, 0), rule(7, 200, 1_000_000), rule(2, 0, 5)]);
+        acts.extend([Act::Hold(loose, 4_094 - spare), Act::Follow(rule(2, 0, 4), 1_024 - unwatched)]);
+        acts.push(Act::Command(format!("(push {})", 63 - unmarked).into()));
+        acts
+    }
+
+    /// All watched rules, all marks and all rules, each with one too many.
+    fn full(&mut self, steps: usize) -> Vec<Act> {
+        let mut acts = vec![Act::Open(steps as u32)];
+        for count in 0..=1_024 {
+            let any = self.kept_rule(count % 3 > 0);
+            acts.push(Act::Watch(any));
+        }
+        // The caller writes most of the rules: they are dear to add one by one.
+        let filler = self.kept_rule(true);
+        acts.extend([Act::Add(filler), Act::Hold(filler, 3_000)]);
+        for count in 0..=1_095 {
+            let rule = self.kept_rule(true);
+            acts.push(Act::Add(rule));
+            if count % 17 == 0 {
+                acts.push(Act::Mark);
+            }
+            if count == 500 {
+                acts.push(Act::Consequences);
+            }
+        }
+        let rule = self.kept_rule(false);
+        let conflict = Rule { first: 1, second: 1, amount: -1 };
+        acts.extend([Act::Trial(rule), Act::Mark, Act::Consequences, Act::RingCheck(conflict, vec![4_096]), Act::RingCheck(rule, vec![4_096, 3])]);
+        acts
+    }
+
+    /// A rule that the hidden days keep, with little to spare or much, or one that they need not.
+    fn kept_rule(&mut self, keep: bool) -> Rule {
+        let (x, y) = (self.random.below(self.hidden.len()), self.random.below(self.hidden.len()));
+        let gap = self.hidden[x] - self.hidden[y];
+        let spare = self.random.pick(&[0, 0, 1, 5, 300]);
+        rule(x, y, if keep { gap + spare } else { gap - spare })
+    }
+
+    /// The next act, or nothing at the end.
+    pub fn next(&mut self, office: &Office) -> Option<Act> {
+        if let Some(act) = self.plan.pop() {
+            return Some(act);
+        }
+        if self.left == 0 {
+            return None;
+        }
+        self.left -= 1;
+        let spoilt = match self.kind {
+            Kind::Spoiled => 250,
+            Kind::Mixed => 60,
+            _ => 0,
+        };
+        if self.random.chance(spoilt) {
+            return Some(self.spoil(office));
+        }
+        if self.kind == Kind::Mixed && self.random.chance(700) {
+            return Some(self.script.next(&mut self.random));
+        }
+        if self.kind == Kind::Brim && self.random.chance(500) {
+            return Some(commands::at_the_brim(&mut self.random));
+        }
+        Some(self.call(office))
+    }
+
+    /// Notes what a call gave.
+    pub fn note(&mut self, act: &Act, given: Given, office: &Office) {
+        let length = given.one as usize;
+        match act {
+            Act::Add(rule) if given.number == CONFLICT => self.refused = Some((*rule, office.one.part()[..length].to_vec())),
+            Act::Trial(rule) if given.number == CONFLICT => self.refused = Some((*rule, office.two.part()[..length].to_vec())),
+            _ => (),
+        }
+    }
+
+    fn call(&mut self, office: &Office) -> Act {
+        // How often each: Open, Watch, Add, Mark, Back, Trial, Consequences, Ring check.
+        let weights: [usize; 8] = match self.kind {
+            Kind::Levels => [1, 2, 30, 35, 28, 4, 4, 4],
+            Kind::Watching => [1, 40, 25, 4, 4, 4, 20, 2],
+            Kind::Wide => [0, 10, 60, 5, 4, 8, 2, 6],
+            Kind::Edges => [12, 14, 34, 8, 8, 16, 8, 10],
+            Kind::Mixed => [1, 12, 30, 12, 14, 10, 8, 6],
+            Kind::Chain | Kind::Full | Kind::Brim => [0, 5, 20, 10, 8, 20, 5, 20],
+            _ => [2, 12, 40, 9, 8, 10, 9, 12],
+        };
+        let mut chosen = self.random.below(weights.iter().sum());
+        let mut which = 0;
+        while chosen >= weights[which] {
+            chosen -= weights[which];
+            which += 1;
+        }
+        match which {
+            0 => Act::Open(self.step_count(office)),
+            1 => Act::Watch(self.rule(office)),
+            2 => Act::Add(self.rule(office)),
+            3 => Act::Mark,
+            4 => Act::Back,
+            5 => Act::Trial(self.rule(office)),
+            6 => Act::Consequences,
+            _ => self.ring_check(office),
+        }
+    }
+
+    fn step_count(&mut self, office: &Office) -> u32 {
+        match self.kind {
+            Kind::Edges => self.random.pick(&[0, 1, 2, 3, 255, 256, 257, 65_536, u32::MAX]),
+            Kind::Mixed => self.random.pick(&[256, 256, 255, 3]),
+            _ => self.random.pick(&[0, 1, 2, 4, 8, office.counts().steps, 257]),
+        }
+    }
+
+    /// A rule as the kind has them.
+    pub fn rule(&mut self, office: &Office) -> Rule {
+        let steps = (office.counts().steps as usize).clamp(1, STEPS);
+        let lent = [Place::Xs, Place::Ys, Place::Cs].map(|place| office.lent(place));
+        let held = lent.into_iter().fold(office.counts().rules as usize, usize::min);
+        if held > 0 && self.random.chance(80) {
+            // One that is held, as it is, turned round or with another amount.
+            let Rule { first, second, amount } = office.rule(self.random.below(held));
+            let other = amount.wrapping_add(self.random.between(-1, 1) as i32);
+            return self.random.pick(&[Rule { first, second, amount }, Rule { first, second, amount: other }, Rule { first: second, second: first, amount: !other }]);
+        }
+        let past = match self.kind {
+            Kind::Edges => 120,
+            Kind::Full | Kind::Chain => 0,
+            _ => 15,
+        };
+        if self.random.chance(past) {
+            // Some of them would be steps, were they cut to 16 bits.
+            let bad = self.random.pick(&[steps, steps + 1, 256, 65_535, 65_536, 65_537, 1 << 31, u32::MAX as usize]);
+            let good = self.random.below(steps);
+            let amount = self.random.pick(&[0, 1_000_001]);
+            return if self.random.chance(500) { rule(bad, good, amount) } else { rule(good, bad, amount) };
+        }
+        // In scripts few steps have names.
+        let among = match self.kind {
+            Kind::Mixed => steps.min(12),
+            Kind::Brim => steps.min(3),
+            _ => steps,
+        };
+        let (x, y) = (self.random.below(among), self.random.below(among));
+        let y = if self.random.chance(40) { x } else { y };
+        let day = |step: usize| office.shelf.days.part().get(step).copied().map_or(0, i64::from);
+        let tight = (day(x) - day(y)).clamp(-1_000_001, 1_000_001);
+        let amount = match self.kind {
+            Kind::Ties if self.random.chance(500) => tight + self.random.between(-1, 1),
+            Kind::Ties => self.random.pick(&[-1, 0, 0, 0, 1]),
+            Kind::Edges => self.random.pick(&[
+                0, 1, -1, 999_999, -999_999, 1_000_000, 1_000_000, -1_000_000, -1_000_000, 1_000_001, -1_000_001, i32::MIN.into(), i32::MAX.into(), tight, tight - 1,
+            ]),
+            Kind::Wide | Kind::Full => {
+                let keep = self.random.chance(900);
+                let kept = self.kept_rule(keep);
+                return kept;
+            }
+            Kind::Chain => self.random.pick(&[1_000_000, -1_000_000, 0, -1]),
+            Kind::Watching | Kind::Levels => self.random.between(-4, 6),
+            _ if self.random.chance(200) => tight + self.random.between(-2, 2),
+            _ => self.random.between(-3, 4),
+        };
+        rule(x, y, amount)
+    }
+}
+
+pub fn rule(first: usize, second: usize, amount: i64) -> Rule {
+    Rule { first: first as u32, second: second as u32, amount: amount as i32 }
+}
+
+fn shuffle<T>(list: &mut [T], random: &mut Random) {
+    for at in (1..list.len()).rev() {
+        list.swap(at, random.below(at + 1));
+    }
+}
