@@ -185,6 +185,8 @@ pub fn add(counts: &mut Counts, t: &mut Tables, list: &mut [u32], r: Rule, value
     lend!(dates_add(counts; t; list.as_mut_ptr(), list.len(), r.first, r.second, r.amount, value))
 }
 
+// The next three write no table. They are here also over tables lent for writing, for tests that look whether it is so.
+
 /// Trial: answers as Add would and writes to no table; `days` gets the days, or `ring` the ring.
 pub fn trial(counts: &Counts, t: &mut Tables, days: &mut [u32], ring: &mut [u32], r: Rule, value: &mut u32) -> u32 {
     lend!(dates_trial(counts; t; days.as_mut_ptr(), days.len(), ring.as_mut_ptr(), ring.len(), r.first, r.second, r.amount, value))
