@@ -13,6 +13,8 @@
 
 mod cases;
 mod engines;
+#[cfg(feature = "entry")]
+mod entry;
 mod peers;
 mod report;
 mod shorten;

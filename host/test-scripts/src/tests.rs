@@ -30,7 +30,7 @@ pub fn all(options: &Options) -> Tally {
 /// The engines that answer in this process.
 fn in_process() -> Vec<Box<dyn Engine>> {
     #[cfg(feature = "entry")]
-    return vec![Box::new(crate::engines::Entry)];
+    return vec![Box::new(crate::entry::Entry)];
     #[cfg(not(feature = "entry"))]
     return Vec::new();
 }
@@ -89,7 +89,7 @@ fn room(tally: &mut Tally) {
     for text in texts {
         for room in [0, 1, 12, 16_383, 16_384, 16_385, 16_387, 16_388, 16_396, 16_407, 16_408, 16_409, 17_000, 20_000, 32_768, 100_000] {
             let wanted = reader::run_within(text.as_bytes(), room);
-            let got = crate::engines::Entry.run_within(text.as_bytes(), room);
+            let got = crate::entry::Entry.run_within(text.as_bytes(), room);
             tally.count(&format!("entry with {} bytes: {}", room, crate::report::quote(text.as_bytes())), same(&wanted, &got));
         }
     }
