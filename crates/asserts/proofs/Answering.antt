@@ -12,11 +12,11 @@ use Rattle.meaning.specs.Rules.{InBounds}
 use Rattle.meaning.specs.Tables.{Tables, at}
 use Rattle.meaning.specs.Calls.{rules-of, held-in}
 use Rattle.meaning.proofs.Theory.{more-fits}
-use Rattle.chains.specs.Chains.{Linkable, Pushed}
+use Rattle.chains.specs.Chains.{number, Linkable, Pushed}
 use Rattle.leaf.specs.Lent.{columns, tables}
 use Rattle.leaf.specs.Promises.{Border, rule}
 use Rattle.inside.proofs.Equal.{tables-equal}
-use Rattle.spread.specs.Ground.{first}
+use Rattle.leaf.specs.Lent.{first}
 use Rattle.newrule.specs.Lending.{Ready, LentChains}
 use Rattle.newrule.specs.Fit.{Tells, one-more}
 use Rattle.newrule.proofs.Answers.{base}
@@ -33,8 +33,8 @@ module _
   before = tables counts xs ys cs days marks wxs wys wcs
 
   -- The rule can be tried.
-  pub ready : Ready (counts .steps) (counts .rules) xs ys cs days heads nexts x y c
-  ready = record { base = base counts xs ys cs days marks wxs wys wcs (asked .0) heads nexts (asked .1 .0); new-good = asked .1 .1 .0; not-full = asked .1 .1 .1 .0 }
+  pub ready : Ready (counts .steps) (first (counts .rules)) number (counts .rules) xs ys cs days heads nexts x y c
+  ready = record { base = base counts xs ys cs days marks wxs wys wcs (asked .0) heads nexts (asked .1 .0); new-good = asked .1 .1 .0; free = λ h. omega arith; not-full = asked .1 .1 .1 .0 }
 
   module _
       (fits : Bool) (moved : ℕ) (xs′ ys′ : List ℕ) (cs′ : List ℤ) (days′ : List ℕ)

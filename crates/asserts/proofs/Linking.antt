@@ -9,7 +9,7 @@ use Rattle.meaning.specs.Bounds.{RULES}
 use Rattle.meaning.specs.Rules.{Rule, InBounds}
 use Rattle.meaning.specs.Tables.{Tables, at}
 use Rattle.chains.specs.Chains.{Chained, Linkable, Pushed}
-use Rattle.chains.proofs.Laws.{chained-agree}
+use Rattle.chains.proofs.Laws.{chained-agree, chained-more}
 use Rattle.leaf.specs.Promises.{Border}
 use Rattle.newrule.specs.Lending.{LentChains}
 use Rattle.script.specs.Effect.{Holds}
@@ -55,7 +55,7 @@ module _ (r : Rule) (t u : Tables) (held : Holds r t u) where
 
         all-chains : LentChains (t .counts .steps) (t .counts .rules + 1) (u .rules .firsts) heads′ nexts′
         all-chains = record {
-          chained = pushed .chained (t .counts .steps) (omega (arith, new-first, good .steps-in .first-in)) old;
+          chained = chained-more (t .counts .steps) (t .counts .rules) (u .rules .firsts) (omega (arith, new-first, good .steps-in .first-in)) heads nexts heads′ nexts′ pushed old;
           heads-room =
               omega
               (arith, chains .heads-room, ap length (pushed .heads-are), length-set heads (at (u .rules .firsts) (t .counts .rules)) (t .counts .rules + 1));

@@ -1,23 +1,28 @@
 -- The chains as rules come and go.
-use Prim.Native.Nat.{ℕ, suc, _+_, _≤_, _<_}
+use Prim.Native.Nat.{ℕ, zero, suc, _+_, _≤_, _<_}
 use native.Mathlib.Omega.{arith}
-use native.Mathlib.Decide.{ℕ-discrete, decLt}
-use mathlib.Core.Path.{_≡_, refl, sym, _∙_, ap}
+use native.Mathlib.Decide.{ℕ-discrete}
+use mathlib.Core.Path.{_≡_, refl, sym, _∙_, ap, subst}
 use mathlib.Core.List.{List}
+use mathlib.Core.Logic.{_⊎_, inl, inr}
 use lib.ListN.{length, set}
 use lib.Seq.{getD-set-same, getD-set-other}
+use Rattle.meaning.specs.Rules.{plus}
 use Rattle.meaning.specs.Tables.{at}
-use Rattle.chains.specs.Chains.{Chained, Empty, Pushed}
+use Rattle.leaf.specs.Lent.{first}
+use Rattle.chains.specs.Chains.{top, ChainsOf, number, Chained, Empty, Pushed, Dropped}
 
 -- Where every chain is empty, they are the chains of no rules.
 pub chained-none : (n : ℕ) (xs heads nexts : List ℕ) → Empty n heads → Chained n 0 xs heads nexts
 chained-none n xs heads nexts empty = record {
-  head-in = λ a h. omega (arith, empty a h);
+  ranks-differ = λ j k held h e. e;
+  head-held = λ a k h e. absurd (omega (arith, empty a h));
   head-own = λ a k h e. absurd (omega (arith, empty a h));
   head-newest = λ a k h l e. absurd (omega arith);
-  next-in = λ k h. absurd (omega arith);
+  next-held = λ k j h e. absurd (omega arith);
   next-own = λ k j h e. absurd (omega arith);
-  next-newest = λ k j h l e. absurd (omega arith);
+  next-older = λ k h. absurd (omega arith);
+  next-newest = λ k j h held l e. absurd (omega arith);
 }
 
 -- Emptying the chain of a too, where those below a are empty.
@@ -28,103 +33,215 @@ empty-more a heads h empty b l = by-place (ℕ-discrete b a)
     by-place (yes e) = rw e (getD-set-same heads a 0 0 h)
     by-place (no apart) = getD-set-other heads a b 0 0 apart ∙ empty b (omega arith)
 
--- Chains of m rules speak of the first m first steps only.
-pub chained-agree : (n m : ℕ) (xs xs′ heads nexts : List ℕ) → ((k : ℕ) → k < m → at xs′ k ≡ at xs k) → Chained n m xs heads nexts → Chained n m xs′ heads nexts
-chained-agree n m xs xs′ heads nexts same ch = record {
-  head-in = ch .head-in;
-  head-own = λ a k h e. same k (omega (arith, ch .head-in a h)) ∙ ch .head-own a k h e;
-  head-newest = λ a k h l e. ch .head-newest a k h l (sym (same k l) ∙ e);
-  next-in = ch .next-in;
-  next-own = λ k j h e. same j (omega (arith, ch .next-in k h)) ∙ ch .next-own k j h e ∙ sym (same k h);
-  next-newest = λ k j h l e. ch .next-newest k j h l (sym (same j (omega arith)) ∙ e ∙ same k h);
+-- Chains speak of the first steps of their own rules only, and of which numbers these are.
+pub chains-agree :
+    (n : ℕ) (H G : ℕ → Type 0) (rank : ℕ → ℕ) (xs xs′ heads nexts : List ℕ) → ((k : ℕ) → H k → G k) → ((k : ℕ) → G k → H k) → ((k : ℕ) → H k → at xs′ k ≡ at xs k) →
+    ChainsOf n H rank xs heads nexts → ChainsOf n G rank xs′ heads nexts
+chains-agree n H G rank xs xs′ heads nexts to from same ch = record {
+  ranks-differ = λ j k held h. ch .ranks-differ j k (from j held) (from k h);
+  head-held = λ a k h e. to k (ch .head-held a k h e);
+  head-own = λ a k h e. same k (ch .head-held a k h e) ∙ ch .head-own a k h e;
+  head-newest = λ a k h held e. ch .head-newest a k h (from k held) (sym (same k (from k held)) ∙ e);
+  next-held = λ k j h e. to j (ch .next-held k j (from k h) e);
+  next-own = λ k j h e. same j (ch .next-held k j (from k h) e) ∙ ch .next-own k j (from k h) e ∙ sym (same k (from k h));
+  next-older = λ k h. ch .next-older k (from k h);
+  next-newest = λ k j h held l e. ch .next-newest k j (from k h) (from j held) l (sym (same j (from j held)) ∙ e ∙ same k (from k h));
 }
 
-module _ (n m : ℕ) (xs heads nexts : List ℕ) (first-in : at xs m < n) where
-  -- With rule m as the newest of its chain, chains of m rules are chains of m + 1.
-  pub chained-more : at xs m < length heads → m < length nexts → Chained n m xs heads nexts → Chained n (m + 1) xs (set heads (at xs m) (m + 1)) (set nexts m (at heads (at xs m)))
-  chained-more head-place next-place ch = record {
-    head-in = λ a h. head-in a h (ℕ-discrete a (at xs m));
+pub chained-agree : (n m : ℕ) (xs xs′ heads nexts : List ℕ) → ((k : ℕ) → k < m → at xs′ k ≡ at xs k) → Chained n m xs heads nexts → Chained n m xs′ heads nexts
+chained-agree n m xs xs′ heads nexts = chains-agree n (first m) (first m) number xs xs′ heads nexts (λ k h. h) (λ k h. h)
+
+-- The lists with rule m in front of its chain, and the heads without it.
+abbrev linked-heads : ℕ → List ℕ → List ℕ → List ℕ
+linked-heads m xs heads = set heads (at xs m) (m + 1)
+
+abbrev linked-nexts : ℕ → List ℕ → List ℕ → List ℕ → List ℕ
+linked-nexts m xs heads nexts = set nexts m (at heads (at xs m))
+
+abbrev left-heads : ℕ → List ℕ → List ℕ → List ℕ → List ℕ
+left-heads m xs heads nexts = set heads (at xs m) (at nexts m)
+
+-- Every rule that H holds of is older than rule m.
+module _ (n : ℕ) (H : ℕ → Type 0) (rank : ℕ → ℕ) (m : ℕ) (xs heads nexts : List ℕ) (first-in : at xs m < n) (older : (k : ℕ) → H k → rank k < rank m) where
+  -- With rule m as the newest of its chain, chains of older rules are chains of these and of m.
+  pub chains-more :
+      at xs m < length heads → m < length nexts → ChainsOf n H rank xs heads nexts →
+      ChainsOf n (plus H m) rank xs (linked-heads m xs heads) (linked-nexts m xs heads nexts)
+  chains-more head-place next-place ch = record {
+    ranks-differ = ranks-differ;
+    head-held = λ a k h e. head-held a k h e (ℕ-discrete a (at xs m));
     head-own = λ a k h e. head-own a k h e (ℕ-discrete a (at xs m));
-    head-newest = λ a k h l e. head-newest a k h l e (ℕ-discrete a (at xs m)) (ℕ-discrete k m);
-    next-in = λ k h. next-in k h (ℕ-discrete k m);
-    next-own = λ k j h e. next-own k j h e (ℕ-discrete k m);
-    next-newest = λ k j h l e. next-newest k j h l e (ℕ-discrete k m);
+    head-newest = λ a k h held e. head-newest a k h held e (ℕ-discrete a (at xs m));
+    next-held = next-held;
+    next-own = next-own;
+    next-older = next-older;
+    next-newest = next-newest;
   }
     where
-      here : at (set heads (at xs m) (m + 1)) (at xs m) ≡ m + 1
-      here = getD-set-same heads (at xs m) (m + 1) 0 head-place
+      apart-from : (k : ℕ) → H k → k ≡ m → ⊥
+      apart-from k held e = omega (arith, older k held, ap rank e)
 
-      other : (a : ℕ) → (a ≡ at xs m → ⊥) → at (set heads (at xs m) (m + 1)) a ≡ at heads a
+      here : at (linked-heads m xs heads) (at xs m) ≡ suc m
+      here = getD-set-same heads (at xs m) (m + 1) 0 head-place ∙ omega arith
+
+      other : (a : ℕ) → (a ≡ at xs m → ⊥) → at (linked-heads m xs heads) a ≡ at heads a
       other a apart = getD-set-other heads (at xs m) a (m + 1) 0 apart
 
-      new-next : at (set nexts m (at heads (at xs m))) m ≡ at heads (at xs m)
+      new-next : at (linked-nexts m xs heads nexts) m ≡ at heads (at xs m)
       new-next = getD-set-same nexts m (at heads (at xs m)) 0 next-place
 
-      old-next : (k : ℕ) → (k ≡ m → ⊥) → at (set nexts m (at heads (at xs m))) k ≡ at nexts k
-      old-next k apart = getD-set-other nexts m k (at heads (at xs m)) 0 apart
+      old-next : (k : ℕ) → H k → at (linked-nexts m xs heads nexts) k ≡ at nexts k
+      old-next k held = getD-set-other nexts m k (at heads (at xs m)) 0 (apart-from k held)
 
-      head-in : (a : ℕ) → a < n → Dec (a ≡ at xs m) → at (set heads (at xs m) (m + 1)) a ≤ m + 1
-      head-in a h (yes e) = rw e (omega (arith, here))
-      head-in a h (no apart) = omega (arith, other a apart, ch .head-in a h)
+      ranks-differ : (j k : ℕ) → plus H m j → plus H m k → rank j ≡ rank k → j ≡ k
+      ranks-differ j k (inl is) (inl e) same = is ∙ sym e
+      ranks-differ j k (inl is) (inr held) same = absurd (omega (arith, older k held, ap rank is))
+      ranks-differ j k (inr held) (inl e) same = absurd (omega (arith, older j held, ap rank e))
+      ranks-differ j k (inr held) (inr h) same = ch .ranks-differ j k held h same
 
-      head-own : (a k : ℕ) → a < n → at (set heads (at xs m) (m + 1)) a ≡ suc k → Dec (a ≡ at xs m) → at xs k ≡ a
-      head-own a k h link (yes e) = let k-is : k ≡ m = omega (arith, here, ap (at (set heads (at xs m) (m + 1))) e) in ap (at xs) k-is ∙ sym e
+      head-held : (a k : ℕ) → a < n → at (linked-heads m xs heads) a ≡ suc k → Dec (a ≡ at xs m) → plus H m k
+      head-held a k h link (yes e) = inl (omega (arith, here, ap (at (linked-heads m xs heads)) e))
+      head-held a k h link (no apart) = inr (ch .head-held a k h (sym (other a apart) ∙ link))
+
+      head-own : (a k : ℕ) → a < n → at (linked-heads m xs heads) a ≡ suc k → Dec (a ≡ at xs m) → at xs k ≡ a
+      head-own a k h link (yes e) = let k-is : k ≡ m = omega (arith, here, ap (at (linked-heads m xs heads)) e) in ap (at xs) k-is ∙ sym e
       head-own a k h link (no apart) = ch .head-own a k h (sym (other a apart) ∙ link)
 
-      head-newest : (a k : ℕ) → a < n → k < m + 1 → at xs k ≡ a → Dec (a ≡ at xs m) → Dec (k ≡ m) → k < at (set heads (at xs m) (m + 1)) a
-      head-newest a k h l own (yes e) k? = omega (arith, here, ap (at (set heads (at xs m) (m + 1))) e)
-      head-newest a k h l own (no apart) (yes k-is) = absurd (apart (sym own ∙ ap (at xs) k-is))
-      head-newest a k h l own (no apart) (no older) = omega (arith, other a apart, ch .head-newest a k h (omega arith) own)
+      reaches : (k : ℕ) → plus H m k → rank k < suc (rank m)
+      reaches k (inl is) = omega (arith, ap rank is)
+      reaches k (inr held) = omega (arith, older k held)
 
-      next-in : (k : ℕ) → k < m + 1 → Dec (k ≡ m) → at (set nexts m (at heads (at xs m))) k ≤ k
-      next-in k h (yes e) = rw e (omega (arith, new-next, ch .head-in (at xs m) first-in))
-      next-in k h (no older) = omega (arith, old-next k older, ch .next-in k (omega arith))
+      head-newest : (a k : ℕ) → a < n → plus H m k → at xs k ≡ a → Dec (a ≡ at xs m) → rank k < top rank (at (linked-heads m xs heads) a)
+      head-newest a k h held own (yes e) = subst (λ (l : ℕ). rank k < top rank l) (sym (ap (at (linked-heads m xs heads)) e ∙ here)) (reaches k held)
+      head-newest a k h (inl is) own (no apart) = absurd (apart (sym own ∙ ap (at xs) is))
+      head-newest a k h (inr held) own (no apart) = subst (λ (l : ℕ). rank k < top rank l) (sym (other a apart)) (ch .head-newest a k h held own)
 
-      next-own : (k j : ℕ) → k < m + 1 → at (set nexts m (at heads (at xs m))) k ≡ suc j → Dec (k ≡ m) → at xs j ≡ at xs k
-      next-own k j h link (yes e) = ch .head-own (at xs m) j first-in (sym new-next ∙ ap (at (set nexts m (at heads (at xs m)))) (sym e) ∙ link) ∙ ap (at xs) (sym e)
-      next-own k j h link (no older) = ch .next-own k j (omega arith) (sym (old-next k older) ∙ link)
+      next-held : (k j : ℕ) → plus H m k → at (linked-nexts m xs heads nexts) k ≡ suc j → plus H m j
+      next-held k j (inl is) link = inr (ch .head-held (at xs m) j first-in (sym new-next ∙ ap (at (linked-nexts m xs heads nexts)) (sym is) ∙ link))
+      next-held k j (inr held) link = inr (ch .next-held k j held (sym (old-next k held) ∙ link))
 
-      next-newest : (k j : ℕ) → k < m + 1 → j < k → at xs j ≡ at xs k → Dec (k ≡ m) → j < at (set nexts m (at heads (at xs m))) k
-      next-newest k j h l own (yes e) = omega (arith, new-next, ap (at (set nexts m (at heads (at xs m)))) e, ch .head-newest (at xs m) j first-in (omega arith) (own ∙ ap (at xs) e))
-      next-newest k j h l own (no older) = omega (arith, old-next k older, ch .next-newest k j (omega arith) l own)
+      next-own : (k j : ℕ) → plus H m k → at (linked-nexts m xs heads nexts) k ≡ suc j → at xs j ≡ at xs k
+      next-own k j (inl is) link = ch .head-own (at xs m) j first-in (sym new-next ∙ ap (at (linked-nexts m xs heads nexts)) (sym is) ∙ link) ∙ ap (at xs) (sym is)
+      next-own k j (inr held) link = ch .next-own k j held (sym (old-next k held) ∙ link)
 
-  -- With rule m off its chain, chains of m + 1 rules are chains of m.
-  pub chained-less : at xs m < length heads → Chained n (m + 1) xs heads nexts → Chained n m xs (set heads (at xs m) (at nexts m)) nexts
-  chained-less head-place ch = record {
-    head-in = λ a h. head-in a h (ℕ-discrete a (at xs m));
+      -- What the head of m's step led to is older than m.
+      head-older : (l : ℕ) → at heads (at xs m) ≡ l → top rank l ≤ rank m
+      head-older zero e = omega arith
+      head-older (suc k) e = omega (arith, older k (ch .head-held (at xs m) k first-in e))
+
+      next-older : (k : ℕ) → plus H m k → top rank (at (linked-nexts m xs heads nexts) k) ≤ rank k
+      next-older k (inl is) = subst (λ (i : ℕ). top rank (at (linked-nexts m xs heads nexts) i) ≤ rank i) (sym is) (subst (λ (l : ℕ). top rank l ≤ rank m) (sym new-next) (head-older (at heads (at xs m)) refl))
+      next-older k (inr held) = subst (λ (l : ℕ). top rank l ≤ rank k) (sym (old-next k held)) (ch .next-older k held)
+
+      next-newest : (k j : ℕ) → plus H m k → plus H m j → rank j < rank k → at xs j ≡ at xs k → rank j < top rank (at (linked-nexts m xs heads nexts) k)
+      next-newest k j (inl is) (inl e) l own = absurd (omega (arith, ap rank is, ap rank e))
+      next-newest k j (inl is) (inr held) l own =
+          subst (λ (link : ℕ). rank j < top rank link) (sym (ap (at (linked-nexts m xs heads nexts)) is ∙ new-next)) (ch .head-newest (at xs m) j first-in held (own ∙ ap (at xs) is))
+      next-newest k j (inr held) (inl e) l own = absurd (omega (arith, older k held, ap rank e))
+      next-newest k j (inr held) (inr h) l own = subst (λ (link : ℕ). rank j < top rank link) (sym (old-next k held)) (ch .next-newest k j held h l own)
+
+  -- With rule m off its chain, chains of older rules and of m are chains of the older rules.
+  pub chains-less : at xs m < length heads → ChainsOf n (plus H m) rank xs heads nexts → ChainsOf n H rank xs (left-heads m xs heads nexts) nexts
+  chains-less head-place ch = record {
+    ranks-differ = λ j k held h. ch .ranks-differ j k (inr held) (inr h);
+    head-held = λ a k h e. head-held a k h e (ℕ-discrete a (at xs m));
     head-own = λ a k h e. head-own a k h e (ℕ-discrete a (at xs m));
-    head-newest = λ a k h l e. head-newest a k h l e (ℕ-discrete a (at xs m));
-    next-in = λ k h. ch .next-in k (omega arith);
-    next-own = λ k j h e. ch .next-own k j (omega arith) e;
-    next-newest = λ k j h l e. ch .next-newest k j (omega arith) l e;
+    head-newest = λ a k h held e. head-newest a k h held e (ℕ-discrete a (at xs m));
+    next-held = λ k j h e. below-next k j h e (ch .next-held k j (inr h) e);
+    next-own = λ k j h e. ch .next-own k j (inr h) e;
+    next-older = λ k h. ch .next-older k (inr h);
+    next-newest = λ k j h held l e. ch .next-newest k j (inr h) (inr held) l e;
   }
     where
-      here : at (set heads (at xs m) (at nexts m)) (at xs m) ≡ at nexts m
+      here : at (left-heads m xs heads nexts) (at xs m) ≡ at nexts m
       here = getD-set-same heads (at xs m) (at nexts m) 0 head-place
 
-      other : (a : ℕ) → (a ≡ at xs m → ⊥) → at (set heads (at xs m) (at nexts m)) a ≡ at heads a
+      other : (a : ℕ) → (a ≡ at xs m → ⊥) → at (left-heads m xs heads nexts) a ≡ at heads a
       other a apart = getD-set-other heads (at xs m) a (at nexts m) 0 apart
 
-      -- A head of m + 1 is that of rule m's step.
-      head-in : (a : ℕ) → a < n → Dec (a ≡ at xs m) → at (set heads (at xs m) (at nexts m)) a ≤ m
-      head-in a h (yes e) = rw e (omega (arith, here, ch .next-in m (omega arith)))
-      head-in a h (no apart) = below (decLt (at heads a) (m + 1))
-        where
-          below : Dec (at heads a < m + 1) → at (set heads (at xs m) (at nexts m)) a ≤ m
-          below (yes l) = omega (arith, other a apart)
-          below (no l) = absurd (apart (sym (ch .head-own a m h (omega (arith, ch .head-in a h)))))
+      -- What a rule leads to ranks below it, and so is not m where the rule is not newer.
+      lower : (k j : ℕ) → plus H m k → at nexts k ≡ suc j → rank j < rank k
+      lower k j held link = omega (arith, subst (λ (l : ℕ). top rank l ≤ rank k) link (ch .next-older k held))
 
-      head-own : (a k : ℕ) → a < n → at (set heads (at xs m) (at nexts m)) a ≡ suc k → Dec (a ≡ at xs m) → at xs k ≡ a
-      head-own a k h link (yes e) = ch .next-own m k (omega arith) (sym here ∙ ap (at (set heads (at xs m) (at nexts m))) (sym e) ∙ link) ∙ sym e
+      below-next : (k j : ℕ) → H k → at nexts k ≡ suc j → plus H m j → H j
+      below-next k j held link (inl is) = absurd (omega (arith, lower k j (inr held) link, older k held, ap rank is))
+      below-next k j held link (inr h) = h
+
+      below-m : (j : ℕ) → at nexts m ≡ suc j → plus H m j → H j
+      below-m j link (inl is) = absurd (omega (arith, lower m j (inl refl) link, ap rank is))
+      below-m j link (inr h) = h
+
+      head-held : (a k : ℕ) → a < n → at (left-heads m xs heads nexts) a ≡ suc k → Dec (a ≡ at xs m) → H k
+      head-held a k h link (yes e) = let led : at nexts m ≡ suc k = sym here ∙ ap (at (left-heads m xs heads nexts)) (sym e) ∙ link in below-m k led (ch .next-held m k (inl refl) led)
+      head-held a k h link (no apart) = not-m (ch .head-held a k h led)
+        where
+          led : at heads a ≡ suc k
+          led = sym (other a apart) ∙ link
+
+          not-m : plus H m k → H k
+          not-m (inl is) = absurd (apart (sym (ch .head-own a k h led) ∙ ap (at xs) is))
+          not-m (inr held) = held
+
+      head-own : (a k : ℕ) → a < n → at (left-heads m xs heads nexts) a ≡ suc k → Dec (a ≡ at xs m) → at xs k ≡ a
+      head-own a k h link (yes e) = ch .next-own m k (inl refl) (sym here ∙ ap (at (left-heads m xs heads nexts)) (sym e) ∙ link) ∙ sym e
       head-own a k h link (no apart) = ch .head-own a k h (sym (other a apart) ∙ link)
 
-      head-newest : (a k : ℕ) → a < n → k < m → at xs k ≡ a → Dec (a ≡ at xs m) → k < at (set heads (at xs m) (at nexts m)) a
-      head-newest a k h l own (yes e) = omega (arith, here, ap (at (set heads (at xs m) (at nexts m))) e, ch .next-newest m k (omega arith) l (own ∙ e))
-      head-newest a k h l own (no apart) = omega (arith, other a apart, ch .head-newest a k h (omega arith) own)
+      head-newest : (a k : ℕ) → a < n → H k → at xs k ≡ a → Dec (a ≡ at xs m) → rank k < top rank (at (left-heads m xs heads nexts) a)
+      head-newest a k h held own (yes e) =
+          subst (λ (l : ℕ). rank k < top rank l) (sym (ap (at (left-heads m xs heads nexts)) e ∙ here)) (ch .next-newest m k (inl refl) (inr held) (older k held) (own ∙ e))
+      head-newest a k h held own (no apart) = subst (λ (l : ℕ). rank k < top rank l) (sym (other a apart)) (ch .head-newest a k h (inr held) own)
 
 -- So rule m is put on its chain by any link that is m + 1.
 pub pushed :
     (m link : ℕ) (xs heads nexts : List ℕ) → at xs m < length heads → m < length nexts → link ≡ m + 1 →
     Pushed m xs heads nexts (set heads (at xs m) link) (set nexts m (at heads (at xs m)))
-pushed m link xs heads nexts head-place next-place is =
-    rw is (record { heads-are = refl; nexts-are = refl; chained = λ n first-in ch. chained-more n m xs heads nexts first-in head-place next-place ch })
+pushed m link xs heads nexts head-place next-place is = rw is (record { head-place = head-place; next-place = next-place; heads-are = refl; nexts-are = refl })
+
+-- ---- rules numbered in order of adding
+
+-- The first m numbers and m are the first m + 1.
+one-more : (m k : ℕ) → plus (first m) m k → k < m + 1
+one-more m k (inl is) = omega arith
+one-more m k (inr l) = omega arith
+
+or-last : (m k : ℕ) → k < m + 1 → plus (first m) m k
+or-last m k l = by-place (ℕ-discrete k m)
+  where
+    by-place : Dec (k ≡ m) → plus (first m) m k
+    by-place (yes e) = inl e
+    by-place (no apart) = inr (omega arith)
+
+module _ (n m : ℕ) (xs : List ℕ) (first-in : at xs m < n) where
+  -- Rule m on its chain, and off it.
+  pub chained-more : (heads nexts heads′ nexts′ : List ℕ) → Pushed m xs heads nexts heads′ nexts′ → Chained n m xs heads nexts → Chained n (m + 1) xs heads′ nexts′
+  chained-more heads nexts heads′ nexts′ p ch =
+      chains-agree n (plus (first m) m) (first (m + 1)) number xs xs heads′ nexts′ (one-more m) (or-last m) (λ k h. refl)
+      (rw (p .heads-are, p .nexts-are) (chains-more n (first m) number m xs heads nexts first-in (λ k l. l) (p .head-place) (p .next-place) ch))
+
+  pub chained-less : (heads nexts heads′ : List ℕ) → Dropped m xs heads nexts heads′ → Chained n (m + 1) xs heads nexts → Chained n m xs heads′ nexts
+  chained-less heads nexts heads′ d ch =
+      rw (d .heads-are)
+      (chains-less n (first m) number m xs heads nexts first-in (λ k l. l) (d .head-place)
+      (chains-agree n (first (m + 1)) (plus (first m) m) number xs xs heads nexts (or-last m) (one-more m) (λ k h. refl) ch))
+
+-- A link reaches up to itself, and leads to a rule held.
+pub top-number : (l : ℕ) → top number l ≡ l
+top-number zero = refl
+top-number (suc k) = refl
+
+module _ (n m : ℕ) (xs heads nexts : List ℕ) (ch : Chained n m xs heads nexts) where
+  pub head-in : (a : ℕ) → a < n → at heads a ≤ m
+  head-in a h = by-link (at heads a) refl
+    where
+      by-link : (l : ℕ) → at heads a ≡ l → l ≤ m
+      by-link zero e = omega arith
+      by-link (suc k) e = ch .head-held a k h e
+
+  pub head-newest : (a k : ℕ) → a < n → k < m → at xs k ≡ a → k < at heads a
+  head-newest a k h l own = subst (λ (t : ℕ). k < t) (top-number (at heads a)) (ch .head-newest a k h l own)
+
+  pub next-in : (k : ℕ) → k < m → at nexts k ≤ k
+  next-in k h = subst (λ (t : ℕ). t ≤ k) (top-number (at nexts k)) (ch .next-older k h)
+
+  pub next-newest : (k j : ℕ) → k < m → j < k → at xs j ≡ at xs k → j < at nexts k
+  next-newest k j h l own = subst (λ (t : ℕ). j < t) (top-number (at nexts k)) (ch .next-newest k j h (omega arith) l own)

@@ -1,20 +1,36 @@
 -- Chains: the rules of each first step, newest first. A link is a rule number plus 1, and 0 ends the chain: `heads` has the link to a
 -- step's newest rule, and `nexts` the link to the next older rule with the same first step.
-use Prim.Native.Nat.{ℕ, suc, _+_, _≤_, _<_}
+use Prim.Native.Nat.{ℕ, zero, suc, _+_, _≤_, _<_}
 use mathlib.Core.Path.{_≡_}
 use mathlib.Core.List.{List}
 use lib.ListN.{length, set}
 use Rattle.meaning.specs.Tables.{at}
+use Rattle.leaf.specs.Lent.{first}
 
--- The chains of the first m rules over n steps, where xs has their first steps: each link leads to a rule of its own step, and no rule
--- of that step stands above a head or between two neighbouring links.
-pub record Chained (n m : ℕ) (xs heads nexts : List ℕ) : Type 0 where
-  pub head-in : (a : ℕ) → a < n → at heads a ≤ m
+-- How far up a link reaches: above the rank of the rule that it leads to, and above none at the chain's end.
+abbrev pub top : (ℕ → ℕ) → ℕ → ℕ
+top rank zero = 0
+top rank (suc k) = suc (rank k)
+
+-- The chains over n steps of the rules whose numbers H holds of, where xs has their first steps and a newer rule has a higher rank: each link leads
+-- to a rule of its own step, and no rule of that step ranks above a head or between two neighbouring links.
+pub record ChainsOf (n : ℕ) (H : ℕ → Type 0) (rank : ℕ → ℕ) (xs heads nexts : List ℕ) : Type 0 where
+  pub ranks-differ : (j k : ℕ) → H j → H k → rank j ≡ rank k → j ≡ k
+  pub head-held : (a k : ℕ) → a < n → at heads a ≡ suc k → H k
   pub head-own : (a k : ℕ) → a < n → at heads a ≡ suc k → at xs k ≡ a
-  pub head-newest : (a k : ℕ) → a < n → k < m → at xs k ≡ a → k < at heads a
-  pub next-in : (k : ℕ) → k < m → at nexts k ≤ k
-  pub next-own : (k j : ℕ) → k < m → at nexts k ≡ suc j → at xs j ≡ at xs k
-  pub next-newest : (k j : ℕ) → k < m → j < k → at xs j ≡ at xs k → j < at nexts k
+  pub head-newest : (a k : ℕ) → a < n → H k → at xs k ≡ a → rank k < top rank (at heads a)
+  pub next-held : (k j : ℕ) → H k → at nexts k ≡ suc j → H j
+  pub next-own : (k j : ℕ) → H k → at nexts k ≡ suc j → at xs j ≡ at xs k
+  pub next-older : (k : ℕ) → H k → top rank (at nexts k) ≤ rank k
+  pub next-newest : (k j : ℕ) → H k → H j → rank j < rank k → at xs j ≡ at xs k → rank j < top rank (at nexts k)
+
+-- Where numbers are given in order of adding, a rule's number is its rank.
+abbrev pub number : ℕ → ℕ
+number i = i
+
+-- The chains of the first m rules.
+abbrev pub Chained : ℕ → ℕ → List ℕ → List ℕ → List ℕ → Type 0
+Chained n m = ChainsOf n (first m) number
 
 -- Rule m can be put on its chain, or taken off it: it has a place in each list, its first step has a head, and its link fits a u16.
 pub record Linkable (m : ℕ) (xs heads nexts : List ℕ) : Type 0 where
@@ -27,16 +43,17 @@ pub record Linkable (m : ℕ) (xs heads nexts : List ℕ) : Type 0 where
 abbrev pub Empty : ℕ → List ℕ → Type 0
 Empty n heads = (a : ℕ) → a < n → at heads a ≡ 0
 
--- Rule m was put on its chain: two cells changed, and chains of m rules are now chains of m + 1.
+-- Rule m was put on its chain, in front: two cells changed. Chains of older rules are now chains of these and of m (`chains-more`).
 pub record Pushed (m : ℕ) (xs heads nexts heads′ nexts′ : List ℕ) : Type 0 where
+  pub head-place : at xs m < length heads
+  pub next-place : m < length nexts
   pub heads-are : heads′ ≡ set heads (at xs m) (m + 1)
   pub nexts-are : nexts′ ≡ set nexts m (at heads (at xs m))
-  pub chained : (n : ℕ) → at xs m < n → Chained n m xs heads nexts → Chained n (m + 1) xs heads′ nexts′
 
--- Rule m, the newest, was taken off its chain: one cell changed, and chains of m + 1 rules are now chains of m.
+-- The rule in front, m, was taken off its chain: one cell changed. Chains of m and of older rules are now chains of the older rules (`chains-less`).
 pub record Dropped (m : ℕ) (xs heads nexts heads′ : List ℕ) : Type 0 where
+  pub head-place : at xs m < length heads
   pub heads-are : heads′ ≡ set heads (at xs m) (at nexts m)
-  pub chained : (n : ℕ) → at xs m < n → Chained n (m + 1) xs heads nexts → Chained n m xs heads′ nexts
 
 -- The first m rules can be put on chains over n steps.
 pub record Buildable (n m : ℕ) (xs heads nexts : List ℕ) : Type 0 where

@@ -6,25 +6,25 @@ use lib.ListN.{length}
 use lib.IntN.{ℤ}
 use Rattle.meaning.specs.Bounds.{STEPS, RULES}
 use Rattle.meaning.specs.Rules.{InBounds, Plan, Earliest}
-use Rattle.meaning.specs.Tables.{ColumnsRoom, at}
+use Rattle.meaning.specs.Tables.{at}
 use Rattle.meaning.specs.Promise.{Past}
-use Rattle.leaf.specs.Lent.{columns}
-use Rattle.spread.specs.Ground.{rules, first}
+use Rattle.leaf.specs.Lent.{Placed}
+use Rattle.spread.specs.Ground.{rules}
 
--- n steps and m rules are within bounds and have their places; each rule is within bounds; and the days keep every rule.
-pub record Plannable (n m : ℕ) (xs ys : List ℕ) (cs : List ℤ) (days : List ℕ) : Type 0 where
+-- n steps are within bounds and have their days; each rule held, whose number H holds of, has its place and is within bounds; and the days keep every rule.
+pub record Plannable (n : ℕ) (H : ℕ → Type 0) (xs ys : List ℕ) (cs : List ℤ) (days : List ℕ) : Type 0 where
   pub steps-in : n ≤ STEPS
-  pub rules-in : m ≤ RULES
-  pub rules-room : ColumnsRoom m (columns xs ys cs)
+  pub number-in : (i : ℕ) → H i → i < RULES
+  pub placed : (i : ℕ) → H i → Placed xs ys cs i
   pub days-room : n ≤ length days
-  pub in-bounds : (i : ℕ) → i < m → InBounds n (rules xs ys cs i)
-  pub plan : Plan (rules xs ys cs) (first m) (at days)
+  pub in-bounds : (i : ℕ) → H i → InBounds n (rules xs ys cs i)
+  pub plan : Plan (rules xs ys cs) H (at days)
 
--- The days are the earliest plan of m rules, of which the first k stay.
-pub record Droppable (n m k : ℕ) (xs ys : List ℕ) (cs : List ℤ) (days : List ℕ) : Type 0 where
-  pub plannable : Plannable n m xs ys cs days
-  pub earliest : Earliest n (rules xs ys cs) (first m) (at days)
-  pub stay : k ≤ m
+-- The days are the earliest plan of the rules held, of which those stay whose numbers S holds of.
+pub record Droppable (n : ℕ) (H S : ℕ → Type 0) (xs ys : List ℕ) (cs : List ℤ) (days : List ℕ) : Type 0 where
+  pub plannable : Plannable n H xs ys cs days
+  pub earliest : Earliest n (rules xs ys cs) H (at days)
+  pub stay : (i : ℕ) → S i → H i
 
 -- The chains, the gains and the rules they come by have a place for each of n steps and m rules.
 pub record PlanRoom (n m : ℕ) (heads nexts gains by : List ℕ) : Type 0 where

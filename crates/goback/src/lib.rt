@@ -3,10 +3,12 @@
 // spread gives is the earliest plan from the asked days on, so what is left is the earliest plan.
 ghost use Prim.Native.Nat.{_≤_};
 ghost use lib.ListN.{length};
+ghost use Rattle.meaning.specs.Bounds.{RULES};
 ghost use Rattle.meaning.specs.Promise.{Planned};
 ghost use Rattle.leaf.specs.Lent.{tables};
 ghost use Rattle.leaf.specs.Promises.{Border, GoesBack};
-ghost use Rattle.spread.specs.Ground.{rules, first};
+ghost use Rattle.leaf.specs.Lent.{first};
+ghost use Rattle.spread.specs.Ground.{rules};
 ghost use Rattle.goback.specs.Replan.{Plannable, Droppable, PlanRoom, LatestDay, Reachable, Reaches, Bringable, Brought};
 use meaning::Answer;
 use meaning::Counts;
@@ -60,7 +62,7 @@ pub fn back(
 
 // Brings the days of n steps, which are the earliest plan of m rules, to the earliest plan of the first k of them. Where k is m nothing changes.
 fn keep_first(n: usize, m: usize, k: usize, xs: &[u16], ys: &[u16], cs: &[i32], days: &mut [u32])
-    requires { ⌜ Droppable n m k (now xs) (now ys) (now cs) (now days) ⌝ }
+    requires { ⌜ Droppable n (first m) (first k) (now xs) (now ys) (now cs) (now days) ⌝ }
     ensures { λ _. ⌜ Planned n (rules (now (xs .entry)) (now (ys .entry)) (now (cs .entry))) (first k) (now (days .entry)) (now (days .exit)) ⌝ }
 {
     if k == m {
@@ -71,7 +73,8 @@ fn keep_first(n: usize, m: usize, k: usize, xs: &[u16], ys: &[u16], cs: &[i32], 
 
 // Brings the days of n steps, which keep each of m rules, to the earliest plan of those rules.
 fn plan(n: usize, m: usize, xs: &[u16], ys: &[u16], cs: &[i32], days: &mut [u32])
-    requires { ⌜ Plannable n m (now xs) (now ys) (now cs) (now days) ⌝ }
+    requires { ⌜ Plannable n (first m) (now xs) (now ys) (now cs) (now days) ⌝ }
+    requires { ⌜ m ≤ RULES ⌝ }
     ensures { λ _. ⌜ Planned n (rules (now (xs .entry)) (now (ys .entry)) (now (cs .entry))) (first m) (now (days .entry)) (now (days .exit)) ⌝ }
 {
     let mut heads = [0u16; meaning::STEPS];
@@ -105,7 +108,7 @@ fn plan_with(
     gains: &mut [u64],
     by: &mut [u16],
 )
-    requires { ⌜ Plannable n m (now xs) (now ys) (now cs) (now days) ⌝ }
+    requires { ⌜ Plannable n (first m) (now xs) (now ys) (now cs) (now days) ⌝ }
     requires { ⌜ PlanRoom n m (now heads) (now nexts) (now gains) (now by) ⌝ }
     ensures { λ _. ⌜ Planned n (rules (now (xs .entry)) (now (ys .entry)) (now (cs .entry))) (first m) (now (days .entry)) (now (days .exit)) ⌝ }
 {

@@ -23,6 +23,10 @@ tables counts xs ys cs days marks wxs wys wcs = record {
   watched = columns wxs wys wcs;
 }
 
+-- The numbers below m. Of m rules in order of adding these are the numbers held.
+abbrev pub first : ℕ → ℕ → Type 0
+first m i = i < m
+
 -- r is the amount c counted from 2147483648 below 0.
 pub record Biased (c : ℤ) (r : ℕ) : Type 0 where
   pub is : r + dn c ≡ up c + 2147483648

@@ -6,6 +6,7 @@ use mathlib.Core.List.{List}
 use lib.ListN.{length}
 use Rattle.meaning.specs.Tables.{at}
 use Rattle.chains.specs.Chains.{Chained, Linkable, Dropped}
+use Rattle.chains.proofs.Laws.{chained-less}
 use Rattle.newrule.specs.Lending.{LentChains}
 
 module _ {n m i : ℕ} {xs heads nexts : List ℕ} (newest : m ≡ i + 1) (chains : LentChains n m xs heads nexts) (first-in : at xs i < n) where
@@ -18,8 +19,8 @@ module _ {n m i : ℕ} {xs heads nexts : List ℕ} (newest : m ≡ i + 1) (chain
   }
 
   pub one-fewer : {heads′ : List ℕ} → length heads′ ≡ length heads → Dropped i xs heads nexts heads′ → LentChains n i xs heads′ nexts
-  one-fewer same-length dropped = record {
-    chained = dropped .chained n first-in (subst (λ (k : ℕ). Chained n k xs heads nexts) newest (chains .chained));
+  one-fewer {heads′} same-length dropped = record {
+    chained = chained-less n i xs first-in heads nexts heads′ dropped (subst (λ (k : ℕ). Chained n k xs heads nexts) newest (chains .chained));
     heads-room = omega (arith, chains .heads-room, same-length);
     nexts-room = omega (arith, chains .nexts-room);
   }

@@ -35,7 +35,7 @@ opened-kept n t u a b room lo hi x = subst Kept (sym (x .emptied)) kept
     w : Tables
     w = with-days (u .days) (opened n t)
 
-    zeros : Earliest n (rule-at (t .rules)) (held (w .counts)) (at (u .days))
+    zeros : Earliest n (rule-at (t .rules)) (held w) (at (u .days))
     zeros = record { plan = λ i h. absurd (omega arith); no-later = λ q p v h. omega (arith, x .day-0 v h) }
 
     kept : Kept w

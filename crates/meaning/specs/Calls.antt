@@ -24,11 +24,11 @@ abbrev pub rules-of : Tables → ℕ → Rule
 rules-of t = rule-at (t .rules)
 
 abbrev pub held-in : Tables → ℕ → Type 0
-held-in t = held (t .counts)
+held-in t = held t
 
 -- The would-be number, and the rules with the new rule under it.
 abbrev pub next-in : Tables → ℕ
-next-in t = next (t .counts)
+next-in t = next t
 
 abbrev pub rules-and : Rule → Tables → ℕ → Rule
 rules-and r t = more (rules-of t) (next-in t) r

@@ -34,12 +34,12 @@ abbrev pub at : List ℕ → ℕ → ℕ
 at l i = getD l i 0
 
 -- Which rule numbers are held: those below the rule count.
-abbrev pub held : Counts → ℕ → Type 0
-held c i = i < c .rules
+abbrev pub held : Tables → ℕ → Type 0
+held t i = i < t .counts .rules
 
 -- The number that the next rule would have.
-abbrev pub next : Counts → ℕ
-next c = c .rules
+abbrev pub next : Tables → ℕ
+next t = t .counts .rules
 
 -- The table has at least k places in each column.
 pub record ColumnsRoom (k : ℕ) (c : Columns) : Type 0 where
@@ -66,11 +66,11 @@ pub record InCounts (c : Counts) : Type 0 where
 -- the rule count, and the days equal the earliest plan of the rules held. Cells past the counts may hold anything.
 pub record Sound (t : Tables) : Type 0 where
   pub counts-in : InCounts (t .counts)
-  pub rules-good : (i : ℕ) → held (t .counts) i → InBounds (t .counts .steps) (rule-at (t .rules) i)
+  pub rules-good : (i : ℕ) → held t i → InBounds (t .counts .steps) (rule-at (t .rules) i)
   pub watched-good : (i : ℕ) → i < t .counts .watched → InBounds (t .counts .steps) (rule-at (t .watched) i)
   pub marks-never-fall : (i j : ℕ) → i ≤ j → j < t .counts .marks → at (t .marks) i ≤ at (t .marks) j
   pub marks-held : (i : ℕ) → i < t .counts .marks → at (t .marks) i ≤ t .counts .rules
-  pub days-earliest : Earliest (t .counts .steps) (rule-at (t .rules)) (held (t .counts)) (at (t .days))
+  pub days-earliest : Earliest (t .counts .steps) (rule-at (t .rules)) (held t) (at (t .days))
 
 -- The tables of n steps with no rule, mark or watched rule. The days are not yet set.
 abbrev pub opened : ℕ → Tables → Tables
@@ -90,7 +90,7 @@ with-watched r t = record {
 abbrev pub with-rule : Rule → Tables → Tables
 with-rule r t = record {
   counts = record { steps = t .counts .steps; rules = t .counts .rules + 1; marks = t .counts .marks; watched = t .counts .watched };
-  rules = put (t .rules) (next (t .counts)) r;
+  rules = put (t .rules) (next t) r;
   days = t .days;
   marks = t .marks;
   watched = t .watched;

@@ -7,30 +7,31 @@ use mathlib.Core.List.{List}
 use mathlib.Core.Logic.{inl, inr}
 use Rattle.meaning.specs.Bounds.{STEPS}
 use Rattle.meaning.specs.Tables.{at}
-use Rattle.names.specs.Names.{hash, name-at, Indexed, Linked, LinkOf, Unknown, Found, FoundBelow, AllDifferent}
+use Rattle.chains.proofs.Laws.{head-in, head-newest, next-in, next-newest}
+use Rattle.names.specs.Names.{BUCKETS, hash, name-at, Indexed, Linked, LinkOf, Unknown, Found, FoundBelow, AllDifferent}
 use Rattle.names.proofs.Hashing.{hash-small}
 
 -- An index links its names.
 pub linked : (n : ℕ) (names lens hashes heads nexts : List ℕ) → n ≤ STEPS → Indexed n names lens hashes heads nexts → Linked n names lens nexts
 linked n names lens hashes heads nexts few i = record {
   links-room = omega (arith, i .room .nexts-room);
-  next-in = i .chained .next-in;
-  next-own = λ k j h e. sym (i .hashes-are j (omega (arith, i .chained .next-in k h))) ∙ i .chained .next-own k j h e ∙ i .hashes-are k h;
-  next-newest = λ k j h l e. i .chained .next-newest k j h l (i .hashes-are j (omega arith) ∙ e ∙ sym (i .hashes-are k h));
+  next-in = next-in BUCKETS n hashes heads nexts (i .chained);
+  next-own = λ k j h e. sym (i .hashes-are j (omega (arith, next-in BUCKETS n hashes heads nexts (i .chained) k h))) ∙ i .chained .next-own k j h e ∙ i .hashes-are k h;
+  next-newest = λ k j h l e. next-newest BUCKETS n hashes heads nexts (i .chained) k j h l (i .hashes-are j (omega arith) ∙ e ∙ sym (i .hashes-are k h));
 }
 
 -- The walk begins at the head of the hash of w, and every name w stands below it.
 module _ (n : ℕ) (names lens hashes heads nexts : List ℕ) (i : Indexed n names lens hashes heads nexts) (w : List ℕ) where
   pub link-head : LinkOf n names lens w (at heads (hash w))
   link-head = record {
-    link-in = i .chained .head-in (hash w) (hash-small w);
-    link-own = λ k e. sym (i .hashes-are k (omega (arith, i .chained .head-in (hash w) (hash-small w)))) ∙ i .chained .head-own (hash w) k (hash-small w) e;
+    link-in = head-in BUCKETS n hashes heads nexts (i .chained) (hash w) (hash-small w);
+    link-own = λ k e. sym (i .hashes-are k (omega (arith, head-in BUCKETS n hashes heads nexts (i .chained) (hash w) (hash-small w)))) ∙ i .chained .head-own (hash w) k (hash-small w) e;
   }
 
   pub found-all : (r : ℕ) → FoundBelow n names lens w (at heads (hash w)) r → Found n names lens w r
-  found-all r (inl met) = inl (omega (arith, i .chained .head-in (hash w) (hash-small w)), met .1)
+  found-all r (inl met) = inl (omega (arith, head-in BUCKETS n hashes heads nexts (i .chained) (hash w) (hash-small w)), met .1)
   found-all r (inr none) =
-      inr (none .0, λ k h e. none .1 k (i .chained .head-newest (hash w) k (hash-small w) h (i .hashes-are k h ∙ ap hash e)) e)
+      inr (none .0, λ k h e. none .1 k (head-newest BUCKETS n hashes heads nexts (i .chained) (hash w) k (hash-small w) h (i .hashes-are k h ∙ ap hash e)) e)
 
 -- Every name at the link l or above, and below where the walk began, is not w.
 abbrev pub Passed : List ℕ → List ℕ → List ℕ → ℕ → ℕ → Type 0

@@ -9,7 +9,7 @@ use lib.Seq.{getD-set-same, getD-set-other}
 use Rattle.meaning.specs.Bounds.{STEPS, NAME-BYTES}
 use Rattle.meaning.specs.Tables.{at}
 use Rattle.chains.specs.Chains.{Linkable, Pushed}
-use Rattle.chains.proofs.Laws.{chained-agree}
+use Rattle.chains.proofs.Laws.{chained-agree, chained-more}
 use Rattle.write.specs.Written.{over}
 use Rattle.write.proofs.Laws.{length-over, part-written, part-before}
 use Rattle.names.specs.Names.{BUCKETS, hash, name-at, Shelved, IndexRoom, Indexed, Unknown, AllDifferent, Declared}
@@ -52,7 +52,7 @@ module _ (n : ℕ) (w names lens : List ℕ) (few : n < STEPS) (short : length w
         nexts-room = omega (arith, ap length (pushed .nexts-are) ∙ length-set nexts n (at heads (at (set hashes n h) n)), room .nexts-room);
       };
       hashes-are = λ k l. by-place k l (ℕ-discrete k n);
-      chained = pushed .chained BUCKETS (omega (arith, here)) (chained-agree BUCKETS n hashes (set hashes n h) heads nexts there (i .chained));
+      chained = chained-more BUCKETS n (set hashes n h) (omega (arith, here)) heads nexts heads′ nexts′ pushed (chained-agree BUCKETS n hashes (set hashes n h) heads nexts there (i .chained));
     }
       where
         by-place : (k : ℕ) → k < n + 1 → Dec (k ≡ n) → at (set hashes n h) k ≡ hash (name-at (over names (NAME-BYTES * n) w) (set lens n (length w)) k)

@@ -18,10 +18,11 @@ use Rattle.meaning.proofs.Lists.{past-refl, filled-length}
 use Rattle.meaning.proofs.DayBound.{day-bound}
 use Rattle.meaning.proofs.Needs.{obeys-done, obeys-conflict}
 use Rattle.meaning.proofs.Possible.{Asked, plan-fits, first-conflict}
-use Rattle.leaf.specs.Lent.{columns, tables, Placed}
+use Rattle.leaf.specs.Lent.{columns, tables, Placed, first}
+use Rattle.chains.specs.Chains.{number}
 use Rattle.leaf.specs.Promises.{rule, Border}
 use Rattle.inside.proofs.Equal.{tables-equal}
-use Rattle.spread.specs.Ground.{rules, first, Ground}
+use Rattle.spread.specs.Ground.{rules, Ground}
 use Rattle.spread.specs.Ring.{RingIn}
 use Rattle.spread.proofs.Uses.{kept-earliest}
 use Rattle.newrule.specs.Planning.{Base, NoGains, Raised, Raisable}
@@ -35,19 +36,19 @@ pub base :
     (counts : Counts) (xs ys : List ℕ) (cs : List ℤ) (days marks wxs wys : List ℕ) (wcs : List ℤ) →
     Border (tables counts xs ys cs days marks wxs wys wcs) → (heads nexts : List ℕ) →
     LentChains (counts .steps) (counts .rules) xs heads nexts →
-    Base (counts .steps) (counts .rules) xs ys cs days heads nexts
+    Base (counts .steps) (first (counts .rules)) number xs ys cs days heads nexts
 base counts xs ys cs days marks wxs wys wcs b heads nexts l = record {
   ground = record {
     steps-in = b .sound .counts-in .steps-in;
-    rules-in = b .sound .counts-in .rules-in;
-    rules-room = record {
-      firsts-room = omega (arith, b .room .rules-room .firsts-room, b .sound .counts-in .rules-in);
-      seconds-room = omega (arith, b .room .rules-room .seconds-room, b .sound .counts-in .rules-in);
-      amounts-room = omega (arith, b .room .rules-room .amounts-room, b .sound .counts-in .rules-in);
+    number-in = λ i h. omega (arith, b .sound .counts-in .rules-in);
+    placed = λ i h. record {
+      first-place = omega (arith, b .room .rules-room .firsts-room, b .sound .counts-in .rules-in);
+      second-place = omega (arith, b .room .rules-room .seconds-room, b .sound .counts-in .rules-in);
+      amount-place = omega (arith, b .room .rules-room .amounts-room, b .sound .counts-in .rules-in);
     };
+    next-place = λ i h. omega (arith, l .nexts-room);
     days-room = omega (arith, b .room .days-room, b .sound .counts-in .steps-in);
     heads-room = l .heads-room;
-    nexts-room = l .nexts-room;
     in-steps = λ i h. b .sound .rules-good i h .steps-in;
     plan = b .sound .days-earliest .plan;
     chained = l .chained;
@@ -74,11 +75,11 @@ placed xs ys cs m room more-fit = record {
 }
 
 module _
-    (n m : ℕ) (xs ys : List ℕ) (cs : List ℤ) (days heads nexts : List ℕ) (x y : ℕ) (c : ℤ) (r : Ready n m xs ys cs days heads nexts x y c)
-    (gains : List ℕ) (e : Earliest n (more (rules xs ys cs) m (rule x y c)) (plus (first m) m) (λ v. at days v + at gains v)) where
+    (n : ℕ) (H : ℕ → Type 0) (order : ℕ → ℕ) (k : ℕ) (xs ys : List ℕ) (cs : List ℤ) (days heads nexts : List ℕ) (x y : ℕ) (c : ℤ) (r : Ready n H order k xs ys cs days heads nexts x y c)
+    (gains : List ℕ) (e : Earliest n (more (rules xs ys cs) k (rule x y c)) (plus H k) (λ v. at days v + at gains v)) where
   -- All rules held with the new one are within bounds.
-  bounds : (i : ℕ) → plus (first m) m i → InBounds n (more (rules xs ys cs) m (rule x y c) i)
-  bounds = more-all (InBounds n) (rules xs ys cs) (first m) m (rule x y c) (r .new-good) (r .base .rules-good)
+  bounds : (i : ℕ) → plus H k i → InBounds n (more (rules xs ys cs) k (rule x y c) i)
+  bounds = more-all (InBounds n) (rules xs ys cs) H k (rule x y c) (r .new-good) (r .base .rules-good)
 
   -- An earliest day fits the day table.
   pub raisable : (list : List ℕ) → n ≤ length gains → n ≤ length list → Raisable n days gains list
@@ -89,36 +90,36 @@ module _
     few = r .base .ground .steps-in;
     fits = λ v h. omega (
       arith,
-      day-bound n (more (rules xs ys cs) m (rule x y c)) (plus (first m) m) (λ w. at days w + at gains w) bounds e v h,
+      day-bound n (more (rules xs ys cs) k (rule x y c)) (plus H k) (λ w. at days w + at gains w) bounds e v h,
       r .base .ground .steps-in,
     );
   }
 
   -- The list that has them has the earliest plan.
   pub planned-list :
-      (before after : List ℕ) (k : ℕ) → Raised n days gains before after k → promise.Planned n (more (rules xs ys cs) m (rule x y c)) (plus (first m) m) before after
-  planned-list before after k w = record {
+      (before after : List ℕ) (count : ℕ) → Raised n days gains before after count → promise.Planned n (more (rules xs ys cs) k (rule x y c)) (plus H k) before after
+  planned-list before after count w = record {
     earliest =
-        earliest-ext n (more (rules xs ys cs) m (rule x y c)) (plus (first m) m) (λ v. at days v + at gains v) (at after) (λ i h. bounds i h .steps-in)
+        earliest-ext n (more (rules xs ys cs) k (rule x y c)) (plus H k) (λ v. at days v + at gains v) (at after) (λ i h. bounds i h .steps-in)
         (λ v h. sym (w .each v h)) e;
     past = w .past;
   }
 
   -- The rule was planned and fits: with the days raised and the rule written it is held.
   pub taken :
-      (days′ : List ℕ) (k : ℕ) (after : Columns) → Raised n days gains days days′ k → after ≡ put (columns xs ys cs) m (rule x y c) →
-      Taken n (first m) m (rule x y c) (columns xs ys cs) days k after days′
-  taken days′ k after raised written = record { written = written; planned = planned-list days days′ k raised; count-moved = raised .count }
+      (days′ : List ℕ) (count : ℕ) (after : Columns) → Raised n days gains days days′ count → after ≡ put (columns xs ys cs) k (rule x y c) →
+      Taken n H k (rule x y c) (columns xs ys cs) days count after days′
+  taken days′ count after raised written = record { written = written; planned = planned-list days days′ count raised; count-moved = raised .count }
 
 -- The days keep the rule: they are the earliest plan with it, and none moves.
 pub taken-at-once :
-    (n m : ℕ) (xs ys : List ℕ) (cs : List ℤ) (days heads nexts : List ℕ) (x y : ℕ) (c : ℤ) → Ready n m xs ys cs days heads nexts x y c →
-    Keeps (λ v. pos (at days v)) (rule x y c) → (after : Columns) → after ≡ put (columns xs ys cs) m (rule x y c) →
-    Taken n (first m) m (rule x y c) (columns xs ys cs) days 0 after days
-taken-at-once n m xs ys cs days heads nexts x y c r kept after written = record {
+    (n : ℕ) (H : ℕ → Type 0) (order : ℕ → ℕ) (k : ℕ) (xs ys : List ℕ) (cs : List ℤ) (days heads nexts : List ℕ) (x y : ℕ) (c : ℤ) → Ready n H order k xs ys cs days heads nexts x y c →
+    Keeps (λ v. pos (at days v)) (rule x y c) → (after : Columns) → after ≡ put (columns xs ys cs) k (rule x y c) →
+    Taken n H k (rule x y c) (columns xs ys cs) days 0 after days
+taken-at-once n H order k xs ys cs days heads nexts x y c r kept after written = record {
   written = written;
   planned = record {
-    earliest = kept-earliest n (rules xs ys cs) (first m) (at days) m (rule x y c) (λ h. omega arith) (r .base .earliest) kept;
+    earliest = kept-earliest n (rules xs ys cs) H (at days) k (rule x y c) (r .free) (r .base .earliest) kept;
     past = past-refl n days;
   };
   count-moved = moved-self n days;
@@ -128,7 +129,7 @@ taken-at-once n m xs ys cs days heads nexts x y c r kept after written = record 
 
 module _
     (counts : Counts) (xs ys : List ℕ) (cs : List ℤ) (days heads nexts : List ℕ) (x y : ℕ) (c : ℤ)
-    (ready : Ready (counts .steps) (counts .rules) xs ys cs days heads nexts x y c) where
+    (ready : Ready (counts .steps) (first (counts .rules)) number (counts .rules) xs ys cs days heads nexts x y c) where
   -- On sound tables the rule can be asked for.
   asked :
       (marks wxs wys : List ℕ) (wcs : List ℤ) → Border (tables counts xs ys cs days marks wxs wys wcs) →
@@ -155,7 +156,7 @@ module _
 
   -- Trial, on conflict.
   pub trial-conflict :
-      (one two two′ : List ℕ) → BothRoom one two → (k : ℕ) → RingIn (counts .rules) xs ys cs x y c k two two′ →
+      (one two two′ : List ℕ) → BothRoom one two → (k : ℕ) → RingIn (first (counts .rules)) (counts .rules) xs ys cs x y c k two two′ →
       TrialKept counts xs ys cs days one two x y c (record { counts = counts; answer = Answer.Conflict k }) one two′
   trial-conflict one two two′ long k ring marks wxs wys wcs b =
       let a = asked marks wxs wys wcs b in
@@ -183,7 +184,7 @@ module _
   pub add-conflict :
       (list list′ : List ℕ) → STEPS ≤ length list → (k moved : ℕ) (xs′ ys′ : List ℕ) (cs′ : List ℤ) (days′ : List ℕ) →
       Left (first (counts .rules)) (rule x y c) (columns xs ys cs) days moved (columns xs′ ys′ cs′) days′ →
-      RingIn (counts .rules) xs ys cs x y c k list list′ →
+      RingIn (first (counts .rules)) (counts .rules) xs ys cs x y c k list list′ →
       AddKept counts xs ys cs days list x y c (record { counts = counts; answer = Answer.Conflict k }) xs′ ys′ cs′ days′ list′
   add-conflict list list′ long k moved xs′ ys′ cs′ days′ left ring marks wxs wys wcs b =
       let a = asked marks wxs wys wcs b in
@@ -192,19 +193,19 @@ module _
 
 -- A ring found in columns that are as before is one of those before.
 pub ring-before :
-    (m : ℕ) (xs ys : List ℕ) (cs : List ℤ) (xs′ ys′ : List ℕ) (cs′ : List ℤ) (x y : ℕ) (c : ℤ) (k : ℕ) (list list′ : List ℕ) → columns xs′ ys′ cs′ ≡ columns xs ys cs →
-    RingIn m xs′ ys′ cs′ x y c k list list′ → RingIn m xs ys cs x y c k list list′
-ring-before m xs ys cs xs′ ys′ cs′ x y c k list list′ same =
-    subst (λ (r : Columns). promise.Filled k (Refutes (rule-at r) (first m) m (rule x y c)) list list′) same
+    (H : ℕ → Type 0) (m : ℕ) (xs ys : List ℕ) (cs : List ℤ) (xs′ ys′ : List ℕ) (cs′ : List ℤ) (x y : ℕ) (c : ℤ) (k : ℕ) (list list′ : List ℕ) → columns xs′ ys′ cs′ ≡ columns xs ys cs →
+    RingIn H m xs′ ys′ cs′ x y c k list list′ → RingIn H m xs ys cs x y c k list list′
+ring-before H m xs ys cs xs′ ys′ cs′ x y c k list list′ same =
+    subst (λ (r : Columns). promise.Filled k (Refutes (rule-at r) H m (rule x y c)) list list′) same
 
 -- A ring has no more rules than there are steps.
 pub ring-short :
-    (n m : ℕ) (xs ys : List ℕ) (cs : List ℤ) (days heads nexts : List ℕ) (x y : ℕ) (c : ℤ) → Ready n m xs ys cs days heads nexts x y c →
-    (k : ℕ) (before after : List ℕ) → RingIn m xs ys cs x y c k before after → k ≤ STEPS
-ring-short n m xs ys cs days heads nexts x y c r k before after ring =
+    (n : ℕ) (H : ℕ → Type 0) (order : ℕ → ℕ) (m : ℕ) (xs ys : List ℕ) (cs : List ℤ) (days heads nexts : List ℕ) (x y : ℕ) (c : ℤ) → Ready n H order m xs ys cs days heads nexts x y c →
+    (k : ℕ) (before after : List ℕ) → RingIn H m xs ys cs x y c k before after → k ≤ STEPS
+ring-short n H order m xs ys cs days heads nexts x y c r k before after ring =
     omega (
       arith,
       filled-length k before after ring,
-      ring-length n (rules xs ys cs) (first m) m (rule x y c) (take k after) (λ i h. r .base .rules-good i h .steps-in) (r .new-good .steps-in) (ring .holds),
+      ring-length n (rules xs ys cs) H m (rule x y c) (take k after) (λ i h. r .base .rules-good i h .steps-in) (r .new-good .steps-in) (ring .holds),
       r .base .ground .steps-in,
     )

@@ -13,7 +13,7 @@ use Rattle.meaning.proofs.Whole.{up, dn}
 use Rattle.meaning.proofs.More.{more-all}
 use Rattle.meaning.proofs.Theory.{earliest-ext}
 use Rattle.leaf.specs.Promises.{rule}
-use Rattle.spread.specs.Ground.{rules, first, Ground}
+use Rattle.spread.specs.Ground.{rules, Ground}
 use Rattle.spread.specs.Trace.{Traced}
 use Rattle.spread.specs.Contracts.{alone, Spread}
 use Rattle.spread.specs.Ring.{Reached, Lacks}
@@ -21,32 +21,32 @@ use Rattle.spread.proofs.Collecting.{alone-there, alone-elsewhere}
 use Rattle.spread.proofs.Uses.{gains-bounded, kept-earliest, added-earliest, reached-unfit}
 use Rattle.newrule.specs.Planning.{Lack, Plannable, Planned}
 
-module _ (n m : ℕ) (xs ys : List ℕ) (cs : List ℤ) (days heads nexts gains by : List ℕ) (x y : ℕ) (c : ℤ) (p : Plannable n m xs ys cs days heads nexts gains by x y c) where
+module _ (n : ℕ) (H : ℕ → Type 0) (order : ℕ → ℕ) (k : ℕ) (xs ys : List ℕ) (cs : List ℤ) (days heads nexts gains by : List ℕ) (x y : ℕ) (c : ℤ) (p : Plannable n H order k xs ys cs days heads nexts gains by x y c) where
   -- The steps of the rules held, and of the new rule, are below n.
-  all-in : (i : ℕ) → plus (first m) m i → InSteps n (more (rules xs ys cs) m (rule x y c) i)
-  all-in = more-all (InSteps n) (rules xs ys cs) (first m) m (rule x y c) (p .new-in) (p .base .ground .in-steps)
+  all-in : (i : ℕ) → plus H k i → InSteps n (more (rules xs ys cs) k (rule x y c) i)
+  all-in = more-all (InSteps n) (rules xs ys cs) H k (rule x y c) (p .new-in) (p .base .ground .in-steps)
 
   -- The days keep the rule: with no gain they are the earliest plan with it.
-  pub fits-at-once : Keeps (λ v. pos (at days v)) (rule x y c) → (by′ : List ℕ) → Planned n m xs ys cs days gains by′ x y c true
+  pub fits-at-once : Keeps (λ v. pos (at days v)) (rule x y c) → (by′ : List ℕ) → Planned n H k xs ys cs days gains by′ x y c true
   fits-at-once kept by′ =
       record {
         earliest =
             λ e.
             earliest-ext
             n
-            (more (rules xs ys cs) m (rule x y c))
-            (plus (first m) m)
+            (more (rules xs ys cs) k (rule x y c))
+            (plus H k)
             (at days)
             (λ v. at days v + at gains v)
             all-in
             (λ v h. omega (arith, p .no-gains .none-yet v h))
-            (kept-earliest n (rules xs ys cs) (first m) (at days) m (rule x y c) (λ h. omega arith) (p .base .earliest) kept);
+            (kept-earliest n (rules xs ys cs) H (at days) k (rule x y c) (p .free) (p .base .earliest) kept);
         unfit = λ e. absurd (true≢false e);
         reached = λ e. absurd (true≢false e);
         lacks = λ e. absurd (true≢false e);
       }
 
-  module _ (gain : ℕ) (lack : at days x + dn c ≡ at days y + gain + up c) (before gains′ by′ : List ℕ) (by-room : n ≤ length by′) (s : Spread n m xs ys cs days x (λ v. at days v + alone y gain v) before gains′ by′) where
+  module _ (gain : ℕ) (lack : at days x + dn c ≡ at days y + gain + up c) (before gains′ by′ : List ℕ) (by-room : n ≤ length by′) (s : Spread n H xs ys cs days x (λ v. at days v + alone y gain v) before gains′ by′) where
     -- The gain of y stays what was asked.
     gain-stays : at gains′ y ≡ gain
     gain-stays =
@@ -54,7 +54,7 @@ module _ (n m : ℕ) (xs ys : List ℕ) (cs : List ℤ) (days heads nexts gains 
           arith,
           s .forced .not-below y (p .new-in .second-in),
           alone-there y gain y refl,
-          gains-bounded n (rules xs ys cs) (first m) (at days) (alone y gain) (at gains′) gain (p .base .ground .plan) (s .forced) most y (p .new-in .second-in),
+          gains-bounded n (rules xs ys cs) H (at days) (alone y gain) (at gains′) gain (p .base .ground .plan) (s .forced) most y (p .new-in .second-in),
         )
       where
         most : (v : ℕ) → v < n → alone y gain v ≤ gain
@@ -65,18 +65,18 @@ module _ (n m : ℕ) (xs ys : List ℕ) (cs : List ℤ) (days heads nexts gains 
             tell (no e) = omega (arith, alone-elsewhere y gain v e)
 
     -- It has not reached x: the days with their gains are the earliest plan.
-    earliest-where : at gains′ x ≡ 0 → Earliest n (more (rules xs ys cs) m (rule x y c)) (plus (first m) m) (λ v. at days v + at gains′ v)
+    earliest-where : at gains′ x ≡ 0 → Earliest n (more (rules xs ys cs) k (rule x y c)) (plus H k) (λ v. at days v + at gains′ v)
     earliest-where none =
         added-earliest
         n
         (rules xs ys cs)
-        (first m)
+        H
         (at days)
         (alone y gain)
         (at gains′)
-        m
+        k
         (rule x y c)
-        (λ h. omega arith)
+        (p .free)
         (p .new-in)
         (p .base .earliest)
         (omega (arith, lack, alone-there y gain y refl))
@@ -85,27 +85,29 @@ module _ (n m : ℕ) (xs ys : List ℕ) (cs : List ℤ) (days heads nexts gains 
         none
 
     -- It has reached x: the rule does not fit.
-    unfit-where : 0 < at gains′ x → Fits (rules xs ys cs) (first m) (rule x y c) → ⊥
+    unfit-where : 0 < at gains′ x → Fits (rules xs ys cs) H (rule x y c) → ⊥
     unfit-where some =
-        reached-unfit n (rules xs ys cs) (first m) (at days) (alone y gain) (at gains′) (rule x y c) (p .new-in) (p .base .ground .plan)
+        reached-unfit n (rules xs ys cs) H (at days) (alone y gain) (at gains′) (rule x y c) (p .new-in) (p .base .ground .plan)
         (omega (arith, lack, alone-there y gain y refl)) (λ v h other. alone-elsewhere y gain v other) (s .forced) some
 
-    reached-where : 0 < at gains′ x → Reached n m xs ys cs days gains′ by′ x y
+    reached-where : 0 < at gains′ x → Reached n H k xs ys cs days gains′ by′ x y
     reached-where some =
         record {
           first-in = p .new-in .first-in;
           second-in = p .new-in .second-in;
-          rules-in = p .base .ground .rules-in;
-          firsts-room = p .base .ground .rules-room .firsts-room;
+          number-in = p .base .ground .number-in;
+          first-place = λ i h. p .base .ground .placed i h .first-place;
+          free = p .free;
+          free-in = p .free-in;
           by-room = by-room;
           in-steps = p .base .ground .in-steps;
           plan = p .base .ground .plan;
-          traced = subst (λ k. Traced n (rules xs ys cs) (first m) (at days) (λ v. at days v + alone y k v) (at gains′) (at by′)) (sym gain-stays) (s .traced);
+          traced = subst (λ g. Traced n (rules xs ys cs) H (at days) (λ v. at days v + alone y g v) (at gains′) (at by′)) (sym gain-stays) (s .traced);
           reached = some;
         }
 
     -- A test that tells whether it has reached x tells whether the rule fits.
-    pub planned : (fits : Bool) → (fits ≡ true → at gains′ x ≡ 0) → (fits ≡ false → 0 < at gains′ x) → Planned n m xs ys cs days gains′ by′ x y c fits
+    pub planned : (fits : Bool) → (fits ≡ true → at gains′ x ≡ 0) → (fits ≡ false → 0 < at gains′ x) → Planned n H k xs ys cs days gains′ by′ x y c fits
     planned fits none some = record {
       earliest = λ e. earliest-where (none e);
       unfit = λ e. unfit-where (some e);

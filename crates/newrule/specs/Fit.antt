@@ -11,7 +11,6 @@ use Rattle.meaning.specs.Tables.{Columns, rule-at, put}
 use Rattle.meaning.specs.Promise as promise
 use Rattle.leaf.specs.Lent.{columns}
 use Rattle.leaf.specs.Promises.{rule}
-use Rattle.spread.specs.Ground.{first}
 use Rattle.spread.specs.Ring.{Reached, Lacks}
 
 -- The rule r is written under k, the days are the earliest plan with it, and `moved` is how many steps have a day different from before.
@@ -34,9 +33,9 @@ pub record Tells (n : ℕ) (H : ℕ → Type 0) (k : ℕ) (r : Rule) (before : C
 
 -- The same; and where the rule x, y, c does not fit, the gain that it asks of y has reached x, from which its ring is found.
 pub record TellsWhy
-    (n m : ℕ) (xs ys : List ℕ) (cs : List ℤ) (days : List ℕ) (x y : ℕ) (c : ℤ) (fits : Bool) (moved : ℕ) (xs′ ys′ : List ℕ) (cs′ : List ℤ) (days′ gains by : List ℕ) : Type 0 where
-  pub tells : Tells n (first m) m (rule x y c) (columns xs ys cs) days fits moved (columns xs′ ys′ cs′) days′
-  pub reached : fits ≡ false → Reached n m xs′ ys′ cs′ days′ gains by x y
+    (n : ℕ) (H : ℕ → Type 0) (k : ℕ) (xs ys : List ℕ) (cs : List ℤ) (days : List ℕ) (x y : ℕ) (c : ℤ) (fits : Bool) (moved : ℕ) (xs′ ys′ : List ℕ) (cs′ : List ℤ) (days′ gains by : List ℕ) : Type 0 where
+  pub tells : Tells n H k (rule x y c) (columns xs ys cs) days fits moved (columns xs′ ys′ cs′) days′
+  pub reached : fits ≡ false → Reached n H k xs′ ys′ cs′ days′ gains by x y
   pub lacks : fits ≡ false → Lacks days′ gains x y c
 
 -- The counts with one more rule.

@@ -9,11 +9,12 @@ use Rattle.chains.specs.Chains.{Chained}
 use Rattle.leaf.specs.Promises.{rule}
 use Rattle.newrule.specs.Planning.{Base}
 
--- The rule x, y, c is within bounds, and there is a place for one more.
-pub record Ready (n m : ℕ) (xs ys : List ℕ) (cs : List ℤ) (days heads nexts : List ℕ) (x y : ℕ) (c : ℤ) : Type 0 where
-  pub base : Base n m xs ys cs days heads nexts
+-- The rule x, y, c is within bounds, and the number k is free for it. H says which numbers are held.
+pub record Ready (n : ℕ) (H : ℕ → Type 0) (order : ℕ → ℕ) (k : ℕ) (xs ys : List ℕ) (cs : List ℤ) (days heads nexts : List ℕ) (x y : ℕ) (c : ℤ) : Type 0 where
+  pub base : Base n H order xs ys cs days heads nexts
   pub new-good : InBounds n (rule x y c)
-  pub not-full : m < RULES
+  pub free : H k → ⊥
+  pub not-full : k < RULES
 
 -- The chains of the first m rules over n steps, with a place for each.
 pub record LentChains (n m : ℕ) (xs heads nexts : List ℕ) : Type 0 where

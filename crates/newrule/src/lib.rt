@@ -4,9 +4,9 @@ ghost use mathlib.Core.Path.{_≡_};
 ghost use Prim.Native.Nat.{_<_, _≤_};
 ghost use lib.ListN.{length};
 ghost use Rattle.meaning.specs.Bounds.{STEPS, RULES};
-ghost use Rattle.leaf.specs.Lent.{columns};
+ghost use Rattle.leaf.specs.Lent.{columns, first};
 ghost use Rattle.leaf.specs.Promises.{rule};
-ghost use Rattle.spread.specs.Ground.{first};
+ghost use Rattle.chains.specs.Chains.{number};
 ghost use Rattle.newrule.specs.Planning.{Lack, Base, NoGains, Plannable, Planned, Raised, Raisable};
 ghost use Rattle.newrule.specs.Lending.{Ready};
 ghost use Rattle.newrule.specs.Fit.{Tells, TellsWhy, one-more};
@@ -46,8 +46,8 @@ fn plan(
     gains: &mut [u64],
     by: &mut [u16],
 ) -> bool
-    requires { ⌜ Plannable n m (now xs) (now ys) (now cs) (now days) (now heads) (now nexts) (now gains) (now by) x y c ⌝ }
-    ensures { λ r. ⌜ Planned n m (now (xs .entry)) (now (ys .entry)) (now (cs .entry)) (now (days .entry)) (now (gains .exit)) (now (by .exit)) x y c r ⌝ }
+    requires { ⌜ Plannable n (first m) number m (now xs) (now ys) (now cs) (now days) (now heads) (now nexts) (now gains) (now by) x y c ⌝ }
+    ensures { λ r. ⌜ Planned n (first m) m (now (xs .entry)) (now (ys .entry)) (now (cs .entry)) (now (days .entry)) (now (gains .exit)) (now (by .exit)) x y c r ⌝ }
 {
     let lacks = lack(days, x, y, c);
     if lacks == 0 {
@@ -113,10 +113,10 @@ fn fit_with(
     gains: &mut [u64],
     by: &mut [u16],
 ) -> Fitted
-    requires { ⌜ Ready n m (now xs) (now ys) (now cs) (now days) (now heads) (now nexts) x y c ⌝ }
+    requires { ⌜ Ready n (first m) number m (now xs) (now ys) (now cs) (now days) (now heads) (now nexts) x y c ⌝ }
     requires { ⌜ NoGains n (now gains) (now by) ⌝ }
     ensures { λ r. ⌜
-        TellsWhy n m (now (xs .entry)) (now (ys .entry)) (now (cs .entry)) (now (days .entry)) x y c (r .fits) (r .moved)
+        TellsWhy n (first m) m (now (xs .entry)) (now (ys .entry)) (now (cs .entry)) (now (days .entry)) x y c (r .fits) (r .moved)
         (now (xs .exit)) (now (ys .exit)) (now (cs .exit)) (now (days .exit)) (now (gains .exit)) (now (by .exit)) ⌝ }
 {
     if !plan(
@@ -162,7 +162,7 @@ pub fn fit(
     y: u16,
     c: i32,
 ) -> Fitted
-    requires { ⌜ Ready n m (now xs) (now ys) (now cs) (now days) (now heads) (now nexts) x y c ⌝ }
+    requires { ⌜ Ready n (first m) number m (now xs) (now ys) (now cs) (now days) (now heads) (now nexts) x y c ⌝ }
     ensures { λ r. ⌜
         Tells n (first m) m (rule x y c) (columns (now (xs .entry)) (now (ys .entry)) (now (cs .entry))) (now (days .entry)) (r .fits) (r .moved)
         (columns (now (xs .exit)) (now (ys .exit)) (now (cs .exit))) (now (days .exit)) ⌝ }
@@ -224,7 +224,7 @@ fn trial_fine(
     y: u16,
     c: i32,
 ) -> Reply
-    requires { ⌜ Ready (counts .steps) (counts .rules) (now xs) (now ys) (now cs) (now days) (now heads) (now nexts) x y c ⌝ }
+    requires { ⌜ Ready (counts .steps) (first (counts .rules)) number (counts .rules) (now xs) (now ys) (now cs) (now days) (now heads) (now nexts) x y c ⌝ }
     requires { ⌜ NoGains (counts .steps) (now gains) (now by) ⌝ }
     requires { ⌜ BothRoom (now one) (now two) ⌝ }
     ensures { λ r. ⌜
@@ -290,7 +290,7 @@ fn add_fine(
     y: u16,
     c: i32,
 ) -> Reply
-    requires { ⌜ Ready (counts .steps) (counts .rules) (now xs) (now ys) (now cs) (now days) (now heads) (now nexts) x y c ⌝ }
+    requires { ⌜ Ready (counts .steps) (first (counts .rules)) number (counts .rules) (now xs) (now ys) (now cs) (now days) (now heads) (now nexts) x y c ⌝ }
     requires { ⌜ NoGains (counts .steps) (now gains) (now by) ⌝ }
     requires { ⌜ STEPS ≤ length (now list) ⌝ }
     ensures { λ r. ⌜
@@ -342,7 +342,7 @@ pub fn trial(
     y: u16,
     c: i32,
 ) -> Reply
-    requires { ⌜ Base (counts .steps) (counts .rules) (now xs) (now ys) (now cs) (now days) (now heads) (now nexts) ⌝ }
+    requires { ⌜ Base (counts .steps) (first (counts .rules)) number (now xs) (now ys) (now cs) (now days) (now heads) (now nexts) ⌝ }
     requires { ⌜ BothRoom (now one) (now two) ⌝ }
     ensures { λ r. ⌜
         TrialKept counts (now (xs .entry)) (now (ys .entry)) (now (cs .entry)) (now (days .entry)) (now (one .entry)) (now (two .entry))
@@ -401,7 +401,7 @@ pub fn add(
     y: u16,
     c: i32,
 ) -> Reply
-    requires { ⌜ Base (counts .steps) (counts .rules) (now xs) (now ys) (now cs) (now days) (now heads) (now nexts) ⌝ }
+    requires { ⌜ Base (counts .steps) (first (counts .rules)) number (now xs) (now ys) (now cs) (now days) (now heads) (now nexts) ⌝ }
     requires { ⌜ STEPS ≤ length (now list) ⌝ }
     ensures { λ r. ⌜
         AddKept counts (now (xs .entry)) (now (ys .entry)) (now (cs .entry)) (now (days .entry)) (now (list .entry)) x y c r

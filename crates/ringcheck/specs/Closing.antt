@@ -7,9 +7,9 @@ use lib.ListN.{length}
 use lib.IntN.{ℤ}
 use Rattle.meaning.specs.Bounds.{STEPS}
 use Rattle.meaning.specs.Rules.{Rule, InSteps, Leads, All, Different, total}
-use Rattle.meaning.specs.Tables.{ColumnsRoom, rule-at, at}
+use Rattle.meaning.specs.Tables.{rule-at, at}
 use Rattle.meaning.proofs.Whole.{up, dn}
-use Rattle.leaf.specs.Lent.{columns}
+use Rattle.leaf.specs.Lent.{columns, Placed}
 
 -- The first steps of the rules in the list.
 abbrev pub firsts : (ℕ → Rule) → List ℕ → List ℕ
@@ -30,18 +30,18 @@ pub record GoesOn (first : ℕ → ℕ) (H : ℕ → Type 0) (met : List ℕ) (r
   pub first-is : first i ≡ reached
   pub not-met : at met reached ≡ 0
 
--- The numbers of the list after its first can be walked over the first m rules, from step y with one rule's amount in the sum: every
--- step reached has a flag, and the sums stay far below what a u64 holds.
-pub record Walkable (m : ℕ) (xs ys : List ℕ) (cs : List ℤ) (y sum : ℕ) (list met : List ℕ) : Type 0 where
-  pub room : ColumnsRoom m (columns xs ys cs)
-  pub flags-room : (i : ℕ) → i < m → at ys i < length met
+-- The numbers of the list after its first can be walked over the rules held, whose numbers H holds of, from step y with one rule's amount in the sum:
+-- every step reached has a flag, and the sums stay far below what a u64 holds.
+pub record Walkable (H : ℕ → Type 0) (xs ys : List ℕ) (cs : List ℤ) (y sum : ℕ) (list met : List ℕ) : Type 0 where
+  pub placed : (i : ℕ) → H i → Placed xs ys cs i
+  pub flags-room : (i : ℕ) → H i → at ys i < length met
   pub flag-room : y < length met
   pub one-amount : sum < 4294967296
   pub short : length list ≤ STEPS
 
--- A list can be checked for a ring of the rule r and of the first m rules, over n steps: their steps are below n.
-pub record Checkable (n m : ℕ) (xs ys : List ℕ) (cs : List ℤ) (r : Rule) : Type 0 where
+-- A list can be checked for a ring of the rule r and of the rules held, over n steps: their steps are below n.
+pub record Checkable (n : ℕ) (H : ℕ → Type 0) (xs ys : List ℕ) (cs : List ℤ) (r : Rule) : Type 0 where
   pub steps-in : n ≤ STEPS
-  pub room : ColumnsRoom m (columns xs ys cs)
-  pub rules-in : (i : ℕ) → i < m → InSteps n (rule-at (columns xs ys cs) i)
+  pub placed : (i : ℕ) → H i → Placed xs ys cs i
+  pub rules-in : (i : ℕ) → H i → InSteps n (rule-at (columns xs ys cs) i)
   pub rule-in : InSteps n r

@@ -1,11 +1,11 @@
 // Whether a list of numbers is a negative ring that starts with a rule under its would-be number and goes on over held rules.
-ghost use Prim.Native.Nat.{_≤_, _<_};
+ghost use Prim.Native.Nat.{ℕ, _≤_, _<_};
 ghost use mathlib.Core.Path.{_≡_};
 ghost use lib.ListN.{length, drop};
 ghost use Rattle.meaning.specs.Rules.{Refutes};
 ghost use Rattle.meaning.specs.Tables.{rule-at, at};
 ghost use Rattle.leaf.specs.Decides.{Decides};
-ghost use Rattle.leaf.specs.Lent.{columns};
+ghost use Rattle.leaf.specs.Lent.{columns, first};
 ghost use Rattle.ringcheck.specs.Closing.{Closes, GoesOn, Walkable, Checkable};
 
 // The number at place k of the list.
@@ -18,8 +18,8 @@ fn entry_at(list: &[u32], k: usize) -> usize
 
 // Whether number i is below m, its rule's first step is the step reached, and that step was not met before.
 fn goes_on(m: usize, xs: &[u16], met: &[u8], reached: usize, i: usize) -> bool
-    requires { ⌜ (m ≤ length (now xs)) × (reached < length (now met)) ⌝ }
-    ensures { λ r. ⌜ Decides r (GoesOn (at (now (xs .entry))) (λ i. i < m) (now (met .entry)) reached i) ⌝ }
+    requires { ⌜ ((i : ℕ) → i < m → i < length (now xs)) × (reached < length (now met)) ⌝ }
+    ensures { λ r. ⌜ Decides r (GoesOn (at (now (xs .entry))) (first m) (now (met .entry)) reached i) ⌝ }
 {
     if m <= i {
         return false;
@@ -43,8 +43,8 @@ fn closes(
     list: &[u32],
     met: &mut [u8],
 ) -> bool
-    requires { ⌜ Walkable m (now xs) (now ys) (now cs) y amount (now list) (now met) ⌝ }
-    ensures { λ r. ⌜ Decides r (Closes (rule-at (columns (now (xs .entry)) (now (ys .entry)) (now (cs .entry)))) (λ i. i < m) x (now (met .entry)) y amount 2147483648 (drop 1 (now (list .entry)))) ⌝ }
+    requires { ⌜ Walkable (first m) (now xs) (now ys) (now cs) y amount (now list) (now met) ⌝ }
+    ensures { λ r. ⌜ Decides r (Closes (rule-at (columns (now (xs .entry)) (now (ys .entry)) (now (cs .entry)))) (first m) x (now (met .entry)) y amount 2147483648 (drop 1 (now (list .entry)))) ⌝ }
 {
     let mut reached = y;
     let mut sum = amount;
@@ -75,8 +75,8 @@ pub fn is_ring(
     c: i32,
     list: &[u32],
 ) -> bool
-    requires { ⌜ Checkable n m (now xs) (now ys) (now cs) (record { first = x; second = y; amount = c }) ⌝ }
-    ensures { λ r. ⌜ Decides r (Refutes (rule-at (columns (now (xs .entry)) (now (ys .entry)) (now (cs .entry)))) (λ i. i < m) m (record { first = x; second = y; amount = c }) (now (list .entry))) ⌝ }
+    requires { ⌜ Checkable n (first m) (now xs) (now ys) (now cs) (record { first = x; second = y; amount = c }) ⌝ }
+    ensures { λ r. ⌜ Decides r (Refutes (rule-at (columns (now (xs .entry)) (now (ys .entry)) (now (cs .entry)))) (first m) m (record { first = x; second = y; amount = c }) (now (list .entry))) ⌝ }
 {
     let numbers = list.len();
     if numbers == 0 {

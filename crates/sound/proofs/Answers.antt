@@ -10,7 +10,9 @@ use Rattle.meaning.specs.Tables.{Columns, Tables, ColumnsRoom, InCounts, Sound,
 use Rattle.leaf.specs.Decides.{Decides, decides-no}
 use Rattle.chains.specs.Chains.{Chained}
 use Rattle.sound.specs.Parts.{AllIn, MarksIn, ChainsRoom, Testable, Tested}
-use Rattle.sound.specs.Ground.{below, Ready}
+use Rattle.leaf.specs.Lent.{first}
+use Rattle.chains.specs.Chains.{number}
+use Rattle.sound.specs.Ground.{Ready}
 
 -- Columns with room for k rules have room for fewer.
 pub room-for-fewer : (j k : ℕ) (c : Columns) → j ≤ k → ColumnsRoom k c → ColumnsRoom j c
@@ -51,13 +53,17 @@ module _ (t : Tables) (counts : InCounts (t .counts)) where
       -- With the rules held in bounds, and on chains, the days can be tested.
       pub ready :
           Testable t heads nexts →
-          Ready (t .counts .steps) (t .counts .rules) (t .rules .firsts) (t .rules .seconds) (t .rules .amounts) (t .days) heads nexts
+          Ready (t .counts .steps) (first (t .counts .rules)) number (t .rules .firsts) (t .rules .seconds) (t .rules .amounts) (t .days) heads nexts
       ready able = record {
         steps-few = counts .steps-in;
-        columns-room = room-for-fewer _ _ (t .rules) (counts .rules-in) (able .room .rules-room);
+        placed = λ i h. record {
+          first-place = omega (arith, counts .rules-in, able .room .rules-room .firsts-room);
+          second-place = omega (arith, counts .rules-in, able .room .rules-room .seconds-room);
+          amount-place = omega (arith, counts .rules-in, able .room .rules-room .amounts-room);
+        };
+        next-place = λ i h. omega (arith, counts .rules-in, able .nexts-room);
         days-room = omega (arith, counts .steps-in, able .room .days-room);
         heads-room = omega (arith, counts .steps-in, able .heads-room);
-        nexts-room = omega (arith, counts .rules-in, able .nexts-room);
         rules-in = λ i h. rules i h .steps-in;
         chained = chained;
       }
@@ -66,7 +72,7 @@ module _ (t : Tables) (counts : InCounts (t .counts)) where
       pub tested-by-days :
           AllIn (t .counts .steps) (t .counts .watched) (t .watched .firsts) (t .watched .seconds) (t .watched .amounts) →
           MarksIn (t .counts .rules) (t .counts .marks) (t .marks) → (r : Bool) →
-          Decides r (Earliest (t .counts .steps) (rule-at (t .rules)) (below (t .counts .rules)) (at (t .days))) → Tested t r heads nexts
+          Decides r (Earliest (t .counts .steps) (rule-at (t .rules)) (first (t .counts .rules)) (at (t .days))) → Tested t r heads nexts
       tested-by-days watched marks r days = record {
         decides = record {
           so = λ e. record {

@@ -15,41 +15,37 @@ use Rattle.meaning.proofs.Counting.{count-all}
 use Rattle.meaning.proofs.Lowering.{grounded-earliest, grounded-all}
 use Rattle.leaf.specs.Decides.{Decides}
 use Rattle.leaf.specs.Lent.{columns, KeptAt, Dated, Spare}
-use Rattle.chains.specs.Chains.{Chained}
+use Rattle.chains.specs.Chains.{ChainsOf}
 use Rattle.chains.proofs.Walk.{Link, Met, link-head, met-head, link-next, met-next}
-use Rattle.sound.specs.Ground.{below, entered, Grown, Seeded, Ready, Underway, Followed, StepFollowed}
+use Rattle.sound.specs.Ground.{entered, Grown, Seeded, Ready, Underway, Followed, StepFollowed}
 use Rattle.sound.proofs.Counted.{count-everything}
 use Rattle.sound.proofs.Entering.{Entered, no-fewer, was-entered}
 
 -- What following rule i leaves: it is followed, steps entered stay so, and all are grounded.
-pub record Turned (n m : ℕ) (xs ys : List ℕ) (cs : List ℤ) (days : List ℕ) (i : ℕ) (places : List ℕ) (k′ : ℕ) (places′ work′ : List ℕ) : Type 0 where
-  pub underway : Underway n m xs ys cs days k′ places′ work′
+pub record Turned (n : ℕ) (H : ℕ → Type 0) (xs ys : List ℕ) (cs : List ℤ) (days : List ℕ) (i : ℕ) (places : List ℕ) (k′ : ℕ) (places′ work′ : List ℕ) : Type 0 where
+  pub underway : Underway n H xs ys cs days k′ places′ work′
   pub grown : Grown n places places′
   pub followed : Followed xs ys cs days places′ i
 
 -- A walk along the chain of a that began at `before`: the link is one of a's, and a's rules at or above it have been followed.
-pub record Walking (n m : ℕ) (xs ys : List ℕ) (cs : List ℤ) (days : List ℕ) (a : ℕ) (before : List ℕ) (k : ℕ) (places work : List ℕ) (link : ℕ) : Type 0 where
-  pub underway : Underway n m xs ys cs days k places work
+pub record Walking (n : ℕ) (H : ℕ → Type 0) (rank : ℕ → ℕ) (xs ys : List ℕ) (cs : List ℤ) (days : List ℕ) (a : ℕ) (before : List ℕ) (k : ℕ) (places work : List ℕ) (link : ℕ) : Type 0 where
+  pub underway : Underway n H xs ys cs days k places work
   pub grown : Grown n before places
-  pub of-a : Link m xs a link
-  pub met : Met (Followed xs ys cs days places) m xs a link
+  pub of-a : Link H xs a link
+  pub met : Met (Followed xs ys cs days places) H rank xs a link
 
 -- The work underway when the first `done` steps of the work-list have been followed, and every step of day 0 is entered.
-pub record Grounding (n m : ℕ) (xs ys : List ℕ) (cs : List ℤ) (days : List ℕ) (done k : ℕ) (places work : List ℕ) : Type 0 where
-  pub underway : Underway n m xs ys cs days k places work
+pub record Grounding (n : ℕ) (H : ℕ → Type 0) (xs ys : List ℕ) (cs : List ℤ) (days : List ℕ) (done k : ℕ) (places work : List ℕ) : Type 0 where
+  pub underway : Underway n H xs ys cs days k places work
   pub done-in : done ≤ k
   pub every-day-0 : (v : ℕ) → v < n → at days v ≡ 0 → 1 ≤ at places v
-  pub done-followed : (v : ℕ) → v < n → 1 ≤ at places v → at places v ≤ done → StepFollowed m xs ys cs days places v
+  pub done-followed : (v : ℕ) → v < n → 1 ≤ at places v → at places v ≤ done → StepFollowed H xs ys cs days places v
 
-module _ (n m : ℕ) (xs ys : List ℕ) (cs : List ℤ) (days : List ℕ) where
+module _ (n : ℕ) (H : ℕ → Type 0) (xs ys : List ℕ) (cs : List ℤ) (days : List ℕ) where
   -- Every held rule can be read, and its steps have days.
-  pub dated : (heads nexts : List ℕ) → Ready n m xs ys cs days heads nexts → (i : ℕ) → i < m → Dated xs ys cs days i
-  dated heads nexts ready i h = record {
-    placed = record {
-      first-place = omega (arith, ready .columns-room .firsts-room);
-      second-place = omega (arith, ready .columns-room .seconds-room);
-      amount-place = omega (arith, ready .columns-room .amounts-room);
-    };
+  pub dated : (rank : ℕ → ℕ) (heads nexts : List ℕ) → Ready n H rank xs ys cs days heads nexts → (i : ℕ) → H i → Dated xs ys cs days i
+  dated rank heads nexts ready i h = record {
+    placed = ready .placed i h;
     first-day = omega (arith, ready .rules-in i h .first-in, ready .days-room);
     second-day = omega (arith, ready .rules-in i h .second-in, ready .days-room);
   }
@@ -70,19 +66,19 @@ module _ (n m : ℕ) (xs ys : List ℕ) (cs : List ℤ) (days : List ℕ) where
 
   -- Entering a grounded step leaves all steps entered grounded.
   pub underway-on :
-      (v k k′ : ℕ) (places work places′ work′ : List ℕ) → Grounded (rule-at (columns xs ys cs)) (below m) (at days) v → Underway n m xs ys cs days k places work →
-      Entered n v places k′ places′ work′ → Underway n m xs ys cs days k′ places′ work′
+      (v k k′ : ℕ) (places work places′ work′ : List ℕ) → Grounded (rule-at (columns xs ys cs)) H (at days) v → Underway n H xs ys cs days k places work →
+      Entered n v places k′ places′ work′ → Underway n H xs ys cs days k′ places′ work′
   underway-on v k k′ places work places′ work′ ground under e = record { worklist = e .worklist; grounded = λ u h in-it. by-step u h in-it (ℕ-discrete u v) }
     where
-      by-step : (u : ℕ) → u < n → 1 ≤ at places′ u → Dec (u ≡ v) → Grounded (rule-at (columns xs ys cs)) (below m) (at days) u
-      by-step u h in-it (yes is) = subst (Grounded (rule-at (columns xs ys cs)) (below m) (at days)) (sym is) ground
+      by-step : (u : ℕ) → u < n → 1 ≤ at places′ u → Dec (u ≡ v) → Grounded (rule-at (columns xs ys cs)) H (at days) u
+      by-step u h in-it (yes is) = subst (Grounded (rule-at (columns xs ys cs)) H (at days)) (sym is) ground
       by-step u h in-it (no apart) = under .grounded u h (omega (arith, e .others-stay u apart))
 
   -- A rule of a grounded step that has nothing to spare is followed by entering its second step.
   pub turned-tight :
-      (i r k k′ : ℕ) (places work places′ work′ : List ℕ) → i < m → Spare xs ys cs days i r → r ≡ 0 → KeptAt xs ys cs days i →
-      Grounded (rule-at (columns xs ys cs)) (below m) (at days) (at xs i) → Underway n m xs ys cs days k places work →
-      Entered n (at ys i) places k′ places′ work′ → Turned n m xs ys cs days i places k′ places′ work′
+      (i r k k′ : ℕ) (places work places′ work′ : List ℕ) → H i → Spare xs ys cs days i r → r ≡ 0 → KeptAt xs ys cs days i →
+      Grounded (rule-at (columns xs ys cs)) H (at days) (at xs i) → Underway n H xs ys cs days k places work →
+      Entered n (at ys i) places k′ places′ work′ → Turned n H xs ys cs days i places k′ places′ work′
   turned-tight i r k k′ places work places′ work′ h spare none kept ground under e = record {
     underway = underway-on (at ys i) k k′ places work places′ work′ (forced i h (spare→tight i r spare none) ground) under e;
     grown = e .grown;
@@ -92,38 +88,38 @@ module _ (n m : ℕ) (xs ys : List ℕ) (cs : List ℤ) (days : List ℕ) where
   -- A rule that has something to spare is followed by leaving all as it is.
   pub turned-loose :
       (i r k : ℕ) (places work : List ℕ) → Spare xs ys cs days i r → (r ≡ 0 → ⊥) → KeptAt xs ys cs days i →
-      Underway n m xs ys cs days k places work → Turned n m xs ys cs days i places k places work
+      Underway n H xs ys cs days k places work → Turned n H xs ys cs days i places k places work
   turned-loose i r k places work spare some kept under = record {
     underway = under;
     grown = λ v h in-it. refl;
     followed = record { kept = kept; entered-if-tight = λ tight. absurd (some (tight→spare i r spare tight)) };
   }
 
-  module _ (heads nexts : List ℕ) (ch : Chained n m xs heads nexts) (rules-in : (i : ℕ) → i < m → InSteps n (rule-at (columns xs ys cs) i)) (a : ℕ) (a-in : a < n) where
+  module _ (rank : ℕ → ℕ) (heads nexts : List ℕ) (ch : ChainsOf n H rank xs heads nexts) (rules-in : (i : ℕ) → H i → InSteps n (rule-at (columns xs ys cs) i)) (a : ℕ) (a-in : a < n) where
     -- The walk begins at a's head.
-    pub walking-start : (k : ℕ) (places work : List ℕ) → Underway n m xs ys cs days k places work → Walking n m xs ys cs days a places k places work (at heads a)
+    pub walking-start : (k : ℕ) (places work : List ℕ) → Underway n H xs ys cs days k places work → Walking n H rank xs ys cs days a places k places work (at heads a)
     walking-start k places work under = record {
       underway = under;
       grown = λ v h in-it. refl;
-      of-a = link-head n m xs heads nexts ch a a-in;
-      met = met-head n m xs heads nexts ch (Followed xs ys cs days places) a a-in;
+      of-a = link-head n H rank xs heads nexts ch a a-in;
+      met = met-head n H rank xs heads nexts ch (Followed xs ys cs days places) a a-in;
     }
 
     -- From rule i it goes on at the next of i.
     pub walking-on :
-        (before : List ℕ) (i k k′ : ℕ) (places work places′ work′ : List ℕ) → Turned n m xs ys cs days i places k′ places′ work′ →
-        Walking n m xs ys cs days a before k places work (suc i) → Walking n m xs ys cs days a before k′ places′ work′ (at nexts i)
+        (before : List ℕ) (i k k′ : ℕ) (places work places′ work′ : List ℕ) → Turned n H xs ys cs days i places k′ places′ work′ →
+        Walking n H rank xs ys cs days a before k places work (suc i) → Walking n H rank xs ys cs days a before k′ places′ work′ (at nexts i)
     walking-on before i k k′ places work places′ work′ turned w = record {
       underway = turned .underway;
       grown = λ v h in-it. turned .grown v h (omega (arith, w .grown v h in-it)) ∙ w .grown v h in-it;
-      of-a = link-next n m xs heads nexts ch a i (w .of-a .within) (w .of-a .own i refl);
+      of-a = link-next n H rank xs heads nexts ch a i (w .of-a .held i refl) (w .of-a .own i refl);
       met =
-          met-next n m xs heads nexts ch (Followed xs ys cs days places′) a i (w .of-a .within) (w .of-a .own i refl)
+          met-next n H rank xs heads nexts ch (Followed xs ys cs days places′) a i (w .of-a .held i refl) (w .of-a .own i refl)
           (λ j h above own. followed-on places places′ j (rules-in j h .second-in) (turned .grown) (w .met j h above own)) (turned .followed);
     }
 
   -- It begins with the steps of day 0.
-  pub grounding-start : (k : ℕ) (places work : List ℕ) → Seeded n days n k places work → Grounding n m xs ys cs days 0 k places work
+  pub grounding-start : (k : ℕ) (places work : List ℕ) → Seeded n days n k places work → Grounding n H xs ys cs days 0 k places work
   grounding-start k places work s = record {
     underway = record { worklist = s .worklist; grounded = λ v h in-it. on-day-0 v (s .only-day-0 v h in-it) };
     done-in = omega arith;
@@ -133,9 +129,9 @@ module _ (n m : ℕ) (xs ys : List ℕ) (cs : List ℤ) (days : List ℕ) where
 
   -- It goes on with the rules of the next step in the list.
   pub grounding-on :
-      ((i : ℕ) → i < m → InSteps n (rule-at (columns xs ys cs) i)) → (done k k′ : ℕ) (places work places′ work′ : List ℕ) → done < k →
-      Underway n m xs ys cs days k′ places′ work′ → Grown n places places′ → StepFollowed m xs ys cs days places′ (at work done) →
-      Grounding n m xs ys cs days done k places work → Grounding n m xs ys cs days (done + 1) k′ places′ work′
+      ((i : ℕ) → H i → InSteps n (rule-at (columns xs ys cs) i)) → (done k k′ : ℕ) (places work places′ work′ : List ℕ) → done < k →
+      Underway n H xs ys cs days k′ places′ work′ → Grown n places places′ → StepFollowed H xs ys cs days places′ (at work done) →
+      Grounding n H xs ys cs days done k places work → Grounding n H xs ys cs days (done + 1) k′ places′ work′
   grounding-on rules-in done k k′ places work places′ work′ more under grown followed g = record {
     underway = under;
     done-in = omega (arith, no-fewer n k k′ places work places′ work′ (g .underway .worklist) (under .worklist) grown);
@@ -144,38 +140,38 @@ module _ (n m : ℕ) (xs ys : List ℕ) (cs : List ℤ) (days : List ℕ) where
         by-place v h (was-entered n k k′ places work places′ work′ (g .underway .worklist) (under .worklist) grown v h in-it (omega arith)) within (decLe (at places v) done);
   }
     where
-      by-place : (v : ℕ) → v < n → 1 ≤ at places v → at places′ v ≤ done + 1 → Dec (at places v ≤ done) → StepFollowed m xs ys cs days places′ v
+      by-place : (v : ℕ) → v < n → 1 ≤ at places v → at places′ v ≤ done + 1 → Dec (at places v ≤ done) → StepFollowed H xs ys cs days places′ v
       by-place v h was within (yes earlier) i held own = followed-on places places′ i (rules-in i held .second-in) grown (g .done-followed v h was earlier i held own)
       by-place v h was within (no l) i held own =
           followed i held (own ∙ sym (g .underway .worklist .own-place v done h (omega (arith, grown v h was))))
 
   module _
-      (rules-in : (i : ℕ) → i < m → InSteps n (rule-at (columns xs ys cs) i)) (k : ℕ) (places work : List ℕ) (under : Underway n m xs ys cs days k places work)
+      (rules-in : (i : ℕ) → H i → InSteps n (rule-at (columns xs ys cs) i)) (k : ℕ) (places work : List ℕ) (under : Underway n H xs ys cs days k places work)
       (every-day-0 : (v : ℕ) → v < n → at days v ≡ 0 → 1 ≤ at places v)
-      (all-followed : (v : ℕ) → v < n → 1 ≤ at places v → StepFollowed m xs ys cs days places v)
+      (all-followed : (v : ℕ) → v < n → 1 ≤ at places v → StepFollowed H xs ys cs days places v)
     where
       -- Where n steps are entered, every step is.
       all-entered : k ≡ n → (v : ℕ) → v < n → 1 ≤ at places v
       all-entered full v h = ltb-true 0 (at places v) (count-all (entered places) n (omega (arith, under .worklist .counted)) v h)
 
       -- Then the days keep every rule, and every step is grounded.
-      earliest : k ≡ n → Earliest n (rule-at (columns xs ys cs)) (below m) (at days)
+      earliest : k ≡ n → Earliest n (rule-at (columns xs ys cs)) H (at days)
       earliest full =
-          grounded-earliest n (rule-at (columns xs ys cs)) (below m) (at days)
+          grounded-earliest n (rule-at (columns xs ys cs)) H (at days)
           (λ i h. all-followed (at xs i) (rules-in i h .first-in) (all-entered full (at xs i) (rules-in i h .first-in)) i h refl .kept)
           (λ v h. under .grounded v h (all-entered full v h))
 
       -- In the earliest plan the steps entered are all steps: those of day 0 are among them, and tight rules lead to none outside.
-      none-out : Earliest n (rule-at (columns xs ys cs)) (below m) (at days) → k ≡ n
+      none-out : Earliest n (rule-at (columns xs ys cs)) H (at days) → k ≡ n
       none-out best =
           under .worklist .counted ∙ count-everything (entered places) n
-          (grounded-all n (rule-at (columns xs ys cs)) (below m) (at days) best rules-in (entered places)
+          (grounded-all n (rule-at (columns xs ys cs)) H (at days) best rules-in (entered places)
           (λ v h zero. lt-ltb 0 (at places v) (every-day-0 v h zero)) follows)
         where
-          follows : (i : ℕ) → i < m → Tight (at days) (rule-at (columns xs ys cs) i) → entered places (at xs i) ≡ true → entered places (at ys i) ≡ true
+          follows : (i : ℕ) → H i → Tight (at days) (rule-at (columns xs ys cs) i) → entered places (at xs i) ≡ true → entered places (at ys i) ≡ true
           follows i h tight first =
               lt-ltb 0 (at places (at ys i)) (all-followed (at xs i) (rules-in i h .first-in) (ltb-true 0 (at places (at xs i)) first) i h refl .entered-if-tight tight)
 
       -- Once every step entered has been followed, their number tells whether the days are the earliest plan.
-      pub count-decides : Decides (eqb k n) (Earliest n (rule-at (columns xs ys cs)) (below m) (at days))
+      pub count-decides : Decides (eqb k n) (Earliest n (rule-at (columns xs ys cs)) H (at days))
       count-decides = record { so = λ e. earliest (eqb-true k n e); not-so = λ e best. eqb-false k n e (none-out best) }

@@ -9,14 +9,10 @@ use lib.ListN.{length, set}
 use lib.IntN.{ℤ}
 use Rattle.meaning.specs.Bounds.{STEPS}
 use Rattle.meaning.specs.Rules.{InSteps, Plan, Tight, Grounded}
-use Rattle.meaning.specs.Tables.{ColumnsRoom, rule-at, at}
+use Rattle.meaning.specs.Tables.{rule-at, at}
 use Rattle.meaning.proofs.Counting.{count}
-use Rattle.leaf.specs.Lent.{columns, KeptAt}
-use Rattle.chains.specs.Chains.{Chained}
-
--- The numbers below m: those of the rules held.
-abbrev pub below : ℕ → ℕ → Type 0
-below m i = i < m
+use Rattle.leaf.specs.Lent.{columns, KeptAt, Placed}
+use Rattle.chains.specs.Chains.{ChainsOf}
 
 -- Whether step v is entered.
 abbrev pub entered : List ℕ → ℕ → Bool
@@ -66,20 +62,20 @@ pub record Seeded (n : ℕ) (days : List ℕ) (v k : ℕ) (places work : List �
   pub only-day-0 : (u : ℕ) → u < n → 1 ≤ at places u → at days u ≡ 0
   pub every-day-0 : (u : ℕ) → u < v → at days u ≡ 0 → 1 ≤ at places u
 
--- What the grounding reads: the rules held, over steps that have days, and their chains.
-pub record Ready (n m : ℕ) (xs ys : List ℕ) (cs : List ℤ) (days heads nexts : List ℕ) : Type 0 where
+-- What the grounding reads: the rules held, over steps that have days, and their chains. H says which numbers are held.
+pub record Ready (n : ℕ) (H : ℕ → Type 0) (rank : ℕ → ℕ) (xs ys : List ℕ) (cs : List ℤ) (days heads nexts : List ℕ) : Type 0 where
   pub steps-few : n ≤ STEPS
-  pub columns-room : ColumnsRoom m (columns xs ys cs)
+  pub placed : (i : ℕ) → H i → Placed xs ys cs i
+  pub next-place : (i : ℕ) → H i → i < length nexts
   pub days-room : n ≤ length days
   pub heads-room : n ≤ length heads
-  pub nexts-room : m ≤ length nexts
-  pub rules-in : (i : ℕ) → i < m → InSteps n (rule-at (columns xs ys cs) i)
-  pub chained : Chained n (m) xs heads nexts
+  pub rules-in : (i : ℕ) → H i → InSteps n (rule-at (columns xs ys cs) i)
+  pub chained : ChainsOf n H rank xs heads nexts
 
 -- The steps entered are grounded.
-pub record Underway (n m : ℕ) (xs ys : List ℕ) (cs : List ℤ) (days : List ℕ) (k : ℕ) (places work : List ℕ) : Type 0 where
+pub record Underway (n : ℕ) (H : ℕ → Type 0) (xs ys : List ℕ) (cs : List ℤ) (days : List ℕ) (k : ℕ) (places work : List ℕ) : Type 0 where
   pub worklist : Worklist n k places work
-  pub grounded : (v : ℕ) → v < n → 1 ≤ at places v → Grounded (rule-at (columns xs ys cs)) (below m) (at days) v
+  pub grounded : (v : ℕ) → v < n → 1 ≤ at places v → Grounded (rule-at (columns xs ys cs)) H (at days) v
 
 -- The days keep rule i, and where it is tight its second step is entered.
 pub record Followed (xs ys : List ℕ) (cs : List ℤ) (days places : List ℕ) (i : ℕ) : Type 0 where
@@ -87,13 +83,13 @@ pub record Followed (xs ys : List ℕ) (cs : List ℤ) (days places : List ℕ) 
   pub entered-if-tight : Tight (at days) (rule-at (columns xs ys cs) i) → 1 ≤ at places (at ys i)
 
 -- Every held rule with first step a has been followed.
-abbrev pub StepFollowed : ℕ → List ℕ → List ℕ → List ℤ → List ℕ → List ℕ → ℕ → Type 0
-StepFollowed m xs ys cs days places a = (i : ℕ) → i < m → at xs i ≡ a → Followed xs ys cs days places i
+abbrev pub StepFollowed : (ℕ → Type 0) → List ℕ → List ℕ → List ℤ → List ℕ → List ℕ → ℕ → Type 0
+StepFollowed H xs ys cs days places a = (i : ℕ) → H i → at xs i ≡ a → Followed xs ys cs days places i
 
 -- What following the rules of a leaves: steps entered stay so, and all are grounded; the answer yes says that every rule of a was followed, and
 -- the answer no that the days break one of them.
-pub record AfterStep (n m : ℕ) (xs ys : List ℕ) (cs : List ℤ) (days : List ℕ) (a : ℕ) (places : List ℕ) (kept : Bool) (k : ℕ) (places′ work′ : List ℕ) : Type 0 where
-  pub underway : Underway n m xs ys cs days k places′ work′
+pub record AfterStep (n : ℕ) (H : ℕ → Type 0) (xs ys : List ℕ) (cs : List ℤ) (days : List ℕ) (a : ℕ) (places : List ℕ) (kept : Bool) (k : ℕ) (places′ work′ : List ℕ) : Type 0 where
+  pub underway : Underway n H xs ys cs days k places′ work′
   pub grown : Grown n places places′
-  pub when-kept : kept ≡ true → StepFollowed m xs ys cs days places′ a
-  pub when-broken : kept ≡ false → Plan (rule-at (columns xs ys cs)) (below m) (at days) → ⊥
+  pub when-kept : kept ≡ true → StepFollowed H xs ys cs days places′ a
+  pub when-broken : kept ≡ false → Plan (rule-at (columns xs ys cs)) H (at days) → ⊥

@@ -9,9 +9,10 @@ ghost use Rattle.meaning.specs.Bounds.{STEPS};
 ghost use Rattle.meaning.specs.Rules.{Earliest};
 ghost use Rattle.meaning.specs.Tables.{ColumnsRoom, InCounts, Room, rule-at, at};
 ghost use Rattle.leaf.specs.Decides.{Decides};
-ghost use Rattle.leaf.specs.Lent.{columns, tables};
+ghost use Rattle.leaf.specs.Lent.{columns, tables, first};
+ghost use Rattle.chains.specs.Chains.{number};
 ghost use Rattle.sound.specs.Parts.{AllIn, MarksIn, ChainsRoom, RulesTested, Testable, Tested};
-ghost use Rattle.sound.specs.Ground.{below, Worklist, Enterable, Stays, Comes, ListsRoom, Seeded, Ready, Underway, AfterStep};
+ghost use Rattle.sound.specs.Ground.{Worklist, Enterable, Stays, Comes, ListsRoom, Seeded, Ready, Underway, AfterStep};
 use meaning::Counts;
 
 // Whether each of three columns has at least k places.
@@ -175,11 +176,11 @@ fn follow(
     places: &mut [u16],
     work: &mut [u16],
 ) -> Walked
-    requires { ⌜ Ready n m (now xs) (now ys) (now cs) (now days) (now heads) (now nexts) ⌝ }
+    requires { ⌜ Ready n (first m) number (now xs) (now ys) (now cs) (now days) (now heads) (now nexts) ⌝ }
     requires { ⌜ ListsRoom n (now places) (now work) ⌝ }
-    requires { ⌜ Underway n m (now xs) (now ys) (now cs) (now days) entered (now places) (now work) ⌝ }
+    requires { ⌜ Underway n (first m) (now xs) (now ys) (now cs) (now days) entered (now places) (now work) ⌝ }
     requires { ⌜ (a < n) × (1 ≤ at (now places) a) ⌝ }
-    ensures { λ r. ⌜ AfterStep n m (now (xs .entry)) (now (ys .entry)) (now (cs .entry)) (now (days .entry)) a (now (places .entry)) (r .kept) (r .entered) (now (places .exit)) (now (work .exit)) ⌝ }
+    ensures { λ r. ⌜ AfterStep n (first m) (now (xs .entry)) (now (ys .entry)) (now (cs .entry)) (now (days .entry)) a (now (places .entry)) (r .kept) (r .entered) (now (places .exit)) (now (work .exit)) ⌝ }
 {
     let mut k = entered;
     let mut link = leaf::number_at(heads, a);
@@ -213,8 +214,8 @@ fn is_earliest(
     heads: &[u16],
     nexts: &[u16],
 ) -> bool
-    requires { ⌜ Ready n m (now xs) (now ys) (now cs) (now days) (now heads) (now nexts) ⌝ }
-    ensures { λ r. ⌜ Decides r (Earliest n (rule-at (columns (now (xs .entry)) (now (ys .entry)) (now (cs .entry)))) (below m) (at (now (days .entry)))) ⌝ }
+    requires { ⌜ Ready n (first m) number (now xs) (now ys) (now cs) (now days) (now heads) (now nexts) ⌝ }
+    ensures { λ r. ⌜ Decides r (Earliest n (rule-at (columns (now (xs .entry)) (now (ys .entry)) (now (cs .entry)))) (first m) (at (now (days .entry)))) ⌝ }
 {
     let mut places = [0u16; meaning::STEPS];
     let mut work = [0u16; meaning::STEPS];

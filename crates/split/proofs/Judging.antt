@@ -8,7 +8,8 @@ use mathlib.Core.Logic.{_↔_}
 use lib.ListN.{length, set}
 use lib.Seq.{getD-set-same, getD-set-other}
 use Rattle.meaning.specs.Tables.{at}
-use Rattle.chains.specs.Chains.{Chained}
+use Rattle.leaf.specs.Lent.{first}
+use Rattle.chains.specs.Chains.{Chained, number}
 use Rattle.chains.proofs.Walk.{Met, met-head, met-next}
 use Rattle.split.specs.Verdicts.{Verdict, Judged}
 
@@ -18,27 +19,27 @@ verdict-same same verdict = record { so = λ e. same .1 (verdict .so e); not-so 
 
 -- The chain of step a has been walked as far as the link: the verdicts on the rules met decide P, and no other verdict changed.
 pub record Judging (P : ℕ → Type 0) (w : ℕ) (steps : List ℕ) (a link : ℕ) (before after : List ℕ) : Type 0 where
-  pub met : Met (λ j. Verdict (at after j) (P j)) w steps a link
+  pub met : Met (λ j. Verdict (at after j) (P j)) (first w) number steps a link
   pub others : (j : ℕ) → (at steps j ≡ a → ⊥) → at after j ≡ at before j
 
 module _ (P : ℕ → Type 0) (n w : ℕ) (steps heads nexts : List ℕ) (chained : Chained n w steps heads nexts) (a : ℕ) (before : List ℕ) where
   -- The walk begins.
   pub judging-head : a < n → Judging P w steps a (at heads a) before before
-  judging-head a-in = record { met = met-head n w steps heads nexts chained (λ j. Verdict (at before j) (P j)) a a-in; others = λ j other. refl }
+  judging-head a-in = record { met = met-head n (first w) number steps heads nexts chained (λ j. Verdict (at before j) (P j)) a a-in; others = λ j other. refl }
 
   -- A verdict is passed on rule k.
   pub judging-next :
       (k v : ℕ) (after : List ℕ) → k < w → k < length after → at steps k ≡ a → Verdict v (P k) → Judging P w steps a (suc k) before after →
       Judging P w steps a (at nexts k) before (set after k v)
   judging-next k v after k-in place own verdict judging = record {
-    met = met-next n w steps heads nexts chained (λ j. Verdict (at (set after k v) j) (P j)) a k k-in own passed here;
+    met = met-next n (first w) number steps heads nexts chained (λ j. Verdict (at (set after k v) j) (P j)) a k k-in own passed here;
     others = λ j other. getD-set-other after k j v 0 (λ e. other (ap (at steps) e ∙ own)) ∙ judging .others j other;
   }
     where
       here : Verdict (at (set after k v) k) (P k)
       here = rw (getD-set-same after k v 0 place) verdict
 
-      passed : Met (λ j. Verdict (at (set after k v) j) (P j)) w steps a (suc k)
+      passed : Met (λ j. Verdict (at (set after k v) j) (P j)) (first w) number steps a (suc k)
       passed j j-in above of-a = rw (getD-set-other after k j v 0 (λ e. omega arith)) (judging .met j j-in above of-a)
 
 -- The walk has come to its end.

@@ -6,11 +6,11 @@ use lib.ListN.{length}
 use lib.IntN.{ℤ}
 use Rattle.meaning.specs.declared.Counts.{Counts}
 use Rattle.meaning.specs.Bounds.{STEPS, RULES, WATCHED}
-use Rattle.meaning.specs.Tables.{Columns, ColumnsRoom, rule-at, held, at}
+use Rattle.meaning.specs.Tables.{Columns, ColumnsRoom, rule-at, at}
 use Rattle.meaning.proofs.DayBound.{day-bound}
-use Rattle.leaf.specs.Lent.{columns, tables}
+use Rattle.leaf.specs.Lent.{columns, tables, first}
 use Rattle.leaf.specs.Promises.{Border}
-use Rattle.chains.specs.Chains.{Chained, Buildable}
+use Rattle.chains.specs.Chains.{Chained, number, Buildable}
 use Rattle.spread.specs.Ground.{Ground}
 use Rattle.split.specs.Carries.{Near}
 use Rattle.split.specs.Contracts.{ChainsBy, Watching}
@@ -29,14 +29,18 @@ module _
   -- A spread can stand on them, with the chains of the rules.
   pub ground :
       (heads nexts : List ℕ) → Chained (counts .steps) (counts .rules) xs heads nexts → STEPS ≤ length heads → RULES ≤ length nexts →
-      Ground (counts .steps) (counts .rules) xs ys cs days heads nexts
+      Ground (counts .steps) (first (counts .rules)) number xs ys cs days heads nexts
   ground heads nexts chained heads-room nexts-room = record {
     steps-in = border .sound .counts-in .steps-in;
-    rules-in = border .sound .counts-in .rules-in;
-    rules-room = fewer-room (counts .rules) RULES (columns xs ys cs) (border .sound .counts-in .rules-in) (border .room .rules-room);
+    number-in = λ i h. omega (arith, border .sound .counts-in .rules-in);
+    placed = λ i h. record {
+      first-place = omega (arith, border .sound .counts-in .rules-in, border .room .rules-room .firsts-room);
+      second-place = omega (arith, border .sound .counts-in .rules-in, border .room .rules-room .seconds-room);
+      amount-place = omega (arith, border .sound .counts-in .rules-in, border .room .rules-room .amounts-room);
+    };
+    next-place = λ i h. omega (arith, border .sound .counts-in .rules-in);
     days-room = omega (arith, border .sound .counts-in .steps-in, border .room .days-room);
     heads-room = omega (arith, border .sound .counts-in .steps-in);
-    nexts-room = omega (arith, border .sound .counts-in .rules-in);
     in-steps = λ i i-in. border .sound .rules-good i i-in .steps-in;
     plan = border .sound .days-earliest .plan;
     chained = chained;
@@ -48,7 +52,7 @@ module _
       omega (
         arith,
         border .sound .counts-in .steps-in,
-        day-bound (counts .steps) (rule-at (columns xs ys cs)) (held counts) (at days) (border .sound .rules-good) (border .sound .days-earliest) v v-in,
+        day-bound (counts .steps) (rule-at (columns xs ys cs)) (first (counts .rules)) (at days) (border .sound .rules-good) (border .sound .days-earliest) v v-in,
       )
 
   -- The watched rules can be put on chains by the steps given, in lists with places for the full bounds.

@@ -14,7 +14,7 @@ use Rattle.meaning.proofs.DayBound.{amount-down}
 use Rattle.meaning.proofs.Theory.{never-is-always-not}
 use Rattle.spread.specs.Least.{EarliestFrom}
 use Rattle.spread.specs.Contracts.{alone, Spread}
-use Rattle.spread.specs.Ground.{rules, first}
+use Rattle.spread.specs.Ground.{rules}
 use Rattle.spread.proofs.Collecting.{alone-there, alone-elsewhere}
 use Rattle.spread.proofs.Uses.{gains-bounded, always-by-gain, gain-by-always}
 use Rattle.split.specs.Carries.{ASKED, Carries, Near, Telling}
@@ -52,10 +52,10 @@ module _
 
 -- A spread of the gain from step a with no goal tells.
 pub spread-tells :
-    (n m : ℕ) (xs ys : List ℕ) (cs : List ℤ) (days : List ℕ) (a : ℕ) (before gains by : List ℕ) → Near n days → Plan (rules xs ys cs) (first m) (at days) →
-    Spread n m xs ys cs days n (λ v. at days v + alone a ASKED v) before gains by → Telling n (rules xs ys cs) (first m) (at days) a (at gains)
-spread-tells n m xs ys cs days a before gains by near plan s =
-    telling n (rules xs ys cs) (first m) (at days) near plan a (at gains)
+    (n : ℕ) (H : ℕ → Type 0) (xs ys : List ℕ) (cs : List ℤ) (days : List ℕ) (a : ℕ) (before gains by : List ℕ) → Near n days → Plan (rules xs ys cs) H (at days) →
+    Spread n H xs ys cs days n (λ v. at days v + alone a ASKED v) before gains by → Telling n (rules xs ys cs) H (at days) a (at gains)
+spread-tells n H xs ys cs days a before gains by near plan s =
+    telling n (rules xs ys cs) H (at days) near plan a (at gains)
     (record { plan = s .plan (λ below. absurd (omega arith)); forced = s .forced })
 
 -- A whole number is at most k above 0 where it is at most k.

@@ -9,7 +9,7 @@ use Rattle.meaning.specs.Tables.{ColumnsRoom, at}
 use Rattle.meaning.proofs.Whole.{up, dn}
 use Rattle.leaf.specs.Lent.{columns}
 use Rattle.chains.specs.Chains.{Chained}
-use Rattle.spread.specs.Ground.{rules, first}
+use Rattle.spread.specs.Ground.{rules}
 use Rattle.split.specs.Carries.{ASKED}
 use Rattle.split.specs.Verdicts.{Decided, Judged}
 
@@ -64,14 +64,14 @@ pub record Places (n w : ℕ) (gains by always never : List ℕ) : Type 0 where
   pub always-room : w ≤ length always
   pub never-room : w ≤ length never
 
-module _ (m : ℕ) (xs ys : List ℕ) (cs : List ℤ) (wxs wys : List ℕ) (wcs : List ℤ) where
-  -- The watched rule under j holds in every arrangement of the first m rules.
+module _ (H : ℕ → Type 0) (xs ys : List ℕ) (cs : List ℤ) (wxs wys : List ℕ) (wcs : List ℤ) where
+  -- The watched rule under j holds in every arrangement of the rules held, whose numbers H holds of.
   abbrev pub InAll : ℕ → Type 0
-  InAll j = Always (rules xs ys cs) (first m) (rules wxs wys wcs j)
+  InAll j = Always (rules xs ys cs) H (rules wxs wys wcs j)
 
   -- The watched rule under j holds in none.
   abbrev pub InNone : ℕ → Type 0
-  InNone j = Never (rules xs ys cs) (first m) (rules wxs wys wcs j)
+  InNone j = Never (rules xs ys cs) H (rules wxs wys wcs j)
 
   -- Verdicts were passed on the watched rules of step a, of which there are w in all: `always` on those whose first step it is, and `never` on
   -- those whose second step it is.

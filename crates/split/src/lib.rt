@@ -8,10 +8,10 @@ ghost use lib.ListN.{length};
 ghost use Rattle.meaning.specs.Bounds.{STEPS, RULES, WATCHED};
 ghost use Rattle.meaning.specs.Rules.{negation};
 ghost use Rattle.meaning.specs.Tables.{at};
-ghost use Rattle.leaf.specs.Lent.{tables};
+ghost use Rattle.leaf.specs.Lent.{tables, first};
 ghost use Rattle.leaf.specs.Promises.{Border, Splits};
-ghost use Rattle.chains.specs.Chains.{Chained};
-ghost use Rattle.spread.specs.Ground.{Ground, rules, first};
+ghost use Rattle.chains.specs.Chains.{Chained, number};
+ghost use Rattle.spread.specs.Ground.{Ground, rules};
 ghost use Rattle.split.specs.Carries.{ASKED, Carries, Near, Telling};
 ghost use Rattle.split.specs.Verdicts.{Verdict, Judged, Picked};
 ghost use Rattle.split.specs.Contracts.{Gained, Reach, Testable, Within, Broken, ChainsBy, Judgeable, Watching, Places, JudgedStep, JudgedAll};
@@ -47,7 +47,7 @@ fn gains_from(
     gains: &mut [u64],
     by: &mut [u16],
 )
-    requires { ⌜ Ground n m (now xs) (now ys) (now cs) (now days) (now heads) (now nexts) ⌝ }
+    requires { ⌜ Ground n (first m) number (now xs) (now ys) (now cs) (now days) (now heads) (now nexts) ⌝ }
     requires { ⌜ Near n (now days) ⌝ }
     requires { ⌜ a < n ⌝ }
     requires { ⌜ n ≤ length (now gains) ⌝ }
@@ -185,13 +185,13 @@ fn judge(
     always: &mut [u8],
     never: &mut [u8],
 )
-    requires { ⌜ Ground n m (now xs) (now ys) (now cs) (now days) (now heads) (now nexts) ⌝ }
+    requires { ⌜ Ground n (first m) number (now xs) (now ys) (now cs) (now days) (now heads) (now nexts) ⌝ }
     requires { ⌜ Near n (now days) ⌝ }
     requires { ⌜ Watching n w (now wxs) (now wys) (now wcs) (now wxheads) (now wxnexts) (now wyheads) (now wynexts) ⌝ }
     requires { ⌜ Places n w (now gains) (now by) (now always) (now never) ⌝ }
     requires { ⌜ a < n ⌝ }
     ensures { λ _. ⌜
-        JudgedStep m (now (xs .entry)) (now (ys .entry)) (now (cs .entry)) (now (wxs .entry)) (now (wys .entry)) (now (wcs .entry)) w a
+        JudgedStep (first m) (now (xs .entry)) (now (ys .entry)) (now (cs .entry)) (now (wxs .entry)) (now (wys .entry)) (now (wcs .entry)) w a
         (now (always .entry)) (now (never .entry)) (now (always .exit)) (now (never .exit)) ⌝ }
 {
     if leaf::number_at(wxheads, a) + leaf::number_at(wyheads, a) == 0 {
@@ -237,12 +237,12 @@ fn judge_all(
     always: &mut [u8],
     never: &mut [u8],
 )
-    requires { ⌜ Ground n m (now xs) (now ys) (now cs) (now days) (now heads) (now nexts) ⌝ }
+    requires { ⌜ Ground n (first m) number (now xs) (now ys) (now cs) (now days) (now heads) (now nexts) ⌝ }
     requires { ⌜ Near n (now days) ⌝ }
     requires { ⌜ Watching n w (now wxs) (now wys) (now wcs) (now wxheads) (now wxnexts) (now wyheads) (now wynexts) ⌝ }
     requires { ⌜ Places n w (now gains) (now by) (now always) (now never) ⌝ }
     ensures { λ _. ⌜
-        JudgedAll m (now (xs .entry)) (now (ys .entry)) (now (cs .entry)) (now (wxs .entry)) (now (wys .entry)) (now (wcs .entry)) w
+        JudgedAll (first m) (now (xs .entry)) (now (ys .entry)) (now (cs .entry)) (now (wxs .entry)) (now (wys .entry)) (now (wcs .entry)) w
         (now (always .exit)) (now (never .exit)) ⌝ }
 {
     for a in 0..n {

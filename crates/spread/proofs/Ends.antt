@@ -12,7 +12,7 @@ use Rattle.waiting.specs.Waiting.{Put}
 use Rattle.spread.specs.Trace.{CameBy, Traced}
 use Rattle.spread.specs.State.{Ready, BetweenTurns}
 use Rattle.spread.specs.Contracts.{Collected, Spread}
-use Rattle.spread.specs.Ground.{rules, first, Ground}
+use Rattle.spread.specs.Ground.{rules, Ground}
 
 -- Before the first turn, where each step with a gain is collected.
 pub no-turn-yet :
@@ -55,7 +55,7 @@ all-settled n R H d low g by list steps plan b i held = →plan (λ v. d v + g v
     tell :
         Dec (0 < g (R i .first)) →
         d (R i .first) + g (R i .first) + dn (R i .amount) ≤ d (R i .second) + g (R i .second) + up (R i .amount)
-    tell (yes has) = b .state .kept i held (settled has (decLt (b .rank (R i .first)) (b .turns))) (λ e. omega arith)
+    tell (yes has) = b .state .kept i held (settled has (decLt (b .rank (R i .first)) (b .turns))) (λ e. tt)
     tell (no none) = omega (arith, plan→ d (R i) (plan i held))
 
 -- Between two turns each gain can be traced. The ranks of the open steps are brought down to the number of turns.
@@ -79,23 +79,23 @@ traced n R H d low g by list k b = record {
 
 -- Where the turns stop for want of steps in the list, unless the goal is a step with a gain, the gains were spread.
 pub stopped :
-    (n m : ℕ) (xs ys : List ℕ) (cs : List ℤ) (days heads nexts : List ℕ) (goal : ℕ) (low : ℕ → ℕ) (before gains by list : List ℕ) (k : ℕ) →
-    Ground n m xs ys cs days heads nexts → BetweenTurns n (rules xs ys cs) (first m) (at days) low (at gains) (at by) (at list) k →
-    ((goal < n → at gains goal ≡ 0) → k ≡ 0) → ((v : ℕ) → n ≤ v → at gains v ≡ at before v) → Spread n m xs ys cs days goal low before gains by
-stopped n m xs ys cs days heads nexts goal low before gains by list k ground b empty past = record {
+    (n : ℕ) (H : ℕ → Type 0) (order : ℕ → ℕ) (xs ys : List ℕ) (cs : List ℤ) (days heads nexts : List ℕ) (goal : ℕ) (low : ℕ → ℕ) (before gains by list : List ℕ) (k : ℕ) →
+    Ground n H order xs ys cs days heads nexts → BetweenTurns n (rules xs ys cs) H (at days) low (at gains) (at by) (at list) k →
+    ((goal < n → at gains goal ≡ 0) → k ≡ 0) → ((v : ℕ) → n ≤ v → at gains v ≡ at before v) → Spread n H xs ys cs days goal low before gains by
+stopped n H order xs ys cs days heads nexts goal low before gains by list k ground b empty past = record {
   forced = b .state .forced;
   plan = λ short.
-      all-settled n (rules xs ys cs) (first m) (at days) low (at gains) (at by) (at list) (ground .in-steps) (ground .plan)
-      (subst (λ (l : ℕ). BetweenTurns n (rules xs ys cs) (first m) (at days) low (at gains) (at by) (at list) l) (empty short) b);
-  traced = traced n (rules xs ys cs) (first m) (at days) low (at gains) (at by) (at list) k b;
+      all-settled n (rules xs ys cs) H (at days) low (at gains) (at by) (at list) (ground .in-steps) (ground .plan)
+      (subst (λ (l : ℕ). BetweenTurns n (rules xs ys cs) H (at days) low (at gains) (at by) (at list) l) (empty short) b);
+  traced = traced n (rules xs ys cs) H (at days) low (at gains) (at by) (at list) k b;
   past = past;
 }
 
 -- Gains that were spread from those with one at y put in, were spread from those before.
 pub from-before :
-    (n m : ℕ) (xs ys : List ℕ) (cs : List ℤ) (days : List ℕ) (goal : ℕ) (low : ℕ → ℕ) (before begun gains by : List ℕ) (y gain : ℕ) → y < n →
-    Put y gain (at before) (at begun) → Spread n m xs ys cs days goal low begun gains by → Spread n m xs ys cs days goal low before gains by
-from-before n m xs ys cs days goal low before begun gains by y gain y-in put s = record {
+    (n : ℕ) (H : ℕ → Type 0) (xs ys : List ℕ) (cs : List ℤ) (days : List ℕ) (goal : ℕ) (low : ℕ → ℕ) (before begun gains by : List ℕ) (y gain : ℕ) → y < n →
+    Put y gain (at before) (at begun) → Spread n H xs ys cs days goal low begun gains by → Spread n H xs ys cs days goal low before gains by
+from-before n H xs ys cs days goal low before begun gains by y gain y-in put s = record {
   forced = s .forced;
   plan = s .plan;
   traced = s .traced;

@@ -6,7 +6,8 @@ use mathlib.Core.Path.{_≡_, refl, sym, _∙_, ap, subst}
 use mathlib.Core.Logic.{_⊎_, inl, inr}
 use lib.Dec.{eqb}
 use borrow.Author.Tests.{eq-eqb, ne-eqb, eqb-true}
-use Rattle.meaning.specs.Rules.{Rule, Plan, InSteps}
+use Rattle.meaning.specs.Rules.{Rule, Plan, InSteps, plus}
+use Rattle.meaning.proofs.More.{plus-other}
 use Rattle.meaning.proofs.Whole.{up, dn, plan→}
 use Rattle.meaning.proofs.Counting.{count-no-less, count-more}
 use Rattle.spread.specs.Least.{ForcedFrom}
@@ -112,8 +113,8 @@ module _
       listed-in j (inr h) = omega (arith, h .1, steps i held .second-in)
 
   module _
-      (low : ℕ → ℕ) (turns : ℕ) (rank : ℕ → ℕ) (settled : rank (R i .first) < turns)
-      (s : Spreading n R H d low turns (R i .first) (suc i) rank g by list k) where
+      (low : ℕ → ℕ) (turns : ℕ) (Seen : ℕ → Type 0) (rank : ℕ → ℕ) (settled : rank (R i .first) < turns)
+      (s : Spreading n R H d low turns (R i .first) Seen rank g by list k) where
     -- The second step is open: a settled one has no smaller gain than the step settled last.
     second-open : turns ≤ rank (R i .second)
     second-open = tell (decLt (rank (R i .second)) turns)
@@ -161,12 +162,12 @@ module _
 
     -- The rule under i is kept now, and every rule that was kept still is.
     kept :
-        (j : ℕ) → H j → rank (R j .first) < turns → (R j .first ≡ R i .first → i ≤ j) →
+        (j : ℕ) → H j → rank (R j .first) < turns → (R j .first ≡ R i .first → plus Seen i j) →
         d (R j .first) + g′ (R j .first) + dn (R j .amount) ≤ d (R j .second) + g′ (R j .second) + up (R j .amount)
     kept j j-held j-settled seen = tell (ℕ-discrete j i)
       where
-        later : (j ≡ i → ⊥) → R j .first ≡ R i .first → suc i ≤ j
-        later other e = omega (arith, seen e, other)
+        later : (j ≡ i → ⊥) → R j .first ≡ R i .first → Seen j
+        later e of-last = plus-other Seen i j e (seen of-last)
 
         tell :
             Dec (j ≡ i) → d (R j .first) + g′ (R j .first) + dn (R j .amount) ≤ d (R j .second) + g′ (R j .second) + up (R j .amount)
@@ -275,7 +276,7 @@ module _
         tell (no e) = old e (s .raised v v-in (omega (arith, r .other-gains v e)) j (sym (r .named .others v e) ∙ named))
 
     -- The state after the rule under i has raised its second step.
-    pub raise-keeps : Spreading n R H d low turns (R i .first) i rank g′ by′ list′ k′
+    pub raise-keeps : Spreading n R H d low turns (R i .first) (plus Seen i) rank g′ by′ list′ k′
     raise-keeps = record {
       forced = forced;
       settled-first = settled-first;

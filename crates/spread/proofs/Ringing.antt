@@ -10,7 +10,7 @@ use Rattle.meaning.specs.Rules.{Rule, Leads, All, Different, total, Refutes, mo
 use Rattle.meaning.specs.Tables.{at}
 use Rattle.meaning.proofs.Whole.{up, dn, add-is, →lt, plan→}
 use Rattle.meaning.proofs.More.{more-new, more-old}
-use Rattle.spread.specs.Ground.{rules, first}
+use Rattle.spread.specs.Ground.{rules}
 use Rattle.spread.specs.Trace.{CameBy}
 use Rattle.spread.specs.Ring.{rule, Reached, Lacks, Arrives, Hops, RingIn}
 use Rattle.waiting.specs.Waiting.{Put}
@@ -36,11 +36,11 @@ arrives-on xs by y (suc hops) v h e =
     less : (k : ℕ) → k ≡ suc k - 1
     less k = omega arith
 
-module _ (n m : ℕ) (xs ys : List ℕ) (cs : List ℤ) (days gains by : List ℕ) (x y : ℕ) (h : Reached n m xs ys cs days gains by x y) where
+module _ (n : ℕ) (H : ℕ → Type 0) (m : ℕ) (xs ys : List ℕ) (cs : List ℤ) (days gains by : List ℕ) (x y : ℕ) (h : Reached n H m xs ys cs days gains by x y) where
   -- A step with a gain that is not y came by a rule.
   pub record Hop (v : ℕ) : Type 0 where
     pub named : at by v ≡ suc (at by v - 1)
-    pub came : CameBy (rules xs ys cs) (first m) (λ w. at days w + at gains w) (h .traced .rank) v (at by v - 1)
+    pub came : CameBy (rules xs ys cs) H (λ w. at days w + at gains w) (h .traced .rank) v (at by v - 1)
     pub from-in : at xs (at by v - 1) < n
     pub from-gain : 0 < at gains (at xs (at by v - 1))
 
@@ -48,7 +48,7 @@ module _ (n m : ℕ) (xs ys : List ℕ) (cs : List ℤ) (days gains by : List �
   pub hop : (v : ℕ) → v < n → 0 < at gains v → (v ≡ y → ⊥) → Hop v
   hop v v-in has other = by-name (ℕ-discrete (at by v) 0)
     where
-      step : (at by v ≡ suc (at by v - 1)) → CameBy (rules xs ys cs) (first m) (λ w. at days w + at gains w) (h .traced .rank) v (at by v - 1) → Hop v
+      step : (at by v ≡ suc (at by v - 1)) → CameBy (rules xs ys cs) H (λ w. at days w + at gains w) (h .traced .rank) v (at by v - 1) → Hop v
       step named came = record {
         named = named;
         came = came;
@@ -135,16 +135,16 @@ tail-refutes R H d g rank m x y c l lacks reached t =
       },
     )
 
-module _ (n m : ℕ) (xs ys : List ℕ) (cs : List ℤ) (days gains by : List ℕ) (x y : ℕ) where
+module _ (n : ℕ) (H : ℕ → Type 0) (m : ℕ) (xs ys : List ℕ) (cs : List ℤ) (days gains by : List ℕ) (x y : ℕ) where
   -- The walk back from x has come to v in k hops.
   pub record WalkedBack (v k : ℕ) : Type 0 where
     pub step-in : v < n
     pub has : 0 < at gains v
-    pub lower : (h : Reached n m xs ys cs days gains by x y) → k + h .traced .rank v ≤ h .traced .rank x
+    pub lower : (h : Reached n H m xs ys cs days gains by x y) → k + h .traced .rank v ≤ h .traced .rank x
     pub arrives : (hops : ℕ) → Arrives xs by y hops v → Arrives xs by y (k + hops) x
 
   -- Before the first hop it is at x.
-  pub back-none : Reached n m xs ys cs days gains by x y → WalkedBack x 0
+  pub back-none : Reached n H m xs ys cs days gains by x y → WalkedBack x 0
   back-none h = record {
     step-in = h .first-in;
     has = h .reached;
@@ -156,11 +156,11 @@ module _ (n m : ℕ) (xs ys : List ℕ) (cs : List ℤ) (days gains by : List �
       same k = omega arith
 
   -- One hop further.
-  pub back-more : Reached n m xs ys cs days gains by x y → (v k : ℕ) → WalkedBack v k → (v ≡ y → ⊥) → WalkedBack (at xs (at by v - 1)) (k + 1)
+  pub back-more : Reached n H m xs ys cs days gains by x y → (v k : ℕ) → WalkedBack v k → (v ≡ y → ⊥) → WalkedBack (at xs (at by v - 1)) (k + 1)
   back-more h v k b other = record {
-    step-in = hop n m xs ys cs days gains by x y h v (b .step-in) (b .has) other .from-in;
-    has = hop n m xs ys cs days gains by x y h v (b .step-in) (b .has) other .from-gain;
-    lower = λ h′. omega (arith, b .lower h′, hop n m xs ys cs days gains by x y h′ v (b .step-in) (b .has) other .came .before);
+    step-in = hop n H m xs ys cs days gains by x y h v (b .step-in) (b .has) other .from-in;
+    has = hop n H m xs ys cs days gains by x y h v (b .step-in) (b .has) other .from-gain;
+    lower = λ h′. omega (arith, b .lower h′, hop n H m xs ys cs days gains by x y h′ v (b .step-in) (b .has) other .came .before);
     arrives = λ hops a. subst (λ (c : ℕ). Arrives xs by y c x) (same hops) (b .arrives (suc hops) (other, a));
   }
     where
@@ -168,11 +168,11 @@ module _ (n m : ℕ) (xs ys : List ℕ) (cs : List ℤ) (days gains by : List �
       same hops = omega arith
 
   -- It has made fewer hops than there are steps.
-  pub back-few : Reached n m xs ys cs days gains by x y → (v k : ℕ) → WalkedBack v k → k < n
+  pub back-few : Reached n H m xs ys cs days gains by x y → (v k : ℕ) → WalkedBack v k → k < n
   back-few h v k b = omega (arith, b .lower h, h .traced .rank-in x (h .first-in) (h .reached))
 
   -- Once it has come to y, its hops are counted.
-  pub back-done : Reached n m xs ys cs days gains by x y → (v k : ℕ) → WalkedBack v k → v ≡ y → Hops n xs by x y k
+  pub back-done : Reached n H m xs ys cs days gains by x y → (v k : ℕ) → WalkedBack v k → v ≡ y → Hops n xs by x y k
   back-done h v k b e = record {
     few = back-few h v k b;
     arrives = subst (λ (c : ℕ). Arrives xs by y c x) (same k) (b .arrives 0 e);
@@ -190,12 +190,12 @@ module _ (n m : ℕ) (xs ys : List ℕ) (cs : List ℤ) (days gains by : List �
       pub within : j ≤ k
       pub left : Arrives xs by y (j - 1) v
       pub tail :
-          (c : ℤ) (h : Reached n m xs ys cs days gains by x y) →
-          Tail (more (rules xs ys cs) m (rule x y c)) (first m) (λ w. at days w + at gains w) (h .traced .rank) x v (part (at list) j (k - j))
+          (c : ℤ) (h : Reached n H m xs ys cs days gains by x y) →
+          Tail (more (rules xs ys cs) m (rule x y c)) H (λ w. at days w + at gains w) (h .traced .rank) x v (part (at list) j (k - j))
       pub past : (i : ℕ) → k ≤ i → at list i ≡ at list₀ i
 
     -- Before anything is written the walk is at x, and the place behind the ring's last.
-    pub written-none : Reached n m xs ys cs days gains by x y → (hops : ℕ) → hops + 1 ≡ k → Hops n xs by x y hops → Written x k list₀
+    pub written-none : Reached n H m xs ys cs days gains by x y → (hops : ℕ) → hops + 1 ≡ k → Hops n xs by x y hops → Written x k list₀
     written-none h hops one-more back = record {
       step-in = h .first-in;
       has = h .reached;
@@ -203,8 +203,8 @@ module _ (n m : ℕ) (xs ys : List ℕ) (cs : List ℤ) (days gains by : List �
       within = omega arith;
       left = subst (λ (l : ℕ). Arrives xs by y l x) less (back .arrives);
       tail = λ c h′.
-          subst (λ (l : ℕ). Tail (more (rules xs ys cs) m (rule x y c)) (first m) (λ w. at days w + at gains w) (h′ .traced .rank) x x (part (at list₀) k l)) (none k)
-          (tail-none (more (rules xs ys cs) m (rule x y c)) (first m) (λ w. at days w + at gains w) (h′ .traced .rank) x);
+          subst (λ (l : ℕ). Tail (more (rules xs ys cs) m (rule x y c)) H (λ w. at days w + at gains w) (h′ .traced .rank) x x (part (at list₀) k l)) (none k)
+          (tail-none (more (rules xs ys cs) m (rule x y c)) H (λ w. at days w + at gains w) (h′ .traced .rank) x);
       past = λ i beyond. refl;
     }
       where
@@ -216,19 +216,19 @@ module _ (n m : ℕ) (xs ys : List ℕ) (cs : List ℤ) (days gains by : List �
 
     -- The rule that v came by is written in front.
     pub written-more :
-        Reached n m xs ys cs days gains by x y → (v j : ℕ) (list list′ : List ℕ) → Written v j list → (v ≡ y → ⊥) → Put (j - 1) (at by v - 1) (at list) (at list′) →
+        Reached n H m xs ys cs days gains by x y → (v j : ℕ) (list list′ : List ℕ) → Written v j list → (v ≡ y → ⊥) → Put (j - 1) (at by v - 1) (at list) (at list′) →
         Written (at xs (at by v - 1)) (j - 1) list′
     written-more h v j list list′ w other put = record {
-      step-in = hop n m xs ys cs days gains by x y h v (w .step-in) (w .has) other .from-in;
-      has = hop n m xs ys cs days gains by x y h v (w .step-in) (w .has) other .from-gain;
+      step-in = hop n H m xs ys cs days gains by x y h v (w .step-in) (w .has) other .from-in;
+      has = hop n H m xs ys cs days gains by x y h v (w .step-in) (w .has) other .from-gain;
       some = omega (arith, on .0);
       within = omega (arith, w .within);
       left = on .1;
       tail = λ c h′.
-          let came = hop n m xs ys cs days gains by x y h′ v (w .step-in) (w .has) other .came in
+          let came = hop n H m xs ys cs days gains by x y h′ v (w .step-in) (w .has) other .came in
           rw (part-front (at list) (at list′) j k (at by v - 1) (w .some) (w .within) put)
-          (tail-more (rules xs ys cs) (more (rules xs ys cs) m (rule x y c)) (first m) (λ u. at days u + at gains u) (h′ .traced .rank) x v (part (at list) j (k - j)) (at by v - 1)
-          (more-old (rules xs ys cs) m (rule x y c) (at by v - 1) (λ e. omega (arith, came .held)))
+          (tail-more (rules xs ys cs) (more (rules xs ys cs) m (rule x y c)) H (λ u. at days u + at gains u) (h′ .traced .rank) x v (part (at list) j (k - j)) (at by v - 1)
+          (more-old (rules xs ys cs) m (rule x y c) (at by v - 1) (λ e. h′ .free (subst H e (came .held))))
           came (w .tail c h′));
       past = λ i beyond. put .others i (λ e. omega (arith, w .within, w .some)) ∙ w .past i beyond;
     }
@@ -238,8 +238,8 @@ module _ (n m : ℕ) (xs ys : List ℕ) (cs : List ℤ) (days gains by : List �
 
     -- Once the walk has come to y, the refused rule's number is put in front, and the ring is complete.
     pub written-done :
-        (c : ℤ) → Reached n m xs ys cs days gains by x y → Lacks days gains x y c → (v j : ℕ) (list list′ : List ℕ) → Written v j list → v ≡ y → k ≤ length list₀ → length list′ ≡ length list₀ →
-        Put 0 m (at list) (at list′) → RingIn m xs ys cs x y c k list₀ list′
+        (c : ℤ) → Reached n H m xs ys cs days gains by x y → Lacks days gains x y c → (v j : ℕ) (list list′ : List ℕ) → Written v j list → v ≡ y → k ≤ length list₀ → length list′ ≡ length list₀ →
+        Put 0 m (at list) (at list′) → RingIn H m xs ys cs x y c k list₀ list′
     written-done c h lacks v j list list′ w e room same-length put = record {
       within = room;
       holds = rw (take-part list′ k (omega arith)) (rw whole ring);
@@ -264,7 +264,7 @@ module _ (n m : ℕ) (xs ys : List ℕ) (cs : List ℤ) (days gains by : List �
             (subst (λ (l : ℕ). part (at list′) (j - 1) l ≡ m ∷ part (at list) j (k - j)) all
             (part-front (at list) (at list′) j k m (w .some) (w .within) put-front))
 
-        ring : Refutes (rules xs ys cs) (first m) m (rule x y c) (m ∷ part (at list) j (k - j))
+        ring : Refutes (rules xs ys cs) H m (rule x y c) (m ∷ part (at list) j (k - j))
         ring =
-            tail-refutes (rules xs ys cs) (first m) (at days) (at gains) (h .traced .rank) m x y c (part (at list) j (k - j)) lacks (h .reached)
-            (subst (λ (u : ℕ). Tail (more (rules xs ys cs) m (rule x y c)) (first m) (λ w. at days w + at gains w) (h .traced .rank) x u (part (at list) j (k - j))) e (w .tail c h))
+            tail-refutes (rules xs ys cs) H (at days) (at gains) (h .traced .rank) m x y c (part (at list) j (k - j)) lacks (h .reached)
+            (subst (λ (u : ℕ). Tail (more (rules xs ys cs) m (rule x y c)) H (λ w. at days w + at gains w) (h .traced .rank) x u (part (at list) j (k - j))) e (w .tail c h))

@@ -6,19 +6,19 @@ use mathlib.Core.Path.{_≡_, sym, _∙_, ap}
 use Rattle.meaning.specs.Rules.{Rule, InSteps}
 use Rattle.meaning.proofs.Whole.{up, dn}
 use Rattle.spread.specs.Trace.{CameBy}
-use Rattle.spread.specs.State.{Listed, StandsIn, Spreading}
+use Rattle.spread.specs.State.{Listed, StandsIn, None, Every, Spreading}
 use Rattle.waiting.specs.Waiting.{Put}
 use Rattle.spread.specs.Relax.{instead}
 use Rattle.waiting.proofs.Places.{put-here}
 use Rattle.spread.proofs.Places.{put-instead}
 
--- What the turns keep, with the rules from another number on seen to, where those are kept.
+-- What the turns keep, with other rules of the step settled last seen to, where those are kept.
 pub seen-to :
-    (n : ℕ) (R : ℕ → Rule) (H : ℕ → Type 0) (d low : ℕ → ℕ) (turns last from link : ℕ) (rank g by list : ℕ → ℕ) (k : ℕ) →
-    ((i : ℕ) → H i → rank (R i .first) < turns → (R i .first ≡ last → link ≤ i) →
+    (n : ℕ) (R : ℕ → Rule) (H : ℕ → Type 0) (d low : ℕ → ℕ) (turns last : ℕ) (From To : ℕ → Type 0) (rank g by list : ℕ → ℕ) (k : ℕ) →
+    ((i : ℕ) → H i → rank (R i .first) < turns → (R i .first ≡ last → To i) →
     d (R i .first) + g (R i .first) + dn (R i .amount) ≤ d (R i .second) + g (R i .second) + up (R i .amount)) →
-    Spreading n R H d low turns last from rank g by list k → Spreading n R H d low turns last link rank g by list k
-seen-to n R H d low turns last from link rank g by list k kept s = record {
+    Spreading n R H d low turns last From rank g by list k → Spreading n R H d low turns last To rank g by list k
+seen-to n R H d low turns last From To rank g by list k kept s = record {
   forced = s .forced;
   settled-first = s .settled-first;
   last-least = s .last-least;
@@ -33,24 +33,17 @@ seen-to n R H d low turns last from link rank g by list k kept s = record {
   raised-from = s .raised-from;
 }
 
--- Numbers that are no rules of the step settled last are passed over.
+-- What holds of fewer rules of the step settled last.
 pub skip :
-    (n : ℕ) (R : ℕ → Rule) (H : ℕ → Type 0) (d low : ℕ → ℕ) (turns last from link : ℕ) (rank g by list : ℕ → ℕ) (k : ℕ) →
-    ((i : ℕ) → H i → R i .first ≡ last → i < from → i < link) →
-    Spreading n R H d low turns last from rank g by list k → Spreading n R H d low turns last link rank g by list k
-skip n R H d low turns last from link rank g by list k none s =
-    seen-to n R H d low turns last from link rank g by list k (λ i held settled seen. s .kept i held settled (beyond i held seen)) s
-  where
-    beyond : (i : ℕ) → H i → (R i .first ≡ last → link ≤ i) → R i .first ≡ last → from ≤ i
-    beyond i held seen e = tell (decLe from i)
-      where
-        tell : Dec (from ≤ i) → from ≤ i
-        tell (yes h) = h
-        tell (no h) = absurd (omega (arith, seen e, none i held e (omega arith)))
+    (n : ℕ) (R : ℕ → Rule) (H : ℕ → Type 0) (d low : ℕ → ℕ) (turns last : ℕ) (From To : ℕ → Type 0) (rank g by list : ℕ → ℕ) (k : ℕ) →
+    ((i : ℕ) → H i → R i .first ≡ last → To i → From i) →
+    Spreading n R H d low turns last From rank g by list k → Spreading n R H d low turns last To rank g by list k
+skip n R H d low turns last From To rank g by list k fewer s =
+    seen-to n R H d low turns last From To rank g by list k (λ i held settled seen. s .kept i held settled (λ e. fewer i held e (seen e))) s
 
 module _
-    (n : ℕ) (R : ℕ → Rule) (H : ℕ → Type 0) (d low : ℕ → ℕ) (turns last m : ℕ) (rank g by list list′ : ℕ → ℕ) (k j : ℕ)
-    (below : (i : ℕ) → H i → i < m) (steps : (i : ℕ) → H i → InSteps n (R i)) (s : Spreading n R H d low turns last 0 rank g by list k) (some : j < k)
+    (n : ℕ) (R : ℕ → Rule) (H : ℕ → Type 0) (d low : ℕ → ℕ) (turns last : ℕ) (rank g by list list′ : ℕ → ℕ) (k j : ℕ)
+    (steps : (i : ℕ) → H i → InSteps n (R i)) (s : Spreading n R H d low turns last Every rank g by list k) (some : j < k)
     (largest : (i : ℕ) → i < k → g (list i) ≤ g (list j)) (out : Put j (list (k - 1)) list list′) where
   -- Fewer turns were made than there are steps.
   open-now : turns < n
@@ -217,13 +210,13 @@ module _
       }
 
   -- The state after the step at place j of the list has been settled, where none of its rules is seen to yet.
-  pub settle-keeps : Spreading n R H d low (suc turns) (list j) m (instead (list j) turns rank) g by list′ (k - 1)
+  pub settle-keeps : Spreading n R H d low (suc turns) (list j) None (instead (list j) turns rank) g by list′ (k - 1)
   settle-keeps = record {
     forced = s .forced;
     settled-first = settled-first;
     last-least = last-least;
     kept = λ i held settled seen.
-        s .kept i held (settled-before (R i .first) (steps i held .first-in) (λ e. omega (arith, seen e, below i held)) settled) (λ e. omega arith);
+        s .kept i held (settled-before (R i .first) (steps i held .first-in) seen settled) (λ e. tt);
     open-rank = λ v v-in v-open. omega (arith, elsewhere v (other-open v v-open), s .open-rank v v-in (open-before v v-open));
     listed = still-listed;
     listed-open = still-open;

@@ -10,9 +10,9 @@ use Rattle.spread.specs.State.{Ready, BetweenTurns}
 use Rattle.waiting.specs.Waiting.{Put, LargestAt}
 use Rattle.spread.specs.Relax.{instead}
 use Rattle.spread.proofs.Places.{put-instead}
-use Rattle.spread.specs.Ground.{rules, first, Ground}
+use Rattle.spread.specs.Ground.{rules, Ground}
 use Rattle.spread.specs.Contracts.{RelaxedAll, Turned}
-use Rattle.spread.proofs.Settling.{skip, settle-keeps}
+use Rattle.spread.proofs.Settling.{settle-keeps}
 
 -- Where one step has left the list, with the last one in its place, a turn can still be made.
 pub ready-without :
@@ -29,11 +29,11 @@ ready-without n g list list₁ k j some out ready = record {
 
 -- The turn is made once all rules of that step are relaxed.
 pub turned :
-    (n m : ℕ) (xs ys : List ℕ) (cs : List ℤ) (days heads nexts : List ℕ) (gains by list list₁ : List ℕ) (k j : ℕ) (gains′ by′ list′ : List ℕ) (k′ : ℕ) →
-    Ground n m xs ys cs days heads nexts → at list j < n → LargestAt (at gains) (at list) k j → Put j (at list (k - 1)) (at list) (at list₁) →
-    RelaxedAll n m xs ys cs days heads (at list j) gains by list₁ (k - 1) gains′ by′ list′ k′ →
-    Turned n m xs ys cs days gains by list k gains′ by′ list′ k′
-turned n m xs ys cs days heads nexts gains by list list₁ k j gains′ by′ list′ k′ ground step-in largest out relaxed = record {
+    (n : ℕ) (H : ℕ → Type 0) (order : ℕ → ℕ) (xs ys : List ℕ) (cs : List ℤ) (days heads nexts : List ℕ) (gains by list list₁ : List ℕ) (k j : ℕ) (gains′ by′ list′ : List ℕ) (k′ : ℕ) →
+    Ground n H order xs ys cs days heads nexts → at list j < n → LargestAt (at gains) (at list) k j → Put j (at list (k - 1)) (at list) (at list₁) →
+    RelaxedAll n H xs ys cs days (at list j) gains by list₁ (k - 1) gains′ by′ list′ k′ →
+    Turned n H xs ys cs days gains by list k gains′ by′ list′ k′
+turned n H order xs ys cs days heads nexts gains by list list₁ k j gains′ by′ list′ k′ ground step-in largest out relaxed = record {
   ready = relaxed .ready;
   fewer = omega (arith, relaxed .no-more, largest .place-in);
   past = relaxed .past;
@@ -41,8 +41,8 @@ turned n m xs ys cs days heads nexts gains by list list₁ k j gains′ by′ li
 }
   where
     keeps :
-        (low : ℕ → ℕ) → BetweenTurns n (rules xs ys cs) (first m) (at days) low (at gains) (at by) (at list) k →
-        BetweenTurns n (rules xs ys cs) (first m) (at days) low (at gains′) (at by′) (at list′) k′
+        (low : ℕ → ℕ) → BetweenTurns n (rules xs ys cs) H (at days) low (at gains) (at by) (at list) k →
+        BetweenTurns n (rules xs ys cs) H (at days) low (at gains′) (at by′) (at list′) k′
     keeps low b = record {
       turns = suc (b .turns);
       last = at list j;
@@ -50,8 +50,6 @@ turned n m xs ys cs days heads nexts gains by list list₁ k j gains′ by′ li
       state =
           relaxed .keeps low (instead (at list j) (b .turns) (b .rank)) (suc (b .turns))
           (omega (arith, put-instead (at list j) (b .turns) (b .rank) .there))
-          (skip n (rules xs ys cs) (first m) (at days) low (suc (b .turns)) (at list j) m (at heads (at list j)) (instead (at list j) (b .turns) (b .rank))
-          (at gains) (at by) (at list₁) (k - 1) (λ i held own older. ground .chained .head-newest (at list j) i step-in held own)
-          (settle-keeps n (rules xs ys cs) (first m) (at days) low (b .turns) (b .last) m (b .rank) (at gains) (at by) (at list) (at list₁) k j (λ i held. held)
-          (ground .in-steps) (b .state) (largest .place-in) (largest .largest) out));
+          (settle-keeps n (rules xs ys cs) H (at days) low (b .turns) (b .last) (b .rank) (at gains) (at by) (at list) (at list₁) k j
+          (ground .in-steps) (b .state) (largest .place-in) (largest .largest) out);
     }

@@ -9,7 +9,7 @@ use Rattle.meaning.specs.Rules.{Rule, InSteps, Plan, Refutes}
 use Rattle.meaning.specs.Tables.{at}
 use Rattle.meaning.specs.Promise.{Filled}
 use Rattle.meaning.proofs.Whole.{up, dn}
-use Rattle.spread.specs.Ground.{rules, first}
+use Rattle.spread.specs.Ground.{rules}
 use Rattle.spread.specs.Trace.{Traced}
 use Rattle.spread.specs.Contracts.{alone}
 
@@ -17,16 +17,19 @@ use Rattle.spread.specs.Contracts.{alone}
 abbrev pub rule : ℕ → ℕ → ℤ → Rule
 rule x y c = record { first = x; second = y; amount = c }
 
--- The gain that y has was asked for at y alone and can be traced from there, and it has reached x. The days and the rules have their places.
-pub record Reached (n m : ℕ) (xs ys : List ℕ) (cs : List ℤ) (days gains by : List ℕ) (x y : ℕ) : Type 0 where
+-- The gain that y has was asked for at y alone and can be traced from there, and it has reached x. The days and the rules held, whose numbers H holds
+-- of, have their places, and the number k is free.
+pub record Reached (n : ℕ) (H : ℕ → Type 0) (k : ℕ) (xs ys : List ℕ) (cs : List ℤ) (days gains by : List ℕ) (x y : ℕ) : Type 0 where
   pub first-in : x < n
   pub second-in : y < n
-  pub rules-in : m ≤ RULES
-  pub firsts-room : m ≤ length xs
+  pub number-in : (i : ℕ) → H i → i < RULES
+  pub first-place : (i : ℕ) → H i → i < length xs
+  pub free : H k → ⊥
+  pub free-in : k ≤ RULES
   pub by-room : n ≤ length by
-  pub in-steps : (i : ℕ) → i < m → InSteps n (rules xs ys cs i)
-  pub plan : Plan (rules xs ys cs) (first m) (at days)
-  pub traced : Traced n (rules xs ys cs) (first m) (at days) (λ v. at days v + alone y (at gains y) v) (at gains) (at by)
+  pub in-steps : (i : ℕ) → H i → InSteps n (rules xs ys cs i)
+  pub plan : Plan (rules xs ys cs) H (at days)
+  pub traced : Traced n (rules xs ys cs) H (at days) (λ v. at days v + alone y (at gains y) v) (at gains) (at by)
   pub reached : 0 < at gains x
 
 -- The gain at y is what the days lack for the rule x, y, c.
@@ -43,6 +46,6 @@ pub record Hops (n : ℕ) (xs by : List ℕ) (x y k : ℕ) : Type 0 where
   pub few : k < n
   pub arrives : Arrives xs by y k x
 
--- The first k places of the list now hold the ring that refutes the rule x, y, c, under the number m.
-abbrev pub RingIn : ℕ → List ℕ → List ℕ → List ℤ → ℕ → ℕ → ℤ → ℕ → List ℕ → List ℕ → Type 0
-RingIn m xs ys cs x y c k before after = Filled k (Refutes (rules xs ys cs) (first m) m (rule x y c)) before after
+-- The first k places of the list now hold the ring that refutes the rule x, y, c, under the number m, beside the rules that H holds of.
+abbrev pub RingIn : (ℕ → Type 0) → ℕ → List ℕ → List ℕ → List ℤ → ℕ → ℕ → ℤ → ℕ → List ℕ → List ℕ → Type 0
+RingIn H m xs ys cs x y c k before after = Filled k (Refutes (rules xs ys cs) H m (rule x y c)) before after

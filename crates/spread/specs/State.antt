@@ -31,15 +31,22 @@ pub record Ready (n : ℕ) (g list : ℕ → ℕ) (k : ℕ) : Type 0 where
   pub listed-in : (j : ℕ) → j < k → list j < n
   pub room : without-gain n g + k ≤ n
 
+-- No rule, and every rule.
+abbrev pub None : ℕ → Type 0
+None i = ⊥
+
+abbrev pub Every : ℕ → Type 0
+Every i = Unit {0}
+
 -- What the turns keep. A step of rank below `turns` is settled, at the turn that is its rank; every other step is open. `last` is the step
--- that was settled last: of its rules those from number `link` on have been seen to, and of every other settled step all rules.
+-- that was settled last: of its rules those that Seen holds of have been seen to, and of every other settled step all rules.
 pub record Spreading
-    (n : ℕ) (R : ℕ → Rule) (H : ℕ → Type 0) (d low : ℕ → ℕ) (turns last link : ℕ) (rank g by list : ℕ → ℕ) (k : ℕ) : Type 0 where
+    (n : ℕ) (R : ℕ → Rule) (H : ℕ → Type 0) (d low : ℕ → ℕ) (turns last : ℕ) (Seen : ℕ → Type 0) (rank g by list : ℕ → ℕ) (k : ℕ) : Type 0 where
   pub forced : ForcedFrom n R H low (λ v. d v + g v)
   pub settled-first : (v w : ℕ) → v < n → w < n → rank v < turns → turns ≤ rank w → g w ≤ g v
   pub last-least : (v : ℕ) → v < n → rank v < turns → g last ≤ g v
   pub kept :
-      (i : ℕ) → H i → rank (R i .first) < turns → (R i .first ≡ last → link ≤ i) →
+      (i : ℕ) → H i → rank (R i .first) < turns → (R i .first ≡ last → Seen i) →
       d (R i .first) + g (R i .first) + dn (R i .amount) ≤ d (R i .second) + g (R i .second) + up (R i .amount)
   pub open-rank : (v : ℕ) → v < n → turns ≤ rank v → n ≤ rank v
   pub listed : Listed n g list k
@@ -55,4 +62,4 @@ pub record BetweenTurns (n : ℕ) (R : ℕ → Rule) (H : ℕ → Type 0) (d low
   pub turns : ℕ
   pub last : ℕ
   pub rank : ℕ → ℕ
-  pub state : Spreading n R H d low turns last 0 rank g by list k
+  pub state : Spreading n R H d low turns last Every rank g by list k

@@ -1,12 +1,15 @@
 // The least gains that keep the rules. Given days that keep the rules held and a gain for each step, a spread raises the gains as little as
 // keeps every rule: the days with their gains are then the earliest plan that is not before the days with the gains at the start. Each turn
 // settles the open step of largest gain and relaxes its rules; the open steps with a gain wait in a list (crate waiting).
+// The code reads which rules are held from their chains; m, their count, is there for the contracts, which say by it which numbers are held.
 ghost use mathlib.Core.Path.{_≡_};
 ghost use Prim.Native.Nat.{_+_, _<_, _≤_};
 ghost use lib.ListN.{length};
 ghost use Rattle.meaning.specs.Bounds.{STEPS};
 ghost use Rattle.meaning.specs.Tables.{at};
 ghost use Rattle.leaf.specs.Decides.{Decides};
+ghost use Rattle.leaf.specs.Lent.{first};
+ghost use Rattle.chains.specs.Chains.{number};
 ghost use Rattle.spread.specs.Ground.{Ground};
 ghost use Rattle.spread.specs.State.{Ready};
 ghost use Rattle.spread.specs.Relax.{Relaxable, Relaxed};
@@ -98,13 +101,13 @@ fn relax_all(
     leaders: &mut [u16],
     k: usize,
 ) -> usize
-    requires { ⌜ Ground n m (now xs) (now ys) (now cs) (now days) (now heads) (now nexts) ⌝ }
+    requires { ⌜ Ground n (first m) number (now xs) (now ys) (now cs) (now days) (now heads) (now nexts) ⌝ }
     requires { ⌜ StepsRoom n (now gains) (now by) (now list) (now places) (now leaders) ⌝ }
     requires { ⌜ Ready n (at (now gains)) (at (now list)) k ⌝ }
     requires { ⌜ Led n (at (now gains)) (at (now list)) (at (now places)) (at (now leaders)) k ⌝ }
     requires { ⌜ x < n ⌝ }
     ensures { λ r. ⌜
-        RelaxedAll n m (now (xs .entry)) (now (ys .entry)) (now (cs .entry)) (now (days .entry)) (now (heads .entry)) x
+        RelaxedAll n (first m) (now (xs .entry)) (now (ys .entry)) (now (cs .entry)) (now (days .entry)) x
         (now (gains .entry)) (now (by .entry)) (now (list .entry)) k
         (now (gains .exit)) (now (by .exit)) (now (list .exit)) r ⌝ }
     ensures { λ r. ⌜ Led n (at (now (gains .exit))) (at (now (list .exit))) (at (now (places .exit))) (at (now (leaders .exit))) r ⌝ }
@@ -150,13 +153,13 @@ fn turn(
     leaders: &mut [u16],
     k: usize,
 ) -> usize
-    requires { ⌜ Ground n m (now xs) (now ys) (now cs) (now days) (now heads) (now nexts) ⌝ }
+    requires { ⌜ Ground n (first m) number (now xs) (now ys) (now cs) (now days) (now heads) (now nexts) ⌝ }
     requires { ⌜ StepsRoom n (now gains) (now by) (now list) (now places) (now leaders) ⌝ }
     requires { ⌜ Ready n (at (now gains)) (at (now list)) k ⌝ }
     requires { ⌜ Led n (at (now gains)) (at (now list)) (at (now places)) (at (now leaders)) k ⌝ }
     requires { ⌜ 0 < k ⌝ }
     ensures { λ r. ⌜
-        Turned n m (now (xs .entry)) (now (ys .entry)) (now (cs .entry)) (now (days .entry))
+        Turned n (first m) (now (xs .entry)) (now (ys .entry)) (now (cs .entry)) (now (days .entry))
         (now (gains .entry)) (now (by .entry)) (now (list .entry)) k
         (now (gains .exit)) (now (by .exit)) (now (list .exit)) r ⌝ }
     ensures { λ r. ⌜ Led n (at (now (gains .exit))) (at (now (list .exit))) (at (now (places .exit))) (at (now (leaders .exit))) r ⌝ }
@@ -228,12 +231,12 @@ fn settle_all(
     leaders: &mut [u16],
     k: usize,
 )
-    requires { ⌜ Ground n m (now xs) (now ys) (now cs) (now days) (now heads) (now nexts) ⌝ }
+    requires { ⌜ Ground n (first m) number (now xs) (now ys) (now cs) (now days) (now heads) (now nexts) ⌝ }
     requires { ⌜ StepsRoom n (now gains) (now by) (now list) (now places) (now leaders) ⌝ }
     requires { ⌜ Ready n (at (now gains)) (at (now list)) k ⌝ }
     requires { ⌜ Led n (at (now gains)) (at (now list)) (at (now places)) (at (now leaders)) k ⌝ }
     ensures { λ _. ⌜
-        SettledAll n m (now (xs .entry)) (now (ys .entry)) (now (cs .entry)) (now (days .entry)) goal
+        SettledAll n (first m) (now (xs .entry)) (now (ys .entry)) (now (cs .entry)) (now (days .entry)) goal
         (now (gains .entry)) (now (by .entry)) (now (list .entry)) k
         (now (gains .exit)) (now (by .exit)) ⌝ }
 {
@@ -277,10 +280,10 @@ pub fn spread(
     gains: &mut [u64],
     by: &mut [u16],
 )
-    requires { ⌜ Ground n m (now xs) (now ys) (now cs) (now days) (now heads) (now nexts) ⌝ }
+    requires { ⌜ Ground n (first m) number (now xs) (now ys) (now cs) (now days) (now heads) (now nexts) ⌝ }
     requires { ⌜ Askable n (now gains) (now by) ⌝ }
     ensures { λ _. ⌜
-        Spread n m (now (xs .entry)) (now (ys .entry)) (now (cs .entry)) (now (days .entry)) goal
+        Spread n (first m) (now (xs .entry)) (now (ys .entry)) (now (cs .entry)) (now (days .entry)) goal
         (λ v. at (now (days .entry)) v + at (now (gains .entry)) v)
         (now (gains .entry)) (now (gains .exit)) (now (by .exit)) ⌝ }
 {
@@ -323,10 +326,10 @@ pub fn spread_one(
     gains: &mut [u64],
     by: &mut [u16],
 )
-    requires { ⌜ Ground n m (now xs) (now ys) (now cs) (now days) (now heads) (now nexts) ⌝ }
+    requires { ⌜ Ground n (first m) number (now xs) (now ys) (now cs) (now days) (now heads) (now nexts) ⌝ }
     requires { ⌜ AskableAlone n y gain (now gains) (now by) ⌝ }
     ensures { λ _. ⌜
-        Spread n m (now (xs .entry)) (now (ys .entry)) (now (cs .entry)) (now (days .entry)) goal
+        Spread n (first m) (now (xs .entry)) (now (ys .entry)) (now (cs .entry)) (now (days .entry)) goal
         (λ v. at (now (days .entry)) v + alone y gain v)
         (now (gains .entry)) (now (gains .exit)) (now (by .exit)) ⌝ }
 {
@@ -366,7 +369,7 @@ fn hops(
     x: usize,
     y: usize,
 ) -> usize
-    requires { ⌜ Reached n m (now xs) (now ys) (now cs) (now days) (now gains) (now by) x y ⌝ }
+    requires { ⌜ Reached n (first m) m (now xs) (now ys) (now cs) (now days) (now gains) (now by) x y ⌝ }
     ensures { λ r. ⌜ Hops n (now (xs .entry)) (now (by .entry)) x y r ⌝ }
 {
     let mut v = x;
@@ -394,10 +397,10 @@ pub fn ring(
     c: i32,
     list: &mut [u32],
 ) -> usize
-    requires { ⌜ Reached n m (now xs) (now ys) (now cs) (now days) (now gains) (now by) x y ⌝ }
+    requires { ⌜ Reached n (first m) m (now xs) (now ys) (now cs) (now days) (now gains) (now by) x y ⌝ }
     requires { ⌜ Lacks (now days) (now gains) x y c ⌝ }
     requires { ⌜ n ≤ length (now list) ⌝ }
-    ensures { λ r. ⌜ RingIn m (now (xs .entry)) (now (ys .entry)) (now (cs .entry)) x y c r (now (list .entry)) (now (list .exit)) ⌝ }
+    ensures { λ r. ⌜ RingIn (first m) m (now (xs .entry)) (now (ys .entry)) (now (cs .entry)) x y c r (now (list .entry)) (now (list .exit)) ⌝ }
 {
     let k = hops(n, m, xs, ys, cs, days, gains, by, x, y) + 1;
     let mut v = x;

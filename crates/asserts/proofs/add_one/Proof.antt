@@ -2,7 +2,7 @@
 use mathlib.Core.Path.{_≡_, refl}
 use mir.Syntax.{w32}
 use mir.ValLaws.{toZ-ofZ}
-use Rattle.spread.specs.Ground.{first}
+use Rattle.leaf.specs.Lent.{first}
 use Rattle.leaf.specs.Lent.{columns}
 use Rattle.leaf.specs.Promises.{rule}
 use Rattle.newrule.specs.Fit.{Tells}

@@ -5,7 +5,7 @@ use mathlib.Core.Path.{_≡_, refl, _∙_}
 use lib.ListN.{length}
 use borrow.Author.Needs.{needs}
 use Rattle.chains.specs.Chains.{Chained}
-use Rattle.chains.proofs.Laws.{chained-none}
+use Rattle.chains.proofs.Laws.{chained-none, chained-more}
 use Rattle.chains.proofs.build.Statement.{statement}
 use Rattle.chains.proofs.build.Tie as tie
 
@@ -50,7 +50,8 @@ loop-again c =
       c .before .before .before .before .push .kept .1 .0 ∙ head .loop .inv .0,
       c .before .before .before .before .push .kept .1 .1 .0 ∙ head .loop .inv .1,
       omega (arith, c .before .before .before .before .before .before .before .loop-test .taken),
-      c .before .before .before .before .push .ensures .chained (entry head .args .n) (entry head .pre .firsts-in (head .loop .k) (c .before .before .before .before .before .before .before .loop-test .taken)) (head .loop .inv .3),
+      chained-more (entry head .args .n) (head .loop .k) (entry head .args .xs .now) (entry head .pre .firsts-in (head .loop .k) (c .before .before .before .before .before .before .before .loop-test .taken))
+          (head .loop .heads) (head .loop .nexts) _ _ (c .before .before .before .before .push .ensures) (head .loop .inv .3),
     )
 
 same-length : tie.Need-same-length Inv-loop μ-loop

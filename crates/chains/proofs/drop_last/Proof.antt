@@ -1,7 +1,6 @@
--- `chains::drop_last` meets its contract: `chained-less` at the cell written.
+-- `chains::drop_last` meets its contract: it writes the one cell.
 use mathlib.Core.Path.{refl}
 use borrow.Author.Needs.{needs}
-use Rattle.chains.proofs.Laws.{chained-less}
 use Rattle.chains.proofs.drop_last.Statement.{statement}
 use Rattle.chains.proofs.drop_last.Tie as tie
 
@@ -25,11 +24,8 @@ same-length c = search needs
 
 returns : tie.Need-returns
 returns c =
-    let args = c .before .before .before .before .before .args in
-    rw (c .before .number-at .ensures) (record {
-      heads-are = refl;
-      chained = λ n first-in ch. chained-less n (args .m) (args .xs .now) (args .heads .now) (args .nexts .now) first-in (c .before .before .before .before .before .pre .head-place) ch;
-    })
+    let start = c .before .before .before .before .before in
+    rw (c .before .number-at .ensures) (record { head-place = start .pre .head-place; heads-are = refl })
 
 pub drop-last-spec : {M : Type 1} → statement M
 drop-last-spec =

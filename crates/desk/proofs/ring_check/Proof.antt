@@ -55,10 +55,10 @@ cast-is-ring-2 c = search needs
 is-ring-requires : tie.Need-is-ring-requires
 is-ring-requires c κs = record {
   steps-in = (c .before .before .before .before .before .before .before .before .stands .ensures .so (not-false _ (c .before .before .before .before .before .before .before .if2 .left))) .counts-in .steps-in;
-  room = record {
-    firsts-room = omega (arith, (c .before .before .before .before .before .before .before .before .before .before .has-room .ensures (c .before .before .before .before .before .before .before .before .before .before .before .before .before .before .before .before .before .before .args .counts) .so (not-false _ (c .before .before .before .before .before .before .before .before .before .if1 .left))) .rules-room .firsts-room, (c .before .before .before .before .before .before .before .before .stands .ensures .so (not-false _ (c .before .before .before .before .before .before .before .if2 .left))) .counts-in .rules-in);
-    seconds-room = omega (arith, (c .before .before .before .before .before .before .before .before .before .before .has-room .ensures (c .before .before .before .before .before .before .before .before .before .before .before .before .before .before .before .before .before .before .args .counts) .so (not-false _ (c .before .before .before .before .before .before .before .before .before .if1 .left))) .rules-room .seconds-room, (c .before .before .before .before .before .before .before .before .stands .ensures .so (not-false _ (c .before .before .before .before .before .before .before .if2 .left))) .counts-in .rules-in);
-    amounts-room = omega (arith, (c .before .before .before .before .before .before .before .before .before .before .has-room .ensures (c .before .before .before .before .before .before .before .before .before .before .before .before .before .before .before .before .before .before .args .counts) .so (not-false _ (c .before .before .before .before .before .before .before .before .before .if1 .left))) .rules-room .amounts-room, (c .before .before .before .before .before .before .before .before .stands .ensures .so (not-false _ (c .before .before .before .before .before .before .before .if2 .left))) .counts-in .rules-in);
+  placed = λ i h. record {
+    first-place = omega (arith, (c .before .before .before .before .before .before .before .before .before .before .has-room .ensures (c .before .before .before .before .before .before .before .before .before .before .before .before .before .before .before .before .before .before .args .counts) .so (not-false _ (c .before .before .before .before .before .before .before .before .before .if1 .left))) .rules-room .firsts-room, (c .before .before .before .before .before .before .before .before .stands .ensures .so (not-false _ (c .before .before .before .before .before .before .before .if2 .left))) .counts-in .rules-in);
+    second-place = omega (arith, (c .before .before .before .before .before .before .before .before .before .before .has-room .ensures (c .before .before .before .before .before .before .before .before .before .before .before .before .before .before .before .before .before .before .args .counts) .so (not-false _ (c .before .before .before .before .before .before .before .before .before .if1 .left))) .rules-room .seconds-room, (c .before .before .before .before .before .before .before .before .stands .ensures .so (not-false _ (c .before .before .before .before .before .before .before .if2 .left))) .counts-in .rules-in);
+    amount-place = omega (arith, (c .before .before .before .before .before .before .before .before .before .before .has-room .ensures (c .before .before .before .before .before .before .before .before .before .before .before .before .before .before .before .before .before .before .args .counts) .so (not-false _ (c .before .before .before .before .before .before .before .before .before .if1 .left))) .rules-room .amounts-room, (c .before .before .before .before .before .before .before .before .stands .ensures .so (not-false _ (c .before .before .before .before .before .before .before .if2 .left))) .counts-in .rules-in);
   };
   rules-in = λ i h. (c .before .before .before .before .before .before .before .before .stands .ensures .so (not-false _ (c .before .before .before .before .before .before .before .if2 .left))) .rules-good i h .steps-in;
   rule-in = record { first-in = (c .before .before .before .before .before .steps-fit .ensures (c .before .before .before .before .before .before .before .before .before .before .before .before .before .before .before .before .before .before .args .c) .so (not-false _ (c .before .before .before .before .if3 .left))) .first-in; second-in = (c .before .before .before .before .before .steps-fit .ensures (c .before .before .before .before .before .before .before .before .before .before .before .before .before .before .before .before .before .before .args .c) .so (not-false _ (c .before .before .before .before .if3 .left))) .second-in };

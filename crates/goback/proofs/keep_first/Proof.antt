@@ -1,5 +1,6 @@
 -- `goback::keep_first` meets its contract: the days stay where all rules do; else the first k rules, which the days keep, are planned.
-use Rattle.goback.proofs.Replanning.{plannable-first}
+use Rattle.meaning.specs.Bounds.{RULES}
+use Rattle.goback.proofs.Replanning.{plannable-fewer, all-below}
 use Rattle.goback.proofs.Dropping.{all-stay}
 use native.Mathlib.Omega.{arith}
 use Rattle.goback.proofs.keep_first.Statement.{statement}
@@ -8,12 +9,12 @@ use Rattle.goback.proofs.keep_first.Tie as tie
 returns : tie.Need-returns
 returns c =
     let start = c .before .before .before .before in
-    all-stay (start .pre) (omega (arith, c .if1 .taken, start .pre .stay))
+    all-stay (start .pre) (omega (arith, c .if1 .taken, all-below (start .args .k) (start .args .m) (start .pre .stay)))
 
 plan-requires : tie.Need-plan-requires
 plan-requires c κs =
     let start = c .before .before .before .before .before in
-    plannable-first (start .pre .plannable) (start .pre .stay)
+    (plannable-fewer (start .pre .plannable) (start .pre .stay), all-below (start .args .k) RULES (λ i h. start .pre .plannable .number-in i (start .pre .stay i h)))
 
 same-length : tie.Need-same-length
 same-length c = c .before .before .plan .kept .1 .1 .1 .1 .1 .0

@@ -28,7 +28,7 @@ spread-requires c κs =
     let room = start .pre .1 in
     let build = c .before .before .before .before .before .before .before .before .before .before .before .before .before .before .before .before .build in
     let ask = c .before .before .before .before .before .before .before .ask in (
-      ground (start .pre .0) (omega (arith, build .kept .1 .1 .1 .0, room .heads-room)) (omega (arith, build .kept .1 .1 .1 .1 .0, room .nexts-room)) (build .ensures),
+      ground (start .pre .0) (omega (arith, build .kept .1 .1 .1 .0, room .heads-room)) (λ i h. omega (arith, h, build .kept .1 .1 .1 .1 .0, room .nexts-room)) (build .ensures),
       askable (start .args .days .now) (c .before .before .before .before .before .before .before .before .before .before .latest-day .ensures .narrow) (omega (arith, ask .kept .1 .1 .1 .0, room .gains-room)) (room .by-room) (ask .ensures),
     )
 

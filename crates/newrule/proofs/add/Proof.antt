@@ -1,4 +1,6 @@
 -- `newrule::add`: the rule's bounds and the count decide the refusals; a rule that the days keep is held at once; what else can be asked for is answered by `add_fine`.
+use Rattle.leaf.specs.Lent.{first}
+use Rattle.chains.specs.Chains.{number}
 use Prim.Native.Nat.{ℕ, _≤_, _<_}
 use mathlib.Core.Path.{_≡_, refl}
 use mathlib.Core.Logic.{inl, inr}
@@ -115,18 +117,19 @@ returns-4 c =
     let one-more = c .one-more in
     let args = start .args in
     let l : Lack (args .days .now) (args .x) (args .y) (args .c) (lack .result) = rw (toZ-ofZ w32 (args .c) (start .fits .c)) at (lack .ensures) in
-    let ready : Ready (args .counts .steps) (args .counts .rules) (args .xs .now) (args .ys .now) (args .cs .now) (args .days .now) (args .heads .now) (args .nexts .now) (args .x) (args .y) (args .c)
+    let ready : Ready (args .counts .steps) (first (args .counts .rules)) number (args .counts .rules) (args .xs .now) (args .ys .now) (args .cs .now) (args .days .now) (args .heads .now) (args .nexts .now) (args .x) (args .y) (args .c)
     = record {
       base = start .pre .0;
       new-good = record {
         steps-in = steps-fit .ensures (args .c) .so (not-false _ (if1 .left));
         amount-in = (rw (toZ-ofZ w32 (args .c) (start .fits .c)) at (amount-fits .ensures)) .so (not-false _ (if2 .left));
       };
+      free = λ h. omega arith;
       not-full = omega (arith, if3 .left);
     } in
     add-done (args .counts) (args .xs .now) (args .ys .now) (args .cs .now) (args .days .now) (args .heads .now) (args .nexts .now) (args .x) (args .y) (args .c) ready
     (args .list .now) (start .pre .1) 0 (one-more .result) _ _ _ _ (one-more .ensures)
-    (taken-at-once (args .counts .steps) (args .counts .rules) (args .xs .now) (args .ys .now) (args .cs .now) (args .days .now) (args .heads .now) (args .nexts .now) (args .x) (args .y) (args .c) ready
+    (taken-at-once (args .counts .steps) (first (args .counts .rules)) number (args .counts .rules) (args .xs .now) (args .ys .now) (args .cs .now) (args .days .now) (args .heads .now) (args .nexts .now) (args .x) (args .y) (args .c) ready
     (l .none (if4 .taken)) _ (rw (toZ-ofZ w32 (args .c) (start .fits .c)) at (write-rule .ensures)))
 
 slice-aggregate-add-fine : tie.Need-slice-aggregate-add-fine
@@ -150,6 +153,7 @@ add-fine-requires c κs =
               steps-in = steps-fit .ensures (start .args .c) .so (not-false _ (if1 .left));
               amount-in = (rw (toZ-ofZ w32 (start .args .c) (start .fits .c)) at (amount-fits .ensures)) .so (not-false _ (if2 .left));
             };
+            free = λ h. omega arith;
             not-full = omega (arith, if3 .left);
           }),
       (no-gains (start .args .counts .steps) (start .pre .0 .ground .steps-in), start .pre .1),

@@ -1,4 +1,6 @@
 -- `newrule::add_fine`: where the rule fits it is held and one count is raised; else its ring is written, and the promise follows from either.
+use Rattle.leaf.specs.Lent.{first}
+use Rattle.chains.specs.Chains.{number}
 use Prim.Native.Nat.{_≤_, _<_}
 use mathlib.Core.Path.{_≡_}
 use mir.Syntax.{w32}
@@ -56,7 +58,7 @@ returns c =
     let if1 = c .before .if1 in
     let one-more = c .one-more in
     let args = start .args in
-    let t : TellsWhy (args .counts .steps) (args .counts .rules) (args .xs .now) (args .ys .now) (args .cs .now) (args .days .now) (args .x) (args .y) (args .c) (fit-with .result .fits) (fit-with .result .moved) _ _ _ _ _ _
+    let t : TellsWhy (args .counts .steps) (first (args .counts .rules)) (args .counts .rules) (args .xs .now) (args .ys .now) (args .cs .now) (args .days .now) (args .x) (args .y) (args .c) (fit-with .result .fits) (fit-with .result .moved) _ _ _ _ _ _
     = rw (toZ-ofZ w32 (args .c) (start .fits .c)) at (fit-with .ensures) in
     add-done (args .counts) (args .xs .now) (args .ys .now) (args .cs .now) (args .days .now) (args .heads .now) (args .nexts .now) (args .x) (args .y) (args .c) (start .pre .0)
     (args .list .now) (start .pre .1 .1) (fit-with .result .moved) (one-more .result) _ _ _ _ (one-more .ensures) (t .tells .when-fits (if1 .taken))
@@ -75,12 +77,12 @@ cast-t49 c =
     let if1 = c .before .before .before .before .before .before .before .before .before .before .if1 in
     let ring = c .before .before .ring in
     let args = start .args in
-    let t : TellsWhy (args .counts .steps) (args .counts .rules) (args .xs .now) (args .ys .now) (args .cs .now) (args .days .now) (args .x) (args .y) (args .c) (fit-with .result .fits) (fit-with .result .moved) _ _ _ _ _ _
+    let t : TellsWhy (args .counts .steps) (first (args .counts .rules)) (args .counts .rules) (args .xs .now) (args .ys .now) (args .cs .now) (args .days .now) (args .x) (args .y) (args .c) (fit-with .result .fits) (fit-with .result .moved) _ _ _ _ _ _
     = rw (toZ-ofZ w32 (args .c) (start .fits .c)) at (fit-with .ensures) in
     omega (
       arith,
-      ring-short (args .counts .steps) (args .counts .rules) (args .xs .now) (args .ys .now) (args .cs .now) (args .days .now) (args .heads .now) (args .nexts .now) (args .x) (args .y) (args .c) (start .pre .0) _ _ _
-          (ring-before (args .counts .rules) (args .xs .now) (args .ys .now) (args .cs .now) _ _ _ (args .x) (args .y) (args .c) _ _ _ (t .tells .when-not (if1 .left) .rules-stay) (rw (toZ-ofZ w32 (args .c) (start .fits .c)) at (ring .ensures))),
+      ring-short (args .counts .steps) (first (args .counts .rules)) number (args .counts .rules) (args .xs .now) (args .ys .now) (args .cs .now) (args .days .now) (args .heads .now) (args .nexts .now) (args .x) (args .y) (args .c) (start .pre .0) _ _ _
+          (ring-before (first (args .counts .rules)) (args .counts .rules) (args .xs .now) (args .ys .now) (args .cs .now) _ _ _ (args .x) (args .y) (args .c) _ _ _ (t .tells .when-not (if1 .left) .rules-stay) (rw (toZ-ofZ w32 (args .c) (start .fits .c)) at (ring .ensures))),
     )
 
 same-length-7 : tie.Need-same-length-7
@@ -111,12 +113,12 @@ returns-2 c =
     let if1 = c .before .before .before .before .before .before .before .before .before .before .if1 in
     let ring = c .before .before .ring in
     let args = start .args in
-    let t : TellsWhy (args .counts .steps) (args .counts .rules) (args .xs .now) (args .ys .now) (args .cs .now) (args .days .now) (args .x) (args .y) (args .c) (fit-with .result .fits) (fit-with .result .moved) _ _ _ _ _ _
+    let t : TellsWhy (args .counts .steps) (first (args .counts .rules)) (args .counts .rules) (args .xs .now) (args .ys .now) (args .cs .now) (args .days .now) (args .x) (args .y) (args .c) (fit-with .result .fits) (fit-with .result .moved) _ _ _ _ _ _
     = rw (toZ-ofZ w32 (args .c) (start .fits .c)) at (fit-with .ensures) in
     let left = t .tells .when-not (if1 .left) in
     add-conflict (args .counts) (args .xs .now) (args .ys .now) (args .cs .now) (args .days .now) (args .heads .now) (args .nexts .now) (args .x) (args .y) (args .c) (start .pre .0)
     (args .list .now) _ (start .pre .1 .1) _ _ _ _ _ _ left
-    (ring-before (args .counts .rules) (args .xs .now) (args .ys .now) (args .cs .now) _ _ _ (args .x) (args .y) (args .c) _ _ _ (left .rules-stay) (rw (toZ-ofZ w32 (args .c) (start .fits .c)) at (ring .ensures)))
+    (ring-before (first (args .counts .rules)) (args .counts .rules) (args .xs .now) (args .ys .now) (args .cs .now) _ _ _ (args .x) (args .y) (args .c) _ _ _ (left .rules-stay) (rw (toZ-ofZ w32 (args .c) (start .fits .c)) at (ring .ensures)))
 
 pub add-fine-spec : {M : Type 1} → statement M
 add-fine-spec =

@@ -1,4 +1,6 @@
 -- `newrule::fit_with`: the plan of the rule raises the days and the rule is written; or the gain has reached x, and nothing is.
+use Rattle.leaf.specs.Lent.{first}
+use Rattle.chains.specs.Chains.{number}
 use Prim.Native.Nat.{_≤_, _<_}
 use mathlib.Core.Path.{_≡_, refl, sym, _∙_}
 use mathlib.Core.Bool.{true, false, true≢false, false≢true}
@@ -20,7 +22,7 @@ use Rattle.newrule.proofs.raise_days.Reads as raise-days-reads
 plan-requires : tie.Need-plan-requires
 plan-requires c κs =
     let start = c .before .before .before .before .before .before .before .before .before .before .before .before .before in
-    rw (toZ-ofZ w32 (start .args .c) (start .fits .c)) (record { base = start .pre .0 .base; new-in = start .pre .0 .new-good .steps-in; no-gains = start .pre .1 })
+    rw (toZ-ofZ w32 (start .args .c) (start .fits .c)) (record { base = start .pre .0 .base; new-in = start .pre .0 .new-good .steps-in; free = start .pre .0 .free; free-in = omega (arith, start .pre .0 .not-full); no-gains = start .pre .1 })
 
 same-length : tie.Need-same-length
 same-length c = search needs
@@ -46,7 +48,7 @@ returns c =
     let plan = c .before .before .before .before .before .plan in
     let if1 = c .if1 in
     let args = start .args in
-    let p : Planned (args .n) (args .m) (args .xs .now) (args .ys .now) (args .cs .now) (args .days .now) _ _ (args .x) (args .y) (args .c) (plan .result)
+    let p : Planned (args .n) (first (args .m)) (args .m) (args .xs .now) (args .ys .now) (args .cs .now) (args .days .now) _ _ (args .x) (args .y) (args .c) (plan .result)
     = rw (toZ-ofZ w32 (args .c) (start .fits .c)) at (plan .ensures) in
     let not = not-true _ (if1 .taken) in
     record {
@@ -64,9 +66,9 @@ raise-days-requires c κs =
     let plan = c .before .before .before .before .before .before .before .plan in
     let if1 = c .before .before .if1 in
     let args = start .args in
-    let p : Planned (args .n) (args .m) (args .xs .now) (args .ys .now) (args .cs .now) (args .days .now) _ _ (args .x) (args .y) (args .c) (plan .result)
+    let p : Planned (args .n) (first (args .m)) (args .m) (args .xs .now) (args .ys .now) (args .cs .now) (args .days .now) _ _ (args .x) (args .y) (args .c) (plan .result)
     = rw (toZ-ofZ w32 (args .c) (start .fits .c)) at (plan .ensures) in
-    raisable (args .n) (args .m) (args .xs .now) (args .ys .now) (args .cs .now) (args .days .now) (args .heads .now) (args .nexts .now) (args .x) (args .y) (args .c) (start .pre .0)
+    raisable (args .n) (first (args .m)) number (args .m) (args .xs .now) (args .ys .now) (args .cs .now) (args .days .now) (args .heads .now) (args .nexts .now) (args .x) (args .y) (args .c) (start .pre .0)
     _ (p .earliest (not-false _ (if1 .left))) (args .days .now) (omega (arith, plan .kept .1 .1 .1 .1 .1 .1 .1 .1 .1 .1 .1 .0, start .pre .1 .gains-room)) (start .pre .0 .base .ground .days-room)
 
 write-rule-requires : tie.Need-write-rule-requires
@@ -100,12 +102,12 @@ returns-2 c =
     let raise-days = c .before .before .before .before .before .before .before .before .before .before .before .raise-days in
     let write-rule = c .before .before .before .before .before .write-rule in
     let args = start .args in
-    let p : Planned (args .n) (args .m) (args .xs .now) (args .ys .now) (args .cs .now) (args .days .now) _ _ (args .x) (args .y) (args .c) (plan .result)
+    let p : Planned (args .n) (first (args .m)) (args .m) (args .xs .now) (args .ys .now) (args .cs .now) (args .days .now) _ _ (args .x) (args .y) (args .c) (plan .result)
     = rw (toZ-ofZ w32 (args .c) (start .fits .c)) at (plan .ensures) in
     record {
       tells = record {
         when-fits = λ e.
-            taken (args .n) (args .m) (args .xs .now) (args .ys .now) (args .cs .now) (args .days .now) (args .heads .now) (args .nexts .now) (args .x) (args .y) (args .c) (start .pre .0)
+            taken (args .n) (first (args .m)) number (args .m) (args .xs .now) (args .ys .now) (args .cs .now) (args .days .now) (args .heads .now) (args .nexts .now) (args .x) (args .y) (args .c) (start .pre .0)
             _ (p .earliest (not-false _ (if1 .left))) _ _ _ (raise-days .ensures) (rw (toZ-ofZ w32 (args .c) (start .fits .c)) at (write-rule .ensures));
         when-not = λ e. absurd (true≢false e);
       };

@@ -1,4 +1,6 @@
 -- `newrule::plan`: with nothing lacking the days stay; else the gain that is lacking is spread, and x tells whether the rule fits.
+use Rattle.leaf.specs.Lent.{first}
+use Rattle.chains.specs.Chains.{number}
 use Prim.Native.Nat.{_<_}
 use mathlib.Core.Path.{_≡_}
 use mir.Syntax.{w32}
@@ -21,7 +23,7 @@ lack-requires c κs = search needs
 returns : tie.Need-returns
 returns c =
     let l : Lack (c .before .before .before .before .before .before .before .before .before .args .days .now) (c .before .before .before .before .before .before .before .before .before .args .x) (c .before .before .before .before .before .before .before .before .before .args .y) (c .before .before .before .before .before .before .before .before .before .args .c) (c .before .lack .result) = rw (toZ-ofZ w32 (c .before .before .before .before .before .before .before .before .before .args .c) (c .before .before .before .before .before .before .before .before .before .fits .c)) at (c .before .lack .ensures) in
-    fits-at-once (c .before .before .before .before .before .before .before .before .before .args .n) (c .before .before .before .before .before .before .before .before .before .args .m) (c .before .before .before .before .before .before .before .before .before .args .xs .now) (c .before .before .before .before .before .before .before .before .before .args .ys .now) (c .before .before .before .before .before .before .before .before .before .args .cs .now) (c .before .before .before .before .before .before .before .before .before .args .days .now)
+    fits-at-once (c .before .before .before .before .before .before .before .before .before .args .n) (first (c .before .before .before .before .before .before .before .before .before .args .m)) number (c .before .before .before .before .before .before .before .before .before .args .m) (c .before .before .before .before .before .before .before .before .before .args .xs .now) (c .before .before .before .before .before .before .before .before .before .args .ys .now) (c .before .before .before .before .before .before .before .before .before .args .cs .now) (c .before .before .before .before .before .before .before .before .before .args .days .now)
     (c .before .before .before .before .before .before .before .before .before .args .heads .now) (c .before .before .before .before .before .before .before .before .before .args .nexts .now) (c .before .before .before .before .before .before .before .before .before .args .gains .now) (c .before .before .before .before .before .before .before .before .before .args .by .now) (c .before .before .before .before .before .before .before .before .before .args .x) (c .before .before .before .before .before .before .before .before .before .args .y) (c .before .before .before .before .before .before .before .before .before .args .c)
     (c .before .before .before .before .before .before .before .before .before .pre) (l .none (omega (arith, c .if1 .taken))) (c .before .before .before .before .before .before .before .before .before .args .by .now)
 
@@ -54,7 +56,7 @@ same-length-2 c = search needs
 returns-2 : tie.Need-returns-2
 returns-2 c =
     let l : Lack (c .before .before .before .before .before .before .before .before .before .before .before .before .before .before .before .before .before .args .days .now) (c .before .before .before .before .before .before .before .before .before .before .before .before .before .before .before .before .before .args .x) (c .before .before .before .before .before .before .before .before .before .before .before .before .before .before .before .before .before .args .y) (c .before .before .before .before .before .before .before .before .before .before .before .before .before .before .before .before .before .args .c) (c .before .before .before .before .before .before .before .before .before .lack .result) = rw (toZ-ofZ w32 (c .before .before .before .before .before .before .before .before .before .before .before .before .before .before .before .before .before .args .c) (c .before .before .before .before .before .before .before .before .before .before .before .before .before .before .before .before .before .fits .c)) at (c .before .before .before .before .before .before .before .before .before .lack .ensures) in
-    planned (c .before .before .before .before .before .before .before .before .before .before .before .before .before .before .before .before .before .args .n) (c .before .before .before .before .before .before .before .before .before .before .before .before .before .before .before .before .before .args .m) (c .before .before .before .before .before .before .before .before .before .before .before .before .before .before .before .before .before .args .xs .now) (c .before .before .before .before .before .before .before .before .before .before .before .before .before .before .before .before .before .args .ys .now) (c .before .before .before .before .before .before .before .before .before .before .before .before .before .before .before .before .before .args .cs .now) (c .before .before .before .before .before .before .before .before .before .before .before .before .before .before .before .before .before .args .days .now)
+    planned (c .before .before .before .before .before .before .before .before .before .before .before .before .before .before .before .before .before .args .n) (first (c .before .before .before .before .before .before .before .before .before .before .before .before .before .before .before .before .before .args .m)) number (c .before .before .before .before .before .before .before .before .before .before .before .before .before .before .before .before .before .args .m) (c .before .before .before .before .before .before .before .before .before .before .before .before .before .before .before .before .before .args .xs .now) (c .before .before .before .before .before .before .before .before .before .before .before .before .before .before .before .before .before .args .ys .now) (c .before .before .before .before .before .before .before .before .before .before .before .before .before .before .before .before .before .args .cs .now) (c .before .before .before .before .before .before .before .before .before .before .before .before .before .before .before .before .before .args .days .now)
     (c .before .before .before .before .before .before .before .before .before .before .before .before .before .before .before .before .before .args .heads .now) (c .before .before .before .before .before .before .before .before .before .before .before .before .before .before .before .before .before .args .nexts .now) (c .before .before .before .before .before .before .before .before .before .before .before .before .before .before .before .before .before .args .gains .now) (c .before .before .before .before .before .before .before .before .before .before .before .before .before .before .before .before .before .args .by .now) (c .before .before .before .before .before .before .before .before .before .before .before .before .before .before .before .before .before .args .x) (c .before .before .before .before .before .before .before .before .before .before .before .before .before .before .before .before .before .args .y) (c .before .before .before .before .before .before .before .before .before .before .before .before .before .before .before .before .before .args .c)
     (c .before .before .before .before .before .before .before .before .before .before .before .before .before .before .before .before .before .pre) (c .before .before .before .before .before .before .before .before .before .lack .result) (l .some (omega (arith, c .before .before .before .before .before .before .before .before .if1 .left))) _ _ _ (omega (arith, c .before .before .before .before .before .spread-one .kept .1 .1 .1 .1 .1 .1 .1 .1 .1 .1 .1 .1 .0, c .before .before .before .before .before .before .before .before .before .before .before .before .before .before .before .before .before .pre .no-gains .by-room)) (c .before .before .before .before .before .spread-one .ensures)
     _ (λ e. omega (arith, eqb-true, leb-true, ltb-true)) (λ e. omega (arith, eqb-false, leb-false, ltb-false))

@@ -1,4 +1,6 @@
 -- `newrule::trial`: the rule's bounds and the count decide the refusals; what can be asked for is answered by `trial_fine`.
+use Rattle.leaf.specs.Lent.{first}
+use Rattle.chains.specs.Chains.{number}
 use Prim.Native.Nat.{ℕ, _≤_, _<_}
 use mathlib.Core.Path.{_≡_, refl}
 use mathlib.Core.Logic.{inl, inr}
@@ -83,6 +85,7 @@ trial-fine-requires c κs =
               steps-in = steps-fit .ensures (start .args .c) .so (not-false _ (if1 .left));
               amount-in = (rw (toZ-ofZ w32 (start .args .c) (start .fits .c)) at (amount-fits .ensures)) .so (not-false _ (if2 .left));
             };
+            free = λ h. omega arith;
             not-full = omega (arith, if3 .left);
           }),
       (no-gains (start .args .counts .steps) (start .pre .0 .ground .steps-in), start .pre .1),

@@ -1,4 +1,6 @@
 -- `newrule::trial_fine`: the plan of the rule is written as days, or its ring, and the promise follows from either.
+use Rattle.leaf.specs.Lent.{first}
+use Rattle.chains.specs.Chains.{number}
 use Prim.Native.Nat.{_≤_, _<_}
 use mathlib.Core.Path.{_≡_}
 use mir.Syntax.{w32}
@@ -24,7 +26,7 @@ cast-m c = search needs
 plan-requires : tie.Need-plan-requires
 plan-requires c κs =
     let start = c .before .before .before .before .before .before .before .before .before .before .before .before .before in
-    rw (toZ-ofZ w32 (start .args .c) (start .fits .c)) (record { base = start .pre .0 .base; new-in = start .pre .0 .new-good .steps-in; no-gains = start .pre .1 .0 })
+    rw (toZ-ofZ w32 (start .args .c) (start .fits .c)) (record { base = start .pre .0 .base; new-in = start .pre .0 .new-good .steps-in; free = start .pre .0 .free; free-in = omega (arith, start .pre .0 .not-full); no-gains = start .pre .1 .0 })
 
 write-days-requires : tie.Need-write-days-requires
 write-days-requires c κs =
@@ -32,9 +34,9 @@ write-days-requires c κs =
     let plan = c .before .before .before .before .before .before .before .plan in
     let if1 = c .before .before .if1 in
     let args = start .args in
-    let p : Planned (args .counts .steps) (args .counts .rules) (args .xs .now) (args .ys .now) (args .cs .now) (args .days .now) _ _ (args .x) (args .y) (args .c) (plan .result)
+    let p : Planned (args .counts .steps) (first (args .counts .rules)) (args .counts .rules) (args .xs .now) (args .ys .now) (args .cs .now) (args .days .now) _ _ (args .x) (args .y) (args .c) (plan .result)
     = rw (toZ-ofZ w32 (args .c) (start .fits .c)) at (plan .ensures) in
-    raisable (args .counts .steps) (args .counts .rules) (args .xs .now) (args .ys .now) (args .cs .now) (args .days .now) (args .heads .now) (args .nexts .now) (args .x) (args .y) (args .c) (start .pre .0)
+    raisable (args .counts .steps) (first (args .counts .rules)) number (args .counts .rules) (args .xs .now) (args .ys .now) (args .cs .now) (args .days .now) (args .heads .now) (args .nexts .now) (args .x) (args .y) (args .c) (start .pre .0)
     _ (p .earliest (if1 .taken)) _
     (omega (arith, plan .kept .1 .1 .1 .1 .1 .1 .1 .1 .1 .1 .1 .0, start .pre .1 .0 .gains-room)) (omega (arith, start .pre .1 .1 .one-room, start .pre .0 .base .ground .steps-in))
 
@@ -54,11 +56,11 @@ returns c =
     let if1 = c .before .before .before .before .before .if1 in
     let write-days = c .before .before .write-days in
     let args = start .args in
-    let p : Planned (args .counts .steps) (args .counts .rules) (args .xs .now) (args .ys .now) (args .cs .now) (args .days .now) _ _ (args .x) (args .y) (args .c) (plan .result)
+    let p : Planned (args .counts .steps) (first (args .counts .rules)) (args .counts .rules) (args .xs .now) (args .ys .now) (args .cs .now) (args .days .now) _ _ (args .x) (args .y) (args .c) (plan .result)
     = rw (toZ-ofZ w32 (args .c) (start .fits .c)) at (plan .ensures) in
     trial-done (args .counts) (args .xs .now) (args .ys .now) (args .cs .now) (args .days .now) (args .heads .now) (args .nexts .now) (args .x) (args .y) (args .c) (start .pre .0)
     (args .one .now) (args .two .now) _ (start .pre .1 .1) (write-days .result)
-    (planned-list (args .counts .steps) (args .counts .rules) (args .xs .now) (args .ys .now) (args .cs .now) (args .days .now) (args .heads .now) (args .nexts .now) (args .x) (args .y) (args .c) (start .pre .0)
+    (planned-list (args .counts .steps) (first (args .counts .rules)) number (args .counts .rules) (args .xs .now) (args .ys .now) (args .cs .now) (args .days .now) (args .heads .now) (args .nexts .now) (args .x) (args .y) (args .c) (start .pre .0)
     _ (p .earliest (if1 .taken)) _ _ _ (write-days .ensures))
     (write-days .ensures .count)
 
@@ -76,7 +78,7 @@ cast-t37 c =
     let args = start .args in
     omega (
       arith,
-      ring-short (args .counts .steps) (args .counts .rules) (args .xs .now) (args .ys .now) (args .cs .now) (args .days .now) (args .heads .now) (args .nexts .now) (args .x) (args .y) (args .c) (start .pre .0) _ _ _
+      ring-short (args .counts .steps) (first (args .counts .rules)) number (args .counts .rules) (args .xs .now) (args .ys .now) (args .cs .now) (args .days .now) (args .heads .now) (args .nexts .now) (args .x) (args .y) (args .c) (start .pre .0) _ _ _
           (rw (toZ-ofZ w32 (args .c) (start .fits .c)) at (ring .ensures)),
     )
 

@@ -1,5 +1,6 @@
 -- `ringcheck::closes` meets its contract. The loop's invariant: every step reached has a flag, the sum is at most 4294967296 for each
 -- rule passed, and the list closes the ring exactly when what is left of it does. The measure is what is left of the list.
+use Rattle.leaf.specs.Lent.{first}
 use Prim.Native.Nat.{_+_, _*_, _-_, _≤_, _<_}
 use mathlib.Core.Path.{_≡_, refl}
 use mathlib.Core.Logic.{_↔_}
@@ -20,7 +21,7 @@ Inv-loop m xs ys cs x y amount list met₀ reached₀ sum₀ k₀ met reached su
     × (k ≤ length list + 1)
     × (reached < length met)
     × (sum ≤ k * 4294967296)
-    × (Left (rule-at (columns xs ys cs)) (λ i. i < m) x met₀ y amount list 1 ↔ Left (rule-at (columns xs ys cs)) (λ i. i < m) x met reached sum list k)
+    × (Left (rule-at (columns xs ys cs)) (first m) x met₀ y amount list 1 ↔ Left (rule-at (columns xs ys cs)) (first m) x met reached sum list k)
 
 abbrev μ-loop : tie.MeasureT-loop
 μ-loop m xs ys cs x y amount list met₀ reached₀ sum₀ k₀ met reached sum k = length list - k
@@ -33,7 +34,9 @@ entry-at-requires : tie.Need-entry-at-requires Inv-loop μ-loop
 entry-at-requires c κs = search needs
 
 goes-on-requires : tie.Need-goes-on-requires Inv-loop μ-loop
-goes-on-requires c κs = search needs
+goes-on-requires c κs =
+    let start = c .before .before .before .before .before .before .before .before in
+    (λ i h. start .pre .placed i h .first-place, c .before .before .before .loop .inv .2)
 
 same-length : tie.Need-same-length Inv-loop μ-loop
 same-length c = search needs
@@ -52,22 +55,14 @@ slice-write-met c = search needs
 
 amount-at-requires : tie.Need-amount-at-requires Inv-loop μ-loop
 amount-at-requires c κs =
-    omega (
-      arith,
-      c .before .goes-on .ensures .so (not-false (c .before .goes-on .result) (c .if1 .left)) .is-held,
-      c .before .before .before .before .before .before .before .before .before .before .pre .room .amounts-room,
-    )
+    c .before .before .before .before .before .before .before .before .before .before .pre .placed _ (c .before .goes-on .ensures .so (not-false (c .before .goes-on .result) (c .if1 .left)) .is-held) .amount-place
 
 add-sum : tie.Need-add-sum Inv-loop μ-loop
 add-sum c = search needs
 
 number-at-requires : tie.Need-number-at-requires Inv-loop μ-loop
 number-at-requires c κs =
-    omega (
-      arith,
-      c .before .before .goes-on .ensures .so (not-false (c .before .before .goes-on .result) (c .before .if1 .left)) .is-held,
-      c .before .before .before .before .before .before .before .before .before .before .before .pre .room .seconds-room,
-    )
+    c .before .before .before .before .before .before .before .before .before .before .before .pre .placed _ (c .before .before .goes-on .ensures .so (not-false (c .before .before .goes-on .result) (c .before .if1 .left)) .is-held) .second-place
 
 add-k : tie.Need-add-k Inv-loop μ-loop
 add-k c = search needs

@@ -11,7 +11,9 @@ returns : tie.Need-returns
 returns c = decides-no refl (λ on. omega (arith, c .if1 .taken, on .is-held))
 
 number-at-requires : tie.Need-number-at-requires
-number-at-requires c κs = search needs
+number-at-requires c κs =
+    let start = c .before .before .before in
+    start .pre .0 (start .args .i) (omega (arith, c .if1 .left))
 
 returns-2 : tie.Need-returns-2
 returns-2 c = decides-no refl (λ on. c .if2 .taken (c .before .number-at .ensures ∙ on .first-is))

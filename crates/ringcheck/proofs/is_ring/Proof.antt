@@ -1,4 +1,5 @@
 -- `ringcheck::is_ring` meets its contract: each early return has what the list lacks, and past them the rest of the list decides.
+use Rattle.leaf.specs.Lent.{first}
 use Prim.Native.Nat.{ℕ, _<_}
 use mathlib.Core.Path.{refl, sym, _∙_}
 use lib.ListN.{replicate, length-set}
@@ -28,13 +29,13 @@ returns : tie.Need-returns
 returns c =
     let start = c .before .before .before .before in
     let m = start .args .m in
-    decides-no refl (λ refutes. omega (arith, c .if1 .taken, refutes-some (lent start) (λ i. i < m) m (new start) (start .args .list .now) refutes))
+    decides-no refl (λ refutes. omega (arith, c .if1 .taken, refutes-some (lent start) (first m) m (new start) (start .args .list .now) refutes))
 
 returns-2 : tie.Need-returns-2
 returns-2 c =
     let start = c .before .before .before .before .before in
     let m = start .args .m in
-    decides-no refl (λ refutes. omega (arith, c .if2 .taken, ring-length (start .args .n) (lent start) (λ i. i < m) m (new start) (start .args .list .now) (start .pre .rules-in) (start .pre .rule-in) refutes))
+    decides-no refl (λ refutes. omega (arith, c .if2 .taken, ring-length (start .args .n) (lent start) (first m) m (new start) (start .args .list .now) (start .pre .rules-in) (start .pre .rule-in) refutes))
 
 entry-at-requires : tie.Need-entry-at-requires
 entry-at-requires c κs = search needs
@@ -43,7 +44,7 @@ returns-3 : tie.Need-returns-3
 returns-3 c =
     let start = c .before .before .before .before .before .before .before in
     let m = start .args .m in
-    decides-no refl (λ refutes. c .if3 .taken (c .before .entry-at .ensures ∙ refutes-first (lent start) (λ i. i < m) m (new start) (start .args .list .now) refutes))
+    decides-no refl (λ refutes. c .if3 .taken (c .before .entry-at .ensures ∙ refutes-first (lent start) (first m) m (new start) (start .args .list .now) refutes))
 
 array-write-met : tie.Need-array-write-met
 array-write-met c = search needs
@@ -58,7 +59,7 @@ closes-requires : tie.Need-closes-requires
 closes-requires c κs =
     let pre = c .before .before .before .before .before .before .before .before .before .pre in
     record {
-      room = pre .room;
+      placed = pre .placed;
       flags-room = λ i held. simp length-set (omega (arith, pre .rules-in i held .second-in, pre .steps-in));
       flag-room = simp length-set (omega (arith, pre .rule-in .second-in, pre .steps-in));
       one-amount = c .before .biased .ensures .narrow;
@@ -70,7 +71,7 @@ returns-4 c =
     let start = c .before .before .before .before .before .before .before .before .before .before .before in
     let m = start .args .m in
     let biased = c .before .before .before .biased in
-    rest-decides (lent start) (λ i. i < m) m (new start) (λ h. omega (arith, h))
+    rest-decides (lent start) (first m) m (new start) (λ h. omega (arith, h))
     (replicate STEPS 0) (none-met STEPS) (omega (arith, start .pre .rule-in .first-in, start .pre .steps-in))
     (biased .result) (rw (toZ-ofZ w32 (start .args .c) (start .fits .c)) at (biased .ensures))
     (start .args .list .now) (c .before .before .before .before .before .before .before .if1 .left)

@@ -9,7 +9,10 @@ use borrow.Author.Tests.{not-true, not-false}
 use Rattle.meaning.specs.Rules.{Grounded}
 use Rattle.meaning.specs.Tables.{rule-at, at}
 use Rattle.leaf.specs.Lent.{columns, KeptAt}
-use Rattle.sound.specs.Ground.{below, ListsRoom}
+use Rattle.leaf.specs.Lent.{first}
+use Rattle.chains.specs.Chains.{number}
+use Rattle.chains.proofs.Laws.{next-in, top-number}
+use Rattle.sound.specs.Ground.{ListsRoom}
 use Rattle.sound.proofs.Entering.{enterable, entering}
 use Rattle.sound.proofs.Grounding.{Turned, dated, turned-tight, turned-loose, walking-start, walking-on, Walking}
 use Rattle.sound.proofs.follow.Statement.{statement}
@@ -17,7 +20,7 @@ use Rattle.sound.proofs.follow.Tie as tie
 
 abbrev Inv-loop : tie.InvT-loop
 Inv-loop n m a xs ys cs days heads nexts entered places₀ work₀ k₀ link₀ places work k link =
-    (length places ≡ length places₀) × (length work ≡ length work₀) × Walking n m xs ys cs days a places₀ k places work link
+    (length places ≡ length places₀) × (length work ≡ length work₀) × Walking n (first m) number xs ys cs days a places₀ k places work link
 
 abbrev μ-loop : tie.MeasureT-loop
 μ-loop n m a xs ys cs days heads nexts entered places₀ work₀ k₀ link₀ places work k link = link
@@ -38,7 +41,7 @@ loop-holds c =
       refl,
       refl,
       rw (c .number-at .ensures)
-          (walking-start (args .n) (args .m) (args .xs .now) (args .ys .now) (args .cs .now) (args .days .now) (args .heads .now) (args .nexts .now) (start .pre .0 .chained)
+          (walking-start (args .n) (first (args .m)) (args .xs .now) (args .ys .now) (args .cs .now) (args .days .now) number (args .heads .now) (args .nexts .now) (start .pre .0 .chained)
           (start .pre .0 .rules-in) (args .a) (start .pre .1 .1 .1 .0) (args .entered) (args .places .now) (args .work .now) (start .pre .1 .1 .0)),
     )
 
@@ -48,17 +51,17 @@ sub-i c = omega (arith, c .loop-test .taken)
 -- The walk, at the rule that its link leads to.
 walking-at :
     (c : tie.In-loop Inv-loop μ-loop) → let args = entry (c .before) .args in let l = c .before .loop in
-    Walking (args .n) (args .m) (args .xs .now) (args .ys .now) (args .cs .now) (args .days .now) (args .a) (args .places .now) (l .k) (l .places) (l .work) (suc (l .link - 1))
+    Walking (args .n) (first (args .m)) number (args .xs .now) (args .ys .now) (args .cs .now) (args .days .now) (args .a) (args .places .now) (l .k) (l .places) (l .work) (suc (l .link - 1))
 walking-at c =
     let head = c .before in
     let args = entry head .args in
     let l = head .loop in
     let link-is : l .link ≡ suc (l .link - 1) = omega (arith, c .loop-test .taken) in
-    subst (Walking (args .n) (args .m) (args .xs .now) (args .ys .now) (args .cs .now) (args .days .now) (args .a) (args .places .now) (l .k) (l .places) (l .work)) link-is (l .inv .2)
+    subst (Walking (args .n) (first (args .m)) number (args .xs .now) (args .ys .now) (args .cs .now) (args .days .now) (args .a) (args .places .now) (l .k) (l .places) (l .work)) link-is (l .inv .2)
 
 -- That rule is held.
 rule-held : (c : tie.In-loop Inv-loop μ-loop) → c .before .loop .link - 1 < entry (c .before) .args .m
-rule-held c = walking-at c .of-a .within
+rule-held c = walking-at c .of-a .held (c .before .loop .link - 1) refl
 
 -- The two lists have room.
 lists-room : (c : tie.In-loop Inv-loop μ-loop) → ListsRoom (entry (c .before) .args .n) (c .before .loop .places) (c .before .loop .work)
@@ -72,20 +75,20 @@ lists-room c =
 -- Step a, whose rules are followed, is grounded, and so is that rule's first step, which is a.
 first-grounded :
     (c : tie.In-loop Inv-loop μ-loop) → let args = entry (c .before) .args in
-    Grounded (rule-at (columns (args .xs .now) (args .ys .now) (args .cs .now))) (below (args .m)) (at (args .days .now)) (at (args .xs .now) (c .before .loop .link - 1))
+    Grounded (rule-at (columns (args .xs .now) (args .ys .now) (args .cs .now))) (first (args .m)) (at (args .days .now)) (at (args .xs .now) (c .before .loop .link - 1))
 first-grounded c =
     let head = c .before in
     let args = entry head .args in
     let w = walking-at c in
     let a-in = entry head .pre .1 .1 .1 in
-    subst (Grounded (rule-at (columns (args .xs .now) (args .ys .now) (args .cs .now))) (below (args .m)) (at (args .days .now))) (sym (w .of-a .own (head .loop .link - 1) refl))
+    subst (Grounded (rule-at (columns (args .xs .now) (args .ys .now) (args .cs .now))) (first (args .m)) (at (args .days .now))) (sym (w .of-a .own (head .loop .link - 1) refl))
     (w .underway .grounded (args .a) (a-in .0) (omega (arith, w .grown (args .a) (a-in .0) (a-in .1), a-in .1)))
 
 kept-requires : tie.Need-kept-requires Inv-loop μ-loop
 kept-requires c κs =
     let head = c .before in
     let args = entry head .args in
-    dated (args .n) (args .m) (args .xs .now) (args .ys .now) (args .cs .now) (args .days .now) (args .heads .now) (args .nexts .now) (entry head .pre .0) (head .loop .link - 1) (rule-held c)
+    dated (args .n) (first (args .m)) (args .xs .now) (args .ys .now) (args .cs .now) (args .days .now) number (args .heads .now) (args .nexts .now) (entry head .pre .0) (head .loop .link - 1) (rule-held c)
 
 same-length : tie.Need-same-length Inv-loop μ-loop
 same-length c = c .before .before .before .loop .inv .0
@@ -113,14 +116,14 @@ slack-requires : tie.Need-slack-requires Inv-loop μ-loop
 slack-requires c κs =
     let head = c .before .before .before in
     let args = entry head .args in (
-      dated (args .n) (args .m) (args .xs .now) (args .ys .now) (args .cs .now) (args .days .now) (args .heads .now) (args .nexts .now) (entry head .pre .0) (head .loop .link - 1) (rule-held (c .before .before)),
+      dated (args .n) (first (args .m)) (args .xs .now) (args .ys .now) (args .cs .now) (args .days .now) number (args .heads .now) (args .nexts .now) (entry head .pre .0) (head .loop .link - 1) (rule-held (c .before .before)),
       rule-kept c,
     )
 
 number-at-requires-2 : tie.Need-number-at-requires-2 Inv-loop μ-loop
 number-at-requires-2 c κs =
     let head = c .before .before .before .before .before in
-    omega (arith, rule-held (c .before .before .before .before), entry head .pre .0 .columns-room .seconds-room)
+    entry head .pre .0 .placed (head .loop .link - 1) (rule-held (c .before .before .before .before)) .second-place
 
 enter-requires : tie.Need-enter-requires Inv-loop μ-loop
 enter-requires c κs =
@@ -136,7 +139,7 @@ enter-requires c κs =
 turned :
     (c : tie.Joined2 Inv-loop μ-loop) → let args = entry (c .before .before .before .before .before) .args in
     (length (c .if2 .places) ≡ length (c .before .before .before .before .before .loop .places)) × (length (c .if2 .work) ≡ length (c .before .before .before .before .before .loop .work)) ×
-    Turned (args .n) (args .m) (args .xs .now) (args .ys .now) (args .cs .now) (args .days .now) (c .before .before .before .before .before .loop .link - 1) (c .before .before .before .before .before .loop .places) (c .if2 .k) (c .if2 .places) (c .if2 .work)
+    Turned (args .n) (first (args .m)) (args .xs .now) (args .ys .now) (args .cs .now) (args .days .now) (c .before .before .before .before .before .loop .link - 1) (c .before .before .before .before .before .loop .places) (c .if2 .k) (c .if2 .places) (c .if2 .work)
 turned c =
     let head = c .before .before .before .before .before in
     let args = entry head .args in
@@ -147,7 +150,7 @@ turned c =
     (λ w. rw (w .9, w .10, w .11) (
       w .4 .kept .1 .1 .0,
       w .4 .kept .1 .1 .1 .0,
-      turned-tight (args .n) (args .m) (args .xs .now) (args .ys .now) (args .cs .now) (args .days .now) i (c .before .slack .result) (l .k) (w .4 .result) (l .places) (l .work)
+      turned-tight (args .n) (first (args .m)) (args .xs .now) (args .ys .now) (args .cs .now) (args .days .now) i (c .before .slack .result) (l .k) (w .4 .result) (l .places) (l .work)
           (w .4 .last .1 .1 .0) (w .4 .last .1 .1 .1 .0) (rule-held looped) (c .before .slack .ensures) (w .0 .taken) (rule-kept (c .before .before)) (first-grounded looped) (walking-at looped .underway)
           (entering (args .n) (at (args .ys .now) i) (l .k) (l .places) (l .work) (entry head .pre .0 .rules-in i (rule-held looped) .second-in) (lists-room looped)
           (walking-at looped .underway .worklist) (w .4 .result) (w .4 .last .1 .1 .0) (w .4 .last .1 .1 .1 .0) (rw (w .1 .ensures) at (w .4 .ensures))),
@@ -155,7 +158,7 @@ turned c =
     (λ w. rw (w .1, w .2, w .3) (
       refl,
       refl,
-      turned-loose (args .n) (args .m) (args .xs .now) (args .ys .now) (args .cs .now) (args .days .now) i (c .before .slack .result) (l .k) (l .places) (l .work) (c .before .slack .ensures) (w .0 .left)
+      turned-loose (args .n) (first (args .m)) (args .xs .now) (args .ys .now) (args .cs .now) (args .days .now) i (c .before .slack .result) (l .k) (l .places) (l .work) (c .before .slack .ensures) (w .0 .left)
           (rule-kept (c .before .before)) (walking-at looped .underway),
     ))
     (c .if2 .came)
@@ -163,12 +166,12 @@ turned c =
 number-at-requires-3 : tie.Need-number-at-requires-3 Inv-loop μ-loop
 number-at-requires-3 c κs =
     let head = c .before .before .before .before .before in
-    omega (arith, rule-held (c .before .before .before .before), entry head .pre .0 .nexts-room)
+    entry head .pre .0 .next-place (head .loop .link - 1) (rule-held (c .before .before .before .before))
 
 loop-less : tie.Need-loop-less Inv-loop μ-loop
 loop-less c =
     let head = c .before .before .before .before .before .before in
-    omega (arith, c .number-at3 .ensures, entry head .pre .0 .chained .next-in (head .loop .link - 1) (rule-held (c .before .before .before .before .before)), c .before .before .before .before .before .loop-test .taken)
+    omega (arith, c .number-at3 .ensures, next-in (entry head .args .n) (entry head .args .m) (entry head .args .xs .now) (entry head .args .heads .now) (entry head .args .nexts .now) (entry head .pre .0 .chained) (head .loop .link - 1) (rule-held (c .before .before .before .before .before)), c .before .before .before .before .before .loop-test .taken)
 
 loop-again : tie.Need-loop-again Inv-loop μ-loop
 loop-again c =
@@ -179,7 +182,7 @@ loop-again c =
       turn .0 ∙ l .inv .0,
       turn .1 ∙ l .inv .1,
       rw (c .number-at3 .ensures)
-          (walking-on (args .n) (args .m) (args .xs .now) (args .ys .now) (args .cs .now) (args .days .now) (args .heads .now) (args .nexts .now) (entry head .pre .0 .chained)
+          (walking-on (args .n) (first (args .m)) (args .xs .now) (args .ys .now) (args .cs .now) (args .days .now) number (args .heads .now) (args .nexts .now) (entry head .pre .0 .chained)
           (entry head .pre .0 .rules-in) (args .a) (entry head .pre .1 .1 .1 .0) (args .places .now) (l .link - 1) (l .k) (c .before .if2 .k) (l .places) (l .work) (c .before .if2 .places) (c .before .if2 .work)
           (turn .2) (walking-at (c .before .before .before .before .before))),
     )
@@ -196,7 +199,7 @@ returns-2 c =
     record {
       underway = head .loop .inv .2 .underway;
       grown = head .loop .inv .2 .grown;
-      when-kept = λ e i held own. head .loop .inv .2 .met i held (omega (arith, c .loop-test .left)) own;
+      when-kept = λ e i held own. head .loop .inv .2 .met i held (omega (arith, top-number (c .before .loop .link), c .loop-test .left)) own;
       when-broken = λ e. absurd (true≢false e);
     }
 

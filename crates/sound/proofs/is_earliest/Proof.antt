@@ -8,13 +8,14 @@ use Rattle.meaning.specs.Tables.{at}
 use Rattle.meaning.specs.Bounds.{STEPS}
 use Rattle.leaf.specs.Decides.{decides-no}
 use Rattle.sound.proofs.Entering.{few, empty}
+use Rattle.leaf.specs.Lent.{first}
 use Rattle.sound.proofs.Grounding.{grounding-start, grounding-on, count-decides, Grounding}
 use Rattle.sound.proofs.is_earliest.Statement.{statement}
 use Rattle.sound.proofs.is_earliest.Tie as tie
 
 abbrev Inv-loop : tie.InvT-loop
 Inv-loop n m xs ys cs days heads nexts places₀ work₀ entered₀ done₀ places work entered done =
-    (length places ≡ STEPS) × (length work ≡ STEPS) × Grounding n m xs ys cs days done entered places work
+    (length places ≡ STEPS) × (length work ≡ STEPS) × Grounding n (first m) xs ys cs days done entered places work
 
 abbrev μ-loop : tie.MeasureT-loop
 μ-loop n m xs ys cs days heads nexts places₀ work₀ entered₀ done₀ places work entered done = n - done
@@ -46,7 +47,7 @@ loop-holds c =
     let args = c .before .before .before .before .before .before .before .before .before .before .args in (
       seeded .kept .1 .1 .0,
       seeded .kept .1 .1 .1 .0,
-      grounding-start (args .n) (args .m) (args .xs .now) (args .ys .now) (args .cs .now) (args .days .now)
+      grounding-start (args .n) (first (args .m)) (args .xs .now) (args .ys .now) (args .cs .now) (args .days .now)
           (seeded .result) (seeded .last .1 .1 .0) (seeded .last .1 .1 .1 .0) (seeded .ensures),
     )
 
@@ -118,7 +119,7 @@ loop-again c =
     let work′ = followed .last .1 .1 .1 .1 .1 .1 .1 .1 .1 .1 .1 .0 in (
       followed .kept .1 .1 .1 .1 .1 .1 .1 .1 .1 .1 .0 ∙ l .inv .0,
       followed .kept .1 .1 .1 .1 .1 .1 .1 .1 .1 .1 .1 .0 ∙ l .inv .1,
-      grounding-on (args .n) (args .m) (args .xs .now) (args .ys .now) (args .cs .now) (args .days .now) (entry head .pre .rules-in) (l .done) (l .entered) (followed .result .entered)
+      grounding-on (args .n) (first (args .m)) (args .xs .now) (args .ys .now) (args .cs .now) (args .days .now) (entry head .pre .rules-in) (l .done) (l .entered) (followed .result .entered)
           (l .places) (l .work) places′ work′ (turn .loop-test .taken) (followed .ensures .underway) (followed .ensures .grown)
           (rw (c .before .before .before .before .before .before .before .number-at .ensures) at (followed .ensures .when-kept (not-false (followed .result .kept) (c .if1 .left)))) (l .inv .2),
     )
@@ -129,7 +130,7 @@ returns-2 c =
     let args = entry head .args in
     let l = head .loop in
     let all : l .done ≡ l .entered = omega (arith, l .inv .2 .done-in, c .loop-test .left) in
-    count-decides (args .n) (args .m) (args .xs .now) (args .ys .now) (args .cs .now) (args .days .now) (entry head .pre .rules-in) (l .entered) (l .places) (l .work) (l .inv .2 .underway)
+    count-decides (args .n) (first (args .m)) (args .xs .now) (args .ys .now) (args .cs .now) (args .days .now) (entry head .pre .rules-in) (l .entered) (l .places) (l .work) (l .inv .2 .underway)
     (l .inv .2 .every-day-0)
     (λ v h in-it. l .inv .2 .done-followed v h in-it (omega (arith, l .inv .2 .underway .worklist .place-in v h)))
 

@@ -12,7 +12,7 @@ use Rattle.meaning.specs.Tables.{rule-at}
 use Rattle.leaf.specs.Lent.{columns}
 use Rattle.leaf.specs.Decides.{decides-yes, decides-no}
 use Rattle.chains.specs.Chains.{Chained}
-use Rattle.chains.proofs.Laws.{chained-none}
+use Rattle.chains.proofs.Laws.{chained-none, chained-more}
 use Rattle.sound.specs.Parts.{AllIn}
 use Rattle.sound.proofs.rules_in.Statement.{statement}
 use Rattle.sound.proofs.rules_in.Tie as tie
@@ -91,7 +91,7 @@ loop-again c =
       pushed .kept .1 .1 .0 ∙ head .loop .inv .1,
       omega (arith, turn .loop-test .taken),
       below-more _ (head .loop .i) (head .loop .inv .3) in-bounds,
-      pushed .ensures .chained (entry head .args .n) (in-bounds .steps-in .first-in) (head .loop .inv .4),
+      chained-more (entry head .args .n) (head .loop .i) (entry head .args .xs .now) (in-bounds .steps-in .first-in) (head .loop .heads) (head .loop .nexts) _ _ (pushed .ensures) (head .loop .inv .4),
     )
 
 same-length-3 : tie.Need-same-length-3 Inv-loop μ-loop

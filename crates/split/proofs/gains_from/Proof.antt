@@ -1,4 +1,5 @@
 -- `split::gains_from` meets its contract: no step has a gain once they are cleared, and a spread with no goal tells.
+use Rattle.leaf.specs.Lent.{first}
 use mathlib.Core.Path.{_∙_}
 use Rattle.split.proofs.Telling.{spread-tells}
 use native.Mathlib.Omega.{arith}
@@ -41,7 +42,7 @@ returns c =
     let clear = c .before .before .before .before .before .before .before .before .before .clear in
     let spread-one = c .before .before .before .before .spread-one in
     let a = start .args in
-    spread-tells (a .n) (a .m) (a .xs .now) (a .ys .now) (a .cs .now) (a .days .now) (a .a) (clear .last .1 .0) (spread-one .last .1 .1 .1 .1 .1 .1 .1 .1 .1 .1 .1 .0) (spread-one .last .1 .1 .1 .1 .1 .1 .1 .1 .1 .1 .1 .1 .0)
+    spread-tells (a .n) (first (a .m)) (a .xs .now) (a .ys .now) (a .cs .now) (a .days .now) (a .a) (clear .last .1 .0) (spread-one .last .1 .1 .1 .1 .1 .1 .1 .1 .1 .1 .1 .0) (spread-one .last .1 .1 .1 .1 .1 .1 .1 .1 .1 .1 .1 .1 .0)
     (start .pre .1 .0) (start .pre .0 .plan) (spread-one .ensures)
 
 pub gains-from-spec : {M : Type 1} → statement M

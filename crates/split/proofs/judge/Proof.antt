@@ -1,12 +1,13 @@
 -- `split::judge` meets its contract: where both chains of the step are empty there is nothing to judge; else the gains from it tell all its
 -- watched rules.
+use Rattle.leaf.specs.Lent.{first}
 use Prim.Native.Nat.{ℕ, _≤_}
 use mathlib.Core.List.{List}
 use lib.ListN.{length}
 use lib.IntN.{ℤ}
 use Rattle.meaning.specs.Rules.{Rule}
 use Rattle.meaning.specs.Tables.{at}
-use Rattle.spread.specs.Ground.{rules, first}
+use Rattle.spread.specs.Ground.{rules}
 use Rattle.split.specs.Carries.{Telling}
 use Rattle.split.specs.Contracts.{Watching, Judgeable}
 use Rattle.split.proofs.Telling.{always-told, never-told}

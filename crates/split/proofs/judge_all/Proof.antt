@@ -1,5 +1,6 @@
 -- `split::judge_all` meets its contract. The loop's invariant: verdicts have been passed on every watched rule of the steps passed. The measure is
 -- what is left of the steps.
+use Rattle.leaf.specs.Lent.{first}
 use Prim.Native.Nat.{_-_, _≤_}
 use mathlib.Core.Path.{_≡_, refl, _∙_}
 use lib.ListN.{length}
@@ -12,7 +13,7 @@ use Rattle.split.proofs.judge_all.Tie as tie
 abbrev Inv-loop : tie.InvT-loop
 Inv-loop n m xs ys cs days heads nexts w wxs wys wcs wxheads wxnexts wyheads wynexts gains₀ by₀ always₀ never₀ a₀ gains by always never a =
     (length gains ≡ length gains₀) × (length by ≡ length by₀) × (length always ≡ length always₀) × (length never ≡ length never₀) × (a ≤ n)
-    × DecidedBelow (InAll m xs ys cs wxs wys wcs) w wxs a always × DecidedBelow (InNone m xs ys cs wxs wys wcs) w wys a never
+    × DecidedBelow (InAll (first m) xs ys cs wxs wys wcs) w wxs a always × DecidedBelow (InNone (first m) xs ys cs wxs wys wcs) w wys a never
 
 abbrev μ-loop : tie.MeasureT-loop
 μ-loop n m xs ys cs days heads nexts w wxs wys wcs wxheads wxnexts wyheads wynexts gains₀ by₀ always₀ never₀ a₀ gains by always never a =

@@ -1,5 +1,8 @@
 -- `split::judge_firsts` meets its contract. The loop's invariant: verdicts have been passed on the watched rules of a from the link on. The measure is
 -- the link.
+use Rattle.leaf.specs.Lent.{first}
+use Rattle.chains.specs.Chains.{number}
+use Rattle.chains.proofs.Laws.{next-in}
 use Prim.Native.Nat.{suc, _-_, _<_}
 use mathlib.Core.Path.{_≡_, refl, ap}
 use lib.ListN.{length, length-set}
@@ -16,7 +19,7 @@ use Rattle.split.proofs.judge_firsts.Tie as tie
 
 abbrev Inv-loop : tie.InvT-loop
 Inv-loop n w wxs wys wcs days heads nexts a gains always₀ far link₀ always link =
-    (length always ≡ length always₀) × Link w wxs a link × Judging (λ j. Carries (at days) (at gains) (rules wxs wys wcs j)) w wxs a link always₀ always
+    (length always ≡ length always₀) × Link (first w) wxs a link × Judging (λ j. Carries (at days) (at gains) (rules wxs wys wcs j)) w wxs a link always₀ always
 
 abbrev μ-loop : tie.MeasureT-loop
 μ-loop n w wxs wys wcs days heads nexts a gains always₀ far link₀ always link = link
@@ -44,7 +47,7 @@ loop-holds c =
     let chained = start .pre .1 .0 .chained in
     let a-in = start .pre .1 .1 .0 in (
       refl,
-      rw (c .number-at .ensures) (link-head (a .n) (a .w) (a .wxs .now) (a .heads .now) (a .nexts .now) chained (a .a) a-in),
+      rw (c .number-at .ensures) (link-head (a .n) (first (a .w)) number (a .wxs .now) (a .heads .now) (a .nexts .now) chained (a .a) a-in),
       rw (c .number-at .ensures) (judging-head _ (a .n) (a .w) (a .wxs .now) (a .heads .now) (a .nexts .now) chained (a .a) (a .always .now) a-in),
     )
 
@@ -57,7 +60,7 @@ holds-requires c κs =
     let day-at = c .before .before .before .day-at in
     let shared-slice-known3 = c .before .before .before .before .before .before .before .before .shared-slice-known3 in
     let pre = start .pre .0 in
-    let j-in : c .before .loop .link - 1 < start .args .w = omega (arith, c .loop-test .taken, c .before .loop .inv .1 .within) in (
+    let j-in : c .before .loop .link - 1 < start .args .w = c .before .loop .inv .1 .held (c .before .loop .link - 1) (omega (arith, c .loop-test .taken)) in (
       record {
         step-place = omega (arith, pre .watched-room .seconds-room);
         amount-place = omega (arith, pre .watched-room .amounts-room);
@@ -69,12 +72,12 @@ holds-requires c κs =
 slice-write-always : tie.Need-slice-write-always Inv-loop μ-loop
 slice-write-always c =
     let start = c .before .before .before .before .before .before .before .before .before .before .before .before in
-    omega (arith, c .before .loop-test .taken, c .before .before .loop .inv .0, c .before .before .loop .inv .1 .within, start .pre .1 .1 .1)
+    omega (arith, c .before .loop-test .taken, c .before .before .loop .inv .0, c .before .before .loop .inv .1 .held (c .before .before .loop .link - 1) (omega (arith, c .before .loop-test .taken)), start .pre .1 .1 .1)
 
 number-at-requires-2 : tie.Need-number-at-requires-2 Inv-loop μ-loop
 number-at-requires-2 c κs =
     let start = c .before .before .before .before .before .before .before .before .before .before .before .before in
-    omega (arith, c .before .loop-test .taken, c .before .before .loop .inv .1 .within, start .pre .1 .0 .nexts-room)
+    omega (arith, c .before .loop-test .taken, c .before .before .loop .inv .1 .held (c .before .before .loop .link - 1) (omega (arith, c .before .loop-test .taken)), start .pre .1 .0 .nexts-room)
 
 loop-less : tie.Need-loop-less Inv-loop μ-loop
 loop-less c =
@@ -84,7 +87,7 @@ loop-less c =
       arith,
       c .before .before .loop-test .taken,
       c .number-at2 .ensures,
-      start .pre .1 .0 .chained .next-in (loop .link - 1) (omega (arith, c .before .before .loop-test .taken, loop .inv .1 .within)),
+      next-in (start .args .n) (start .args .w) (start .args .wxs .now) (start .args .heads .now) (start .args .nexts .now) (start .pre .1 .0 .chained) (loop .link - 1) (loop .inv .1 .held (loop .link - 1) (omega (arith, c .before .before .loop-test .taken))),
     )
 
 loop-again : tie.Need-loop-again Inv-loop μ-loop
@@ -96,11 +99,11 @@ loop-again c =
     let chained = start .pre .1 .0 .chained in
     let j = loop .link - 1 in
     let counted : loop .link ≡ suc j = omega (arith, c .before .before .loop-test .taken) in
-    let j-in : j < a .w = omega (arith, counted, loop .inv .1 .within) in
+    let j-in : j < a .w = loop .inv .1 .held j counted in
     let own : at (a .wxs .now) j ≡ a .a = loop .inv .1 .own j counted in
     let room : j < length (loop .always) = omega (arith, j-in, loop .inv .0, start .pre .1 .1 .1) in (
       simp length-set (loop .inv .0),
-      rw (c .number-at2 .ensures) (link-next (a .n) (a .w) (a .wxs .now) (a .heads .now) (a .nexts .now) chained (a .a) j j-in own),
+      rw (c .number-at2 .ensures) (link-next (a .n) (first (a .w)) number (a .wxs .now) (a .heads .now) (a .nexts .now) chained (a .a) j j-in own),
       rw (c .number-at2 .ensures)
           (judging-next _ (a .n) (a .w) (a .wxs .now) (a .heads .now) (a .nexts .now) chained (a .a) (a .always .now) j (c .before .holds .result) (loop .always) j-in room own
           (verdict-same

@@ -1,5 +1,8 @@
 -- `split::judge_seconds` meets its contract. The loop's invariant: verdicts have been passed on the watched rules of a from the link on. The measure is
 -- the link.
+use Rattle.leaf.specs.Lent.{first}
+use Rattle.chains.specs.Chains.{number}
+use Rattle.chains.proofs.Laws.{next-in}
 use Prim.Native.Nat.{suc, _-_, _<_}
 use mathlib.Core.Path.{_≡_, refl, ap}
 use lib.ListN.{length, length-set}
@@ -17,7 +20,7 @@ use Rattle.split.proofs.judge_seconds.Tie as tie
 
 abbrev Inv-loop : tie.InvT-loop
 Inv-loop n w wxs wys wcs days heads nexts a gains never₀ far link₀ never link =
-    (length never ≡ length never₀) × Link w wys a link × Judging (λ j. Carries (at days) (at gains) (negation (rules wxs wys wcs j))) w wys a link never₀ never
+    (length never ≡ length never₀) × Link (first w) wys a link × Judging (λ j. Carries (at days) (at gains) (negation (rules wxs wys wcs j))) w wys a link never₀ never
 
 abbrev μ-loop : tie.MeasureT-loop
 μ-loop n w wxs wys wcs days heads nexts a gains never₀ far link₀ never link = link
@@ -45,7 +48,7 @@ loop-holds c =
     let chained = start .pre .1 .0 .chained in
     let a-in = start .pre .1 .1 .0 in (
       refl,
-      rw (c .number-at .ensures) (link-head (a .n) (a .w) (a .wys .now) (a .heads .now) (a .nexts .now) chained (a .a) a-in),
+      rw (c .number-at .ensures) (link-head (a .n) (first (a .w)) number (a .wys .now) (a .heads .now) (a .nexts .now) chained (a .a) a-in),
       rw (c .number-at .ensures) (judging-head _ (a .n) (a .w) (a .wys .now) (a .heads .now) (a .nexts .now) chained (a .a) (a .never .now) a-in),
     )
 
@@ -58,7 +61,7 @@ breaks-requires c κs =
     let day-at = c .before .before .before .day-at in
     let shared-slice-known3 = c .before .before .before .before .before .before .before .before .shared-slice-known3 in
     let pre = start .pre .0 in
-    let j-in : c .before .loop .link - 1 < start .args .w = omega (arith, c .loop-test .taken, c .before .loop .inv .1 .within) in (
+    let j-in : c .before .loop .link - 1 < start .args .w = c .before .loop .inv .1 .held (c .before .loop .link - 1) (omega (arith, c .loop-test .taken)) in (
       record {
         step-place = omega (arith, pre .watched-room .firsts-room);
         amount-place = omega (arith, pre .watched-room .amounts-room);
@@ -70,12 +73,12 @@ breaks-requires c κs =
 slice-write-never : tie.Need-slice-write-never Inv-loop μ-loop
 slice-write-never c =
     let start = c .before .before .before .before .before .before .before .before .before .before .before .before in
-    omega (arith, c .before .loop-test .taken, c .before .before .loop .inv .0, c .before .before .loop .inv .1 .within, start .pre .1 .1 .1)
+    omega (arith, c .before .loop-test .taken, c .before .before .loop .inv .0, c .before .before .loop .inv .1 .held (c .before .before .loop .link - 1) (omega (arith, c .before .loop-test .taken)), start .pre .1 .1 .1)
 
 number-at-requires-2 : tie.Need-number-at-requires-2 Inv-loop μ-loop
 number-at-requires-2 c κs =
     let start = c .before .before .before .before .before .before .before .before .before .before .before .before in
-    omega (arith, c .before .loop-test .taken, c .before .before .loop .inv .1 .within, start .pre .1 .0 .nexts-room)
+    omega (arith, c .before .loop-test .taken, c .before .before .loop .inv .1 .held (c .before .before .loop .link - 1) (omega (arith, c .before .loop-test .taken)), start .pre .1 .0 .nexts-room)
 
 loop-less : tie.Need-loop-less Inv-loop μ-loop
 loop-less c =
@@ -85,7 +88,7 @@ loop-less c =
       arith,
       c .before .before .loop-test .taken,
       c .number-at2 .ensures,
-      start .pre .1 .0 .chained .next-in (loop .link - 1) (omega (arith, c .before .before .loop-test .taken, loop .inv .1 .within)),
+      next-in (start .args .n) (start .args .w) (start .args .wys .now) (start .args .heads .now) (start .args .nexts .now) (start .pre .1 .0 .chained) (loop .link - 1) (loop .inv .1 .held (loop .link - 1) (omega (arith, c .before .before .loop-test .taken))),
     )
 
 loop-again : tie.Need-loop-again Inv-loop μ-loop
@@ -97,11 +100,11 @@ loop-again c =
     let chained = start .pre .1 .0 .chained in
     let j = loop .link - 1 in
     let counted : loop .link ≡ suc j = omega (arith, c .before .before .loop-test .taken) in
-    let j-in : j < a .w = omega (arith, counted, loop .inv .1 .within) in
+    let j-in : j < a .w = loop .inv .1 .held j counted in
     let own : at (a .wys .now) j ≡ a .a = loop .inv .1 .own j counted in
     let room : j < length (loop .never) = omega (arith, j-in, loop .inv .0, start .pre .1 .1 .1) in (
       simp length-set (loop .inv .0),
-      rw (c .number-at2 .ensures) (link-next (a .n) (a .w) (a .wys .now) (a .heads .now) (a .nexts .now) chained (a .a) j j-in own),
+      rw (c .number-at2 .ensures) (link-next (a .n) (first (a .w)) number (a .wys .now) (a .heads .now) (a .nexts .now) chained (a .a) j j-in own),
       rw (c .number-at2 .ensures)
           (judging-next _ (a .n) (a .w) (a .wys .now) (a .heads .now) (a .nexts .now) chained (a .a) (a .never .now) j (c .before .breaks .result) (loop .never) j-in room own
           (verdict-same

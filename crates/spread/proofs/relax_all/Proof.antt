@@ -1,4 +1,7 @@
 -- `spread::relax_all` meets its contract. The loop's invariant: the rules of x from the link on have been relaxed. The measure is the link.
+use Rattle.leaf.specs.Lent.{first}
+use Rattle.chains.specs.Chains.{number}
+use Rattle.chains.proofs.Laws.{next-in}
 use Prim.Native.Nat.{suc, _-_, _<_}
 use mathlib.Core.Path.{_≡_, refl, _∙_}
 use lib.ListN.{length}
@@ -6,7 +9,7 @@ use Rattle.meaning.specs.Tables.{at}
 use Rattle.chains.proofs.Walk.{Link, link-head, link-next}
 use Rattle.waiting.specs.Waiting.{Led}
 use Rattle.spread.specs.Contracts.{StepsRoom}
-use Rattle.spread.proofs.Walking.{relaxable, room-kept, Walked, walked-none, walked-more}
+use Rattle.spread.proofs.Walking.{relaxable, room-kept, Walked, walked-none, walked-more, walked-all}
 use borrow.Author.Needs.{needs}
 use native.Mathlib.Omega.{arith}
 use Rattle.spread.proofs.relax_all.Statement.{statement}
@@ -14,8 +17,8 @@ use Rattle.spread.proofs.relax_all.Tie as tie
 
 abbrev Inv-loop : tie.InvT-loop
 Inv-loop n m xs ys cs days heads nexts x gains₀ by₀ list₀ places₀ leaders₀ k reach count₀ link₀ gains by list places leaders count link =
-    ((length gains ≡ length gains₀) × (length by ≡ length by₀) × (length list ≡ length list₀) × (length places ≡ length places₀) × (length leaders ≡ length leaders₀)) × Link m xs x link
-    × Walked n m xs ys cs days x (at heads x) link reach gains₀ by₀ list₀ k gains by list count × Led n (at gains) (at list) (at places) (at leaders) count
+    ((length gains ≡ length gains₀) × (length by ≡ length by₀) × (length list ≡ length list₀) × (length places ≡ length places₀) × (length leaders ≡ length leaders₀)) × Link (first m) xs x link
+    × Walked n (first m) number xs ys cs days x link reach gains₀ by₀ list₀ k gains by list count × Led n (at gains) (at list) (at places) (at leaders) count
 
 abbrev μ-loop : tie.MeasureT-loop
 μ-loop n m xs ys cs days heads nexts x gains₀ by₀ list₀ places₀ leaders₀ k reach count₀ link₀ gains by list places leaders count link =
@@ -56,9 +59,9 @@ loop-holds c =
     let ground = c .before .before .before .before .before .before .before .before .before .before .before .before .before .before .pre .0 in
     let head = c .number-at .ensures in (
       (refl, refl, refl, refl, refl),
-      rw head (link-head (a .n) (a .m) (a .xs .now) (a .heads .now) (a .nexts .now) (ground .chained) (a .x) (c .before .before .before .before .before .before .before .before .before .before .before .before .before .before .pre .1 .1 .1 .1)),
+      rw head (link-head (a .n) (first (a .m)) number (a .xs .now) (a .heads .now) (a .nexts .now) (ground .chained) (a .x) (c .before .before .before .before .before .before .before .before .before .before .before .before .before .before .pre .1 .1 .1 .1)),
       rw head
-          (walked-none (a .n) (a .m) (a .xs .now) (a .ys .now) (a .cs .now) (a .days .now) (a .x) (at (a .heads .now) (a .x)) _ (a .gains .now) (a .by .now) (a .list .now) (a .k)
+          (walked-none (a .n) (first (a .m)) number (a .xs .now) (a .ys .now) (a .cs .now) (a .days .now) (a .heads .now) (a .nexts .now) (a .x) _ (a .gains .now) (a .by .now) (a .list .now) (a .k) ground (c .before .before .before .before .before .before .before .before .before .before .before .before .before .before .pre .1 .1 .1 .1)
           (omega (arith, c .before .before .before .day-at .ensures, c .before .gain-at .ensures))
           (c .before .before .before .before .before .before .before .before .before .before .before .before .before .before .pre .1 .1 .0)),
       c .before .before .before .before .before .before .before .before .before .before .before .before .before .before .pre .1 .1 .1 .0,
@@ -79,16 +82,18 @@ relax-requires : tie.Need-relax-requires Inv-loop μ-loop
 relax-requires c κs =
     let a = c .before .before .before .before .before .before .before .before .before .before .before .before .before .before .before .before .before .before .before .before .before .args in
     let l = c .before .before .before .before .before .before .loop in (
-      relaxable (a .n) (a .m) (a .xs .now) (a .ys .now) (a .cs .now) (a .days .now) (a .heads .now) (a .nexts .now) (l .gains) (l .by) (l .list) (l .places) (l .leaders) (l .count) (l .link - 1)
+      relaxable (a .n) (first (a .m)) number (a .xs .now) (a .ys .now) (a .cs .now) (a .days .now) (a .heads .now) (a .nexts .now) (l .gains) (l .by) (l .list) (l .places) (l .leaders) (l .count) (l .link - 1)
           (c .before .before .before .before .before .before .before .before .before .before .before .before .before .before .before .before .before .before .before .before .before .pre .0)
-          (omega (arith, c .before .before .before .before .before .loop-test .taken, l .inv .1 .within))
+          (l .inv .1 .held (l .link - 1) (omega (arith, c .before .before .before .before .before .loop-test .taken)))
           (room c)
           (l .inv .2 .ready),
       (room c .room, l .inv .3),
     )
 
 number-at-requires-2 : tie.Need-number-at-requires-2 Inv-loop μ-loop
-number-at-requires-2 c κs = omega (arith, c .before .before .before .before .before .before .before .before .before .before .before .before .before .before .before .before .loop-test .taken, c .before .before .before .before .before .before .before .before .before .before .before .before .before .before .before .before .before .loop .inv .1 .within, c .before .before .before .before .before .before .before .before .before .before .before .before .before .before .before .before .before .before .before .before .before .before .before .before .before .before .before .before .before .before .before .before .pre .0 .nexts-room)
+number-at-requires-2 c κs =
+    let l = c .before .before .before .before .before .before .before .before .before .before .before .before .before .before .before .before .before .loop in
+    c .before .before .before .before .before .before .before .before .before .before .before .before .before .before .before .before .before .before .before .before .before .before .before .before .before .before .before .before .before .before .before .before .pre .0 .next-place (l .link - 1) (l .inv .1 .held (l .link - 1) (omega (arith, c .before .before .before .before .before .before .before .before .before .before .before .before .before .before .before .before .loop-test .taken)))
 
 loop-less : tie.Need-loop-less Inv-loop μ-loop
 loop-less c =
@@ -96,7 +101,8 @@ loop-less c =
       arith,
       c .before .before .before .before .before .before .before .before .before .before .before .before .before .before .before .before .before .loop-test .taken,
       c .number-at2 .ensures,
-      c .before .before .before .before .before .before .before .before .before .before .before .before .before .before .before .before .before .before .before .before .before .before .before .before .before .before .before .before .before .before .before .before .before .pre .0 .chained .next-in (c .before .before .before .before .before .before .before .before .before .before .before .before .before .before .before .before .before .before .loop .link - 1) (omega (arith, c .before .before .before .before .before .before .before .before .before .before .before .before .before .before .before .before .before .loop-test .taken, c .before .before .before .before .before .before .before .before .before .before .before .before .before .before .before .before .before .before .loop .inv .1 .within)),
+      next-in (c .before .before .before .before .before .before .before .before .before .before .before .before .before .before .before .before .before .before .before .before .before .before .before .before .before .before .before .before .before .before .before .before .before .args .n) (c .before .before .before .before .before .before .before .before .before .before .before .before .before .before .before .before .before .before .before .before .before .before .before .before .before .before .before .before .before .before .before .before .before .args .m) (c .before .before .before .before .before .before .before .before .before .before .before .before .before .before .before .before .before .before .before .before .before .before .before .before .before .before .before .before .before .before .before .before .before .args .xs .now) (c .before .before .before .before .before .before .before .before .before .before .before .before .before .before .before .before .before .before .before .before .before .before .before .before .before .before .before .before .before .before .before .before .before .args .heads .now) (c .before .before .before .before .before .before .before .before .before .before .before .before .before .before .before .before .before .before .before .before .before .before .before .before .before .before .before .before .before .before .before .before .before .args .nexts .now) (c .before .before .before .before .before .before .before .before .before .before .before .before .before .before .before .before .before .before .before .before .before .before .before .before .before .before .before .before .before .before .before .before .before .pre .0 .chained) (c .before .before .before .before .before .before .before .before .before .before .before .before .before .before .before .before .before .before .loop .link - 1)
+          (c .before .before .before .before .before .before .before .before .before .before .before .before .before .before .before .before .before .before .loop .inv .1 .held (c .before .before .before .before .before .before .before .before .before .before .before .before .before .before .before .before .before .before .loop .link - 1) (omega (arith, c .before .before .before .before .before .before .before .before .before .before .before .before .before .before .before .before .before .loop-test .taken))),
     )
 
 loop-again : tie.Need-loop-again Inv-loop μ-loop
@@ -106,7 +112,7 @@ loop-again c =
     let ground = c .before .before .before .before .before .before .before .before .before .before .before .before .before .before .before .before .before .before .before .before .before .before .before .before .before .before .before .before .before .before .before .before .before .pre .0 in
     let i = l .link - 1 in
     let counted : l .link ≡ suc i = omega (arith, c .before .before .before .before .before .before .before .before .before .before .before .before .before .before .before .before .before .loop-test .taken) in
-    let held : i < a .m = omega (arith, counted, l .inv .1 .within) in
+    let held : i < a .m = l .inv .1 .held i counted in
     let own : at (a .xs .now) i ≡ a .x = l .inv .1 .own i counted in (
       (
         c .before .before .before .before .before .before .before .before .before .before .before .relax .kept .1 .1 .1 .1 .1 .1 .0 ∙ l .inv .0 .0,
@@ -115,9 +121,9 @@ loop-again c =
         c .before .before .before .before .before .before .before .before .before .before .before .relax .kept .1 .1 .1 .1 .1 .1 .1 .1 .1 .0 ∙ l .inv .0 .3,
         c .before .before .before .before .before .before .before .before .before .before .before .relax .kept .1 .1 .1 .1 .1 .1 .1 .1 .1 .1 .0 ∙ l .inv .0 .4,
       ),
-      rw (c .number-at2 .ensures) (link-next (a .n) (a .m) (a .xs .now) (a .heads .now) (a .nexts .now) (ground .chained) (a .x) i held own),
+      rw (c .number-at2 .ensures) (link-next (a .n) (first (a .m)) number (a .xs .now) (a .heads .now) (a .nexts .now) (ground .chained) (a .x) i held own),
       rw (c .number-at2 .ensures)
-          (walked-more (a .n) (a .m) (a .xs .now) (a .ys .now) (a .cs .now) (a .days .now) (a .heads .now) (a .nexts .now) ground i held (at (a .heads .now) (a .x)) _
+          (walked-more (a .n) (first (a .m)) number (a .xs .now) (a .ys .now) (a .cs .now) (a .days .now) (a .heads .now) (a .nexts .now) ground i held _
           (a .gains .now) (a .by .now) (a .list .now) (a .k) (l .gains) (l .by) (l .list) (l .count) _ _ _ _ (a .x) own (c .before .before .before .before .before .before .before .before .before .before .before .relax .ensures .0)
           (rw counted at (l .inv .2))),
       c .before .before .before .before .before .before .before .before .before .before .before .relax .ensures .1,
@@ -142,8 +148,8 @@ returns : tie.Need-returns Inv-loop μ-loop
 returns c =
     let a = c .before .before .before .before .before .before .before .before .before .before .before .before .before .before .before .before .args in
     let done : c .before .loop .link ≡ 0 = omega (arith, c .loop-test .left) in
-    let w = rw done at (c .before .loop .inv .2) in
-    (record { ready = w .ready; no-more = w .no-more; past = w .past; keeps = w .keeps }, c .before .loop .inv .3)
+    let l = c .before .loop in
+    (walked-all (a .n) (first (a .m)) number (a .xs .now) (a .ys .now) (a .cs .now) (a .days .now) (a .x) _ (a .gains .now) (a .by .now) (a .list .now) (a .k) (l .gains) (l .by) (l .list) (l .count) (rw done at (l .inv .2)), l .inv .3)
 
 pub relax-all-spec : {M : Type 1} → statement M
 relax-all-spec =

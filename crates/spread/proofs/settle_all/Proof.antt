@@ -1,11 +1,13 @@
 -- `spread::settle_all` meets its contract. The loop's invariant: a turn can be made, and the state is one between two turns. The measure is how
 -- many steps are without gain or in the list, which each turn brings down.
+use Rattle.leaf.specs.Lent.{first}
+use Rattle.chains.specs.Chains.{number}
 use Prim.Native.Nat.{ℕ, _+_, _≤_}
 use mathlib.Core.Path.{_≡_, refl, _∙_}
 use lib.ListN.{length}
 use Rattle.meaning.specs.Tables.{at}
 use Rattle.waiting.specs.Waiting.{Led}
-use Rattle.spread.specs.Ground.{rules, first}
+use Rattle.spread.specs.Ground.{rules}
 use Rattle.spread.specs.State.{without-gain, Ready, BetweenTurns}
 use Rattle.spread.proofs.Walking.{room-kept}
 use Rattle.spread.proofs.Ends.{stopped}
@@ -49,7 +51,7 @@ returns c = λ low b.
     let a = c .before .before .before .before .before .before .before .before .before .before .before .before .before .before .before .args in
     let l = c .before .before .before .before .loop in
     let met = c .before .reached .ensures .so (c .if1 .taken) in
-    stopped (a .n) (a .m) (a .xs .now) (a .ys .now) (a .cs .now) (a .days .now) (a .heads .now) (a .nexts .now) (a .goal) low (a .gains .now) (l .gains) (l .by) (l .list)
+    stopped (a .n) (first (a .m)) number (a .xs .now) (a .ys .now) (a .cs .now) (a .days .now) (a .heads .now) (a .nexts .now) (a .goal) low (a .gains .now) (l .gains) (l .by) (l .list)
     (l .left) (c .before .before .before .before .before .before .before .before .before .before .before .before .before .before .before .pre .0) (l .inv .4 low b) (λ short. absurd (omega (arith, met .1, short (met .0)))) (l .inv .3)
 
 turn-requires : tie.Need-turn-requires Inv-loop μ-loop
@@ -102,7 +104,7 @@ returns-2 : tie.Need-returns-2 Inv-loop μ-loop
 returns-2 c = λ low b.
     let a = c .before .before .before .before .before .before .before .before .before .before .before .before .args in
     let l = c .before .loop in
-    stopped (a .n) (a .m) (a .xs .now) (a .ys .now) (a .cs .now) (a .days .now) (a .heads .now) (a .nexts .now) (a .goal) low (a .gains .now) (l .gains) (l .by) (l .list)
+    stopped (a .n) (first (a .m)) number (a .xs .now) (a .ys .now) (a .cs .now) (a .days .now) (a .heads .now) (a .nexts .now) (a .goal) low (a .gains .now) (l .gains) (l .by) (l .list)
     (l .left) (c .before .before .before .before .before .before .before .before .before .before .before .before .pre .0) (l .inv .4 low b) (λ short. omega (arith, c .loop-test .left)) (l .inv .3)
 
 pub settle-all-spec : {M : Type 1} → statement M

@@ -1,8 +1,9 @@
 -- `spread::spread` meets its contract: the steps with a gain are collected, and then all turns made.
+use Rattle.leaf.specs.Lent.{first}
 use Prim.Native.Nat.{_+_}
 use mathlib.Core.Path.{refl}
 use Rattle.meaning.specs.Tables.{at}
-use Rattle.spread.specs.Ground.{rules, first}
+use Rattle.spread.specs.Ground.{rules}
 use Rattle.spread.proofs.Ends.{no-turn-yet, collected-ready}
 use native.Mathlib.Omega.{arith}
 use borrow.Author.Needs.{needs}

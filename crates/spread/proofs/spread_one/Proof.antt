@@ -1,11 +1,12 @@
 -- `spread::spread_one` meets its contract: one step is given its gain, and then all turns made.
+use Rattle.leaf.specs.Lent.{first}
 use Prim.Native.Nat.{ℕ, _+_, _^_, _<_}
 use native.Mathlib.Decide.{ℕ-discrete}
 use mathlib.Core.Path.{_≡_, _∙_, ap}
 use Rattle.meaning.specs.Tables.{at}
 use Rattle.waiting.specs.Waiting.{Put}
 use Rattle.spread.specs.Contracts.{alone}
-use Rattle.spread.specs.Ground.{rules, first}
+use Rattle.spread.specs.Ground.{rules}
 use Rattle.spread.proofs.Collecting.{alone-is}
 use Rattle.spread.proofs.Ends.{no-turn-yet, collected-ready, from-before}
 use native.Mathlib.Omega.{arith}
@@ -81,7 +82,7 @@ returns c =
     let begun = c .before .before .before .before .before .before .before .before .before .before .before .before .before .before .before .before .before .before .before .before .begin .ensures .0 in
     let low : ℕ → ℕ = λ v. at (a .days .now) v + alone (a .y) (a .gain) v in
     let begin = c .before .before .before .before .before .before .before .before .before .before .before .before .before .before .before .before .before .before .before .before .begin in
-    from-before (a .n) (a .m) (a .xs .now) (a .ys .now) (a .cs .now) (a .days .now) (a .goal) low (a .gains .now) (begin .last .1 .1 .1 .0) _ _ (a .y) (a .gain) (pre .step-in)
+    from-before (a .n) (first (a .m)) (a .xs .now) (a .ys .now) (a .cs .now) (a .days .now) (a .goal) low (a .gains .now) (begin .last .1 .1 .1 .0) _ _ (a .y) (a .gain) (pre .step-in)
     (begun .asked)
     (c .before .before .before .before .before .before .before .settle-all .ensures low
     (no-turn-yet (a .n) (rules (a .xs .now) (a .ys .now) (a .cs .now)) (first (a .m)) (at (a .days .now)) low (at (begin .last .1 .1 .1 .0))

@@ -1,4 +1,6 @@
 -- `spread::turn` meets its contract.
+use Rattle.leaf.specs.Lent.{first}
+use Rattle.chains.specs.Chains.{number}
 use mathlib.Core.Path.{refl, sym}
 use Rattle.meaning.specs.Tables.{at}
 use Rattle.spread.proofs.Walking.{room-kept}
@@ -49,7 +51,7 @@ returns : tie.Need-returns
 returns c =
     let a = c .before .before .before .before .before .before .before .before .before .before .before .before .before .before .before .before .before .before .before .before .before .before .before .before .before .before .before .before .before .before .before .before .before .before .before .before .before .args in
     let taken = c .before .before .before .before .before .before .before .before .before .before .before .before .before .before .before .before .before .before .before .before .before .before .take .ensures in (
-      turned (a .n) (a .m) (a .xs .now) (a .ys .now) (a .cs .now) (a .days .now) (a .heads .now) (a .nexts .now) (a .gains .now) (a .by .now) (a .list .now)
+      turned (a .n) (first (a .m)) number (a .xs .now) (a .ys .now) (a .cs .now) (a .days .now) (a .heads .now) (a .nexts .now) (a .gains .now) (a .by .now) (a .list .now)
           (c .before .before .before .before .before .before .before .before .before .before .before .before .before .before .before .before .before .before .before .before .before .before .take .last .1 .1 .0) (a .k) (taken .place) _ _ _ _ (c .before .before .before .before .before .before .before .before .before .before .before .before .before .before .before .before .before .before .before .before .before .before .before .before .before .before .before .before .before .before .before .before .before .before .before .before .before .pre .0)
           (c .before .before .before .before .before .before .before .before .before .before .before .before .before .before .before .before .before .before .before .before .before .before .before .before .before .before .before .before .before .before .before .before .before .before .before .before .before .pre .1 .1 .0 .listed-in (taken .place) (taken .largest .place-in)) (taken .largest) (taken .out)
           (rw (sym (taken .there)) at (c .before .before .before .before .before .before .before .before .before .before .relax-all .ensures .0)),
