@@ -13,36 +13,41 @@ use Rattle.meaning.specs.Tables.{Tables, at}
 use Rattle.meaning.specs.Calls.{rules-of, held-in}
 use Rattle.meaning.proofs.Theory.{more-fits}
 use Rattle.chains.specs.Chains.{number, Linkable, Pushed}
-use Rattle.leaf.specs.Lent.{columns, tables}
-use Rattle.leaf.specs.Promises.{Border, rule}
+use Rattle.leaf.specs.Lent.{columns, first}
+use Rattle.leaf.specs.Idle.{idle, unwatched}
+use Rattle.leaf.specs.Promises.{rule}
 use Rattle.inside.proofs.Equal.{tables-equal}
-use Rattle.leaf.specs.Lent.{first}
 use Rattle.newrule.specs.Lending.{Ready, LentChains}
 use Rattle.newrule.specs.Fit.{Tells, one-more}
 use Rattle.newrule.proofs.Answers.{base}
 use Rattle.script.specs.Effect.{Holds}
-use Rattle.asserts.specs.One.{AddsOne}
+use Rattle.asserts.specs.One.{WithMarks, AddsOne}
 use Rattle.asserts.proofs.Linking.{linkable, chains-pushed}
 
 module _
-    (counts : Counts) (xs ys : List ℕ) (cs : List ℤ) (days marks wxs wys : List ℕ) (wcs : List ℤ) (heads nexts : List ℕ) (x y : ℕ) (c : ℤ)
+    (counts : Counts) (xs ys : List ℕ) (cs : List ℤ) (days heads nexts : List ℕ) (x y : ℕ) (c : ℤ)
     (asked :
-    Border (tables counts xs ys cs days marks wxs wys wcs)
+    WithMarks counts xs ys cs days
     × (LentChains (counts .steps) (counts .rules) xs heads nexts × (InBounds (counts .steps) (rule x y c) × ((counts .rules < RULES) × (RULES ≤ length nexts))))) where
-  abbrev before : Tables
-  before = tables counts xs ys cs days marks wxs wys wcs
+  abbrev before : List ℕ → Tables
+  before = unwatched counts xs ys cs days
 
   -- The rule can be tried.
   pub ready : Ready (counts .steps) (first (counts .rules)) number (counts .rules) xs ys cs days heads nexts x y c
-  ready = record { base = base counts xs ys cs days marks wxs wys wcs (asked .0) heads nexts (asked .1 .0); new-good = asked .1 .1 .0; free = λ h. omega arith; not-full = asked .1 .1 .1 .0 }
+  ready = record {
+    base = base counts xs ys cs days (asked .0 .0) (idle .firsts) (idle .seconds) (idle .amounts) (asked .0 .1) heads nexts (asked .1 .0);
+    new-good = asked .1 .1 .0;
+    free = λ h. omega arith;
+    not-full = asked .1 .1 .1 .0;
+  }
 
   module _
       (fits : Bool) (moved : ℕ) (xs′ ys′ : List ℕ) (cs′ : List ℤ) (days′ : List ℕ)
       (tells : Tells (counts .steps) (first (counts .rules)) (counts .rules) (rule x y c) (columns xs ys cs) days fits moved (columns xs′ ys′ cs′) days′) where
-    -- Where it fits, it is held with one more rule counted.
-    holds : fits ≡ true → (after : Counts) → after ≡ one-more counts → Holds (rule x y c) before (tables after xs′ ys′ cs′ days′ marks wxs wys wcs)
-    holds is after counted = record {
-      fits = more-fits (rules-of before) (held-in before) (counts .rules) (rule x y c) (λ h. omega arith) (λ v. pos (at days′ v)) (tells .when-fits is .planned .earliest .plan);
+    -- Where it fits, it is held with one more rule counted, whatever the marks are.
+    holds : fits ≡ true → (after : Counts) → after ≡ one-more counts → (marks : List ℕ) → Holds (rule x y c) (before marks) (unwatched after xs′ ys′ cs′ days′ marks)
+    holds is after counted marks = record {
+      fits = more-fits (rules-of (before marks)) (held-in (before marks)) (counts .rules) (rule x y c) (λ h. omega arith) (λ v. pos (at days′ v)) (tells .when-fits is .planned .earliest .plan);
       rule-held = tables-equal _ _ counted (tells .when-fits is .written) refl refl refl;
       planned = tells .when-fits is .planned;
     }
@@ -50,23 +55,25 @@ module _
     -- Then it can be put on its chain, and with that it is added.
     pub new-linkable : fits ≡ true → Linkable (counts .rules) xs′ heads nexts
     new-linkable is =
-        linkable (rule x y c) before (tables (one-more counts) xs′ ys′ cs′ days′ marks wxs wys wcs) (holds is (one-more counts) refl) heads nexts (asked .0) (asked .1 .1 .0)
-        (asked .1 .1 .1 .0) (asked .1 .0) (asked .1 .1 .1 .1)
+        linkable (rule x y c) (before (asked .0 .0)) (unwatched (one-more counts) xs′ ys′ cs′ days′ (asked .0 .0)) (holds is (one-more counts) refl (asked .0 .0)) heads nexts (asked .0 .1)
+        (asked .1 .1 .0) (asked .1 .1 .1 .0) (asked .1 .0) (asked .1 .1 .1 .1)
 
     pub one-held :
         fits ≡ true → (after : Counts) → after ≡ one-more counts → (heads′ nexts′ : List ℕ) → Pushed (counts .rules) xs′ heads nexts heads′ nexts′ →
-        AddsOne (rule x y c) before false (tables after xs′ ys′ cs′ days′ marks wxs wys wcs) × LentChains (after .steps) (after .rules) xs′ heads′ nexts′
+        ((marks : List ℕ) → AddsOne (rule x y c) (before marks) false (unwatched after xs′ ys′ cs′ days′ marks)) × LentChains (after .steps) (after .rules) xs′ heads′ nexts′
     one-held is after counted heads′ nexts′ pushed = (
-      record { held-now = λ e. holds is after counted; unfit = λ e. absurd (false≢true e); unchanged = λ e. absurd (false≢true e) },
-      chains-pushed (rule x y c) before (tables after xs′ ys′ cs′ days′ marks wxs wys wcs) (holds is after counted) heads nexts (asked .0) (asked .1 .1 .0)
+      λ marks. record { held-now = λ e. holds is after counted marks; unfit = λ e. absurd (false≢true e); unchanged = λ e. absurd (false≢true e) },
+      chains-pushed (rule x y c) (before (asked .0 .0)) (unwatched after xs′ ys′ cs′ days′ (asked .0 .0)) (holds is after counted (asked .0 .0)) heads nexts (asked .0 .1) (asked .1 .1 .0)
           (asked .1 .1 .1 .0) (asked .1 .0) (asked .1 .1 .1 .1) heads′ nexts′ pushed,
     )
 
     -- Where it does not fit, nothing changed.
-    pub one-clash : fits ≡ false → AddsOne (rule x y c) before true (tables counts xs′ ys′ cs′ days′ marks wxs wys wcs) × LentChains (counts .steps) (counts .rules) xs′ heads nexts
+    pub one-clash :
+        fits ≡ false →
+        ((marks : List ℕ) → AddsOne (rule x y c) (before marks) true (unwatched counts xs′ ys′ cs′ days′ marks)) × LentChains (counts .steps) (counts .rules) xs′ heads nexts
     one-clash is =
         let left = tells .when-not is in
-        let stays : tables counts xs′ ys′ cs′ days′ marks wxs wys wcs ≡ before = tables-equal _ _ refl (left .rules-stay) (left .days-stay) refl refl in (
-          record { held-now = λ e. absurd (true≢false e); unfit = λ e. left .unfit; unchanged = λ e. stays },
-          subst (λ (t : Tables). LentChains (t .counts .steps) (t .counts .rules) (t .rules .firsts) heads nexts) (sym stays) (asked .1 .0),
+        let stays : (marks : List ℕ) → unwatched counts xs′ ys′ cs′ days′ marks ≡ before marks = λ marks. tables-equal _ _ refl (left .rules-stay) (left .days-stay) refl refl in (
+          λ marks. record { held-now = λ e. absurd (true≢false e); unfit = λ e. left .unfit; unchanged = λ e. stays marks },
+          subst (λ (t : Tables). LentChains (t .counts .steps) (t .counts .rules) (t .rules .firsts) heads nexts) (sym (stays (asked .0 .0))) (asked .1 .0),
         )

@@ -12,6 +12,7 @@ use Rattle.meaning.specs.Rules.{Rule, InBounds, InAmount}
 use Rattle.meaning.specs.Tables.{Tables}
 use Rattle.meaning.specs.Promise.{First}
 use Rattle.meaning.proofs.Sequences.{Kept}
+use Rattle.leaf.specs.Idle.{idle}
 use Rattle.leaf.specs.Promises.{Border, rule}
 use Rattle.text.specs.Lexicon.{bytes}
 use Rattle.names.specs.Names.{Found, AllDifferent}
@@ -21,6 +22,7 @@ use Rattle.script.specs.Record.{KnownIn, step-in}
 use Rattle.script.specs.Effect.{resolved, Holds, AddsAll}
 use Rattle.script.specs.Commands.{rule-needs}
 use Rattle.script.proofs.Adding.{holds-kept}
+use Rattle.script.proofs.Beside.{beside, adds-beside}
 use Rattle.script.proofs.Seeking.{step-is}
 use Rattle.asserts.specs.One.{AddsOne}
 
@@ -55,9 +57,16 @@ module _ (n : ℕ) (names lens : List ℕ) where
       record { border = border; named-steps = named; needed = needed; places = places; goes-on = λ clash u h. h }
 
   module _ (all : List Named) (start : Tables) where
+    -- All are added from the start on: then so with any marks.
+    abbrev AllAdded : Bool → Tables → Type 0
+    AllAdded clash u = (marks : List ℕ) → AddsAll (map (in-steps n names lens) all) (beside (λ m. marks) idle start) clash (beside (λ m. marks) idle u)
+
+    with-any-marks : (clash : Bool) (u : Tables) → AddsAll (map (in-steps n names lens) all) start clash u → AllAdded clash u
+    with-any-marks clash u adds marks = adds-beside (λ m. marks) idle (map (in-steps n names lens) all) start clash u adds
+
     -- With no rule left, all are added.
-    pub left-none : (rs : List Named) (t : Tables) → rs ≡ [] → Left n names lens all start rs t → AddsAll (map (in-steps n names lens) all) start false t
-    left-none rs t none left = (subst (λ (l : List Named). Left n names lens all start l t) none left) .goes-on false t (refl, refl)
+    pub left-none : (rs : List Named) (t : Tables) → rs ≡ [] → Left n names lens all start rs t → AllAdded false t
+    left-none rs t none left = with-any-marks false t ((subst (λ (l : List Named). Left n names lens all start l t) none left) .goes-on false t (refl, refl))
 
     module _ (a : Named) (rs : List Named) (t : Tables) (left : Left n names lens all start (a ∷ rs) t) where
       -- The needs of the next rule are met.
@@ -84,8 +93,8 @@ module _ (n : ℕ) (names lens : List ℕ) where
 
       -- The next rule does not fit: adding stops.
       pub left-clash :
-          (clash : Bool) (u : Tables) → clash ≡ true → AddsOne (in-steps n names lens a) t clash u → AddsAll (map (in-steps n names lens) all) start clash u
-      left-clash clash u is one = left .goes-on clash u (inl (one .unfit is, (one .unchanged is, is)))
+          (clash : Bool) (u : Tables) → clash ≡ true → AddsOne (in-steps n names lens a) t clash u → AllAdded clash u
+      left-clash clash u is one = with-any-marks clash u (left .goes-on clash u (inl (one .unfit is, (one .unchanged is, is))))
 
       -- The next rule is held: the others are left to add.
       pub left-held : (clash : Bool) (u : Tables) → clash ≡ false → AddsOne (in-steps n names lens a) t clash u → Left n names lens all start rs u
@@ -128,7 +137,7 @@ module _
   pub atom-place : t .counts .rules < RULES
   atom-place = next-place n names lens all start (atom-rule s a) (rules-at s (a .next)) t left-here
 
-  pub atom-clash : (clash : Bool) (u : Tables) → clash ≡ true → AddsOne (rule x y (a .amount)) t clash u → AddsAll (map (in-steps n names lens) all) start clash u
+  pub atom-clash : (clash : Bool) (u : Tables) → clash ≡ true → AddsOne (rule x y (a .amount)) t clash u → AllAdded n names lens all start clash u
   atom-clash clash u is one =
       left-clash n names lens all start (atom-rule s a) (rules-at s (a .next)) t left-here clash u is (subst (λ (r : Rule). AddsOne r t clash u) (sym rule-is) one)
 

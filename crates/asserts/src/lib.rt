@@ -1,21 +1,21 @@
 // Adding the rules of an asserted term, from left to right, up to the first conflict.
 ghost use mathlib.Core.Path.{_≡_};
-ghost use mathlib.Core.List.{[], map};
-ghost use Prim.Native.Nat.{_+_, _≤_, _<_};
+ghost use mathlib.Core.List.{List, [], map};
+ghost use Prim.Native.Nat.{ℕ, _+_, _≤_, _<_};
 ghost use lib.ListN.{length};
 ghost use Rattle.meaning.specs.Bounds.{RULES, DONE};
 ghost use Rattle.meaning.specs.Rules.{InBounds};
 ghost use Rattle.meaning.specs.Promise.{First};
 ghost use Rattle.text.specs.Table.{TABLE};
-ghost use Rattle.leaf.specs.Lent.{tables};
-ghost use Rattle.leaf.specs.Promises.{Border, rule};
+ghost use Rattle.leaf.specs.Idle.{unwatched};
+ghost use Rattle.leaf.specs.Promises.{rule};
 ghost use Rattle.newrule.specs.Lending.{LentChains};
 ghost use Rattle.names.specs.Names.{Shelved, Indexed, AllDifferent};
 ghost use Rattle.atoms.specs.Atoms.{rules-at};
 ghost use Rattle.script.specs.Record.{KnownIn, step-in};
 ghost use Rattle.script.specs.Effect.{resolved, AddsAll};
 ghost use Rattle.script.specs.Commands.{rule-needs};
-ghost use Rattle.asserts.specs.One.{AddsOne};
+ghost use Rattle.asserts.specs.One.{WithMarks, AddsOne};
 use meaning::Counts;
 
 // What adding rules came to: the counts after it, and whether one of the rules did not fit.
@@ -31,26 +31,20 @@ fn add_one(
     ys: &mut [u16],
     cs: &mut [i32],
     days: &mut [u32],
-    marks: &[u32],
-    wxs: &[u16],
-    wys: &[u16],
-    wcs: &[i32],
     heads: &mut [u16],
     nexts: &mut [u16],
     x: u16,
     y: u16,
     c: i32,
 ) -> Added
-    requires { ⌜ Border (tables counts (now xs) (now ys) (now cs) (now days) (now marks) (now wxs) (now wys) (now wcs)) ⌝ }
+    requires { ⌜ WithMarks counts (now xs) (now ys) (now cs) (now days) ⌝ }
     requires { ⌜ LentChains (counts .steps) (counts .rules) (now xs) (now heads) (now nexts) ⌝ }
     requires { ⌜ InBounds (counts .steps) (rule x y c) ⌝ }
     requires { ⌜ counts .rules < RULES ⌝ }
     requires { ⌜ RULES ≤ length (now nexts) ⌝ }
-    ensures { λ r. ⌜
-        AddsOne (rule x y c)
-        (tables counts (now (xs .entry)) (now (ys .entry)) (now (cs .entry)) (now (days .entry)) (now (marks .entry)) (now (wxs .entry)) (now (wys .entry)) (now (wcs .entry)))
-        (r .clash)
-        (tables (r .counts) (now (xs .exit)) (now (ys .exit)) (now (cs .exit)) (now (days .exit)) (now (marks .entry)) (now (wxs .entry)) (now (wys .entry)) (now (wcs .entry))) ⌝ }
+    ensures { λ r. ⌜ ((marks : List ℕ) →
+        AddsOne (rule x y c) (unwatched counts (now (xs .entry)) (now (ys .entry)) (now (cs .entry)) (now (days .entry)) marks)
+        (r .clash) (unwatched (r .counts) (now (xs .exit)) (now (ys .exit)) (now (cs .exit)) (now (days .exit)) marks)) ⌝ }
     ensures { λ r. ⌜ LentChains (r .counts .steps) (r .counts .rules) (now (xs .exit)) (now (heads .exit)) (now (nexts .exit)) ⌝ }
 {
     let n = counts.steps as usize;
@@ -85,10 +79,6 @@ pub fn add_rules(
     ys: &mut [u16],
     cs: &mut [i32],
     days: &mut [u32],
-    marks: &[u32],
-    wxs: &[u16],
-    wys: &[u16],
-    wcs: &[i32],
     heads: &mut [u16],
     nexts: &mut [u16],
 ) -> Added
@@ -100,14 +90,13 @@ pub fn add_rules(
     requires { ⌜ n ≤ counts .steps ⌝ }
     requires { ⌜ First (rule-needs (KnownIn n (now names) (now lens)) (rules-at (now s) at) []) DONE ⌝ }
     requires { ⌜ counts .rules + length (rules-at (now s) at) ≤ RULES ⌝ }
-    requires { ⌜ Border (tables counts (now xs) (now ys) (now cs) (now days) (now marks) (now wxs) (now wys) (now wcs)) ⌝ }
+    requires { ⌜ WithMarks counts (now xs) (now ys) (now cs) (now days) ⌝ }
     requires { ⌜ LentChains (counts .steps) (counts .rules) (now xs) (now heads) (now nexts) ⌝ }
     requires { ⌜ RULES ≤ length (now nexts) ⌝ }
-    ensures { λ r. ⌜
+    ensures { λ r. ⌜ ((marks : List ℕ) →
         AddsAll (map (resolved (step-in n (now (names .entry)) (now (lens .entry)))) (rules-at (now (s .entry)) at))
-        (tables counts (now (xs .entry)) (now (ys .entry)) (now (cs .entry)) (now (days .entry)) (now (marks .entry)) (now (wxs .entry)) (now (wys .entry)) (now (wcs .entry)))
-        (r .clash)
-        (tables (r .counts) (now (xs .exit)) (now (ys .exit)) (now (cs .exit)) (now (days .exit)) (now (marks .entry)) (now (wxs .entry)) (now (wys .entry)) (now (wcs .entry))) ⌝ }
+        (unwatched counts (now (xs .entry)) (now (ys .entry)) (now (cs .entry)) (now (days .entry)) marks)
+        (r .clash) (unwatched (r .counts) (now (xs .exit)) (now (ys .exit)) (now (cs .exit)) (now (days .exit)) marks)) ⌝ }
     ensures { λ r. ⌜ LentChains (r .counts .steps) (r .counts .rules) (now (xs .exit)) (now (heads .exit)) (now (nexts .exit)) ⌝ }
 {
     let mut i = at;
@@ -126,22 +115,7 @@ pub fn add_rules(
         let yb = a.yb;
         let x = names::find(names, lens, hashes, name_heads, name_nexts, n, s, xa, xb) as u16;
         let y = names::find(names, lens, hashes, name_heads, name_nexts, n, s, ya, yb) as u16;
-        let added = add_one(
-            held,
-            xs,
-            ys,
-            cs,
-            days,
-            marks,
-            wxs,
-            wys,
-            wcs,
-            heads,
-            nexts,
-            x,
-            y,
-            a.amount,
-        );
+        let added = add_one(held, xs, ys, cs, days, heads, nexts, x, y, a.amount);
         if added.clash {
             return added;
         }

@@ -29,7 +29,8 @@ use Rattle.script.proofs.Needed.{EachRule, done-first}
 use Rattle.script.proofs.Granted.{Places, assert-met, push-met}
 use Rattle.script.proofs.Adding.{adds-kept}
 use Rattle.script.proofs.Keeping.{Fine, tables-kept, tables-border, rules-in, map-length}
-use Rattle.carry.specs.Carrying.{term-place, pushes, pops, printed, noted, Same, Declares}
+use Rattle.telling.specs.Telling.{printed, noted, Declares}
+use Rattle.moving.specs.Moving.{term-place, pushes, pops}
 
 -- What is lent, part by part.
 abbrev pub lend : Tables → Notes → List ℕ → List ℕ → List ℕ → Lent

@@ -1,3 +1,3 @@
--- What the proofs of the carrier share.
+-- What the parts of a command come to.
+pub mod Granting
 pub mod Composing
-pub mod Moving

@@ -5,7 +5,7 @@ ghost use Prim.Native.Nat.{_≤_, _<_};
 ghost use lib.ListN.{length};
 ghost use Rattle.meaning.specs.Bounds.{ROOM, TEXT};
 ghost use Rattle.text.specs.Table.{TABLE};
-ghost use Rattle.carry.specs.Carrying.{lent, Maintained};
+ghost use Rattle.carry.specs.Carrying.{in-hand, Maintained};
 use meaning::Counts;
 use script::Notes;
 
@@ -33,9 +33,6 @@ fn answer(
     cs: &mut [i32],
     days: &mut [u32],
     marks: &mut [u32],
-    wxs: &[u16],
-    wys: &[u16],
-    wcs: &[i32],
     heads: &mut [u16],
     nexts: &mut [u16],
     kept: &mut [u32],
@@ -47,7 +44,7 @@ fn answer(
     out: &mut [u8],
 )
     requires { ⌜ now tab ≡ TABLE ⌝ }
-    requires { ⌜ Maintained 0 (lent counts (now xs) (now ys) (now cs) (now days) (now marks) (now wxs) (now wys) (now wcs) notes (now names) (now lens) (now out)) (now heads) (now nexts) (now kept) (now hashes) (now «name_heads») (now «name_nexts») ⌝ }
+    requires { ⌜ Maintained (in-hand counts (now xs) (now ys) (now cs) (now days) (now marks) notes (now names) (now lens) (now out)) (now heads) (now nexts) (now kept) (now hashes) (now «name_heads») (now «name_nexts») ⌝ }
     requires { ⌜ ROOM ≤ length (now out) ⌝ }
 {
     let mut at = 0;
@@ -65,9 +62,6 @@ fn answer(
             cs,
             days,
             marks,
-            wxs,
-            wys,
-            wcs,
             heads,
             nexts,
             kept,
@@ -96,9 +90,6 @@ fn play(s: &[u8]) {
     let mut cs = [0i32; meaning::RULES];
     let mut days = [0u32; meaning::STEPS];
     let mut marks = [0u32; meaning::MARKS];
-    let wxs = [0u16; meaning::WATCHED];
-    let wys = [0u16; meaning::WATCHED];
-    let wcs = [0i32; meaning::WATCHED];
     let mut heads = [0u16; meaning::STEPS];
     let mut nexts = [0u16; meaning::RULES];
     let mut kept = [0u32; levels::KEPT];
@@ -128,9 +119,6 @@ fn play(s: &[u8]) {
         &mut cs,
         &mut days,
         &mut marks,
-        &wxs,
-        &wys,
-        &wcs,
         &mut heads,
         &mut nexts,
         &mut kept,

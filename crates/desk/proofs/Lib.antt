@@ -1,2 +1,3 @@
 -- Laws that the proofs of the public calls share.
+pub mod Entering
 pub mod Parts

@@ -33,7 +33,7 @@ module _
   lent = record { tables = t; one = one; two = two }
 
   abbrev g : Given
-  g = given (r .answer)
+  g = given r
 
   -- After Trial kept its promise the part is the days of all steps, the ring, or nothing.
   pub part-handed : Handed (rule x y c) t g one-start two-start start part
@@ -67,14 +67,14 @@ module _
 pub part-determined :
     {P : Type 0} (one-start two-start : P) (one two : List ℕ) (reply : Reply) (start start′ : P) (part part′ : List ℕ)
     → TrialPart one-start two-start one two reply start part → TrialPart one-start two-start one two reply start′ part′ → (start ≡ start′) × (part ≡ part′)
-part-determined {P} one-start two-start one two reply start start′ part part′ a b = tell (ℕ-discrete (given (reply .answer) .number) DONE)
+part-determined {P} one-start two-start one two reply start start′ part part′ a b = tell (ℕ-discrete (reply .number) DONE)
   where
     same : (list-start : P) (list : List ℕ) (k : ℕ) → PartOf list-start list k start part → PartOf list-start list k start′ part′ → (start ≡ start′) × (part ≡ part′)
     same list-start list k p q = (p .same-start ∙ sym (q .same-start), p .holds ∙ sym (q .holds))
 
-    tell : Dec (given (reply .answer) .number ≡ DONE) → (start ≡ start′) × (part ≡ part′)
+    tell : Dec (reply .number ≡ DONE) → (start ≡ start′) × (part ≡ part′)
     tell (yes e) = same one-start one (reply .counts .steps) (a .days-part e) (b .days-part e)
-    tell (no n) = same two-start two (given (reply .answer) .one) (a .ring-part n) (b .ring-part n)
+    tell (no n) = same two-start two (reply .one) (a .ring-part n) (b .ring-part n)
 
 -- How many places are asked for may be put in other words.
 pub part-as : {P : Type 0} {list-start start : P} {list part : List ℕ} {j k : ℕ} → j ≡ k → PartOf list-start list j start part → PartOf list-start list k start part

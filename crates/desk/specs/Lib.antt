@@ -1,2 +1,3 @@
 -- What the public calls' contracts cite beside the promises.
+pub mod Entry
 pub mod Part

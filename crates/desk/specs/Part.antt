@@ -7,7 +7,7 @@ use Rattle.meaning.specs.declared.Reply.{Reply}
 use Rattle.meaning.specs.Bounds.{DONE, CONFLICT}
 use Rattle.meaning.specs.Rules.{Rule, Earliest, Refutes}
 use Rattle.meaning.specs.Tables.{Tables, at}
-use Rattle.meaning.specs.Promise.{Given, given}
+use Rattle.meaning.specs.Promise.{Given}
 use Rattle.meaning.specs.Calls.{rules-of, held-in, next-in, rules-and, held-and}
 
 -- The part starts where the list starts and holds its first k places; all of it where the list has no more.
@@ -18,8 +18,8 @@ pub record PartOf {P : Type 0} (list-start : P) (list : List ℕ) (k : ℕ) (sta
 -- The part handed back after a Trial that gave this reply and left these lists: where the answer is DONE, of list one a place for each step; else of
 -- list two as many places as the value says.
 pub record TrialPart {P : Type 0} (one-start two-start : P) (one two : List ℕ) (reply : Reply) (start : P) (part : List ℕ) : Type 0 where
-  pub days-part : given (reply .answer) .number ≡ DONE → PartOf one-start one (reply .counts .steps) start part
-  pub ring-part : (given (reply .answer) .number ≡ DONE → ⊥) → PartOf two-start two (given (reply .answer) .one) start part
+  pub days-part : reply .number ≡ DONE → PartOf one-start one (reply .counts .steps) start part
+  pub ring-part : (reply .number ≡ DONE → ⊥) → PartOf two-start two (reply .one) start part
 
 -- What a caller of Trial with the rule r then has in the part: the days of all steps, which are the earliest plan with r, at the start of list one; on
 -- CONFLICT the ring, and on any other refusal nothing, at the start of list two.

@@ -1,18 +1,37 @@
 // The eight public calls. Each takes whatever it is lent, has no condition on it, and keeps the promise that its contract states: it tests the
 // room, then whether the tables are sound, and then does its work.
-ghost use mathlib.Core.Path.{_≡_};
-ghost use Rattle.meaning.specs.Promise.{given};
+ghost use Prim.Native.Nat.{_≤_};
+ghost use lib.ListN.{length};
+ghost use Rattle.meaning.specs.Bounds.{STEPS, RULES};
 ghost use Rattle.leaf.specs.Decides.{Decides};
+ghost use Rattle.desk.specs.Entry.{Entered};
 ghost use Rattle.desk.specs.Part.{PartOf, TrialPart};
 ghost use Rattle.leaf.specs.Lent.{tables};
 ghost use Rattle.leaf.specs.Promises.{Opens, Watches, Adds, Marks, GoesBack, Tries, Splits, ChecksRing};
-ghost use Rattle.meaning.specs.Tables.{Room, Sound};
-use meaning::Answer;
 use meaning::Counts;
 use meaning::Reply;
 
-// Whether the tables, which have room, are sound.
-fn stands(
+// Whether the list has at least k places.
+fn has(k: usize, list: &[u32]) -> bool
+    ensures { λ r. ⌜ Decides r (k ≤ length (now (list .entry))) ⌝ }
+{
+    k <= list.len()
+}
+
+// Whether each of two lists has at least k places.
+fn both_have(k: usize, one: &[u32], two: &[u32]) -> bool
+    ensures { λ r. ⌜ Decides r ((k ≤ length (now (one .entry))) × (k ≤ length (now (two .entry)))) ⌝ }
+{
+    if !has(k, one) {
+        return false;
+    }
+    has(k, two)
+}
+
+// The number of the first refusal that every call but Open begins with: SHORT where a table, or another list that is lent, has too few places; DAMAGED where the tables are not
+// sound; else 0, and heads and nexts are left with the chains of the rules held. `lists` says whether the other lists have room.
+fn verdict(
+    lists: bool,
     counts: Counts,
     xs: &[u16],
     ys: &[u16],
@@ -22,25 +41,23 @@ fn stands(
     wxs: &[u16],
     wys: &[u16],
     wcs: &[i32],
-) -> bool
-    requires { ⌜ Room (tables counts (now xs) (now ys) (now cs) (now days) (now marks) (now wxs) (now wys) (now wcs)) ⌝ }
-    ensures { λ r. ⌜ Decides r (Sound (tables counts (now (xs .entry)) (now (ys .entry)) (now (cs .entry)) (now (days .entry)) (now (marks .entry)) (now (wxs .entry)) (now (wys .entry)) (now (wcs .entry)))) ⌝ }
+    heads: &mut [u16],
+    nexts: &mut [u16],
+) -> u32
+    requires { ⌜ STEPS ≤ length (now heads) ⌝ }
+    requires { ⌜ RULES ≤ length (now nexts) ⌝ }
+    ensures { λ r. ⌜ Entered lists (tables counts (now (xs .entry)) (now (ys .entry)) (now (cs .entry)) (now (days .entry)) (now (marks .entry)) (now (wxs .entry)) (now (wys .entry)) (now (wcs .entry))) r (now (heads .exit)) (now (nexts .exit)) ⌝ }
 {
-    let mut heads = [0u16; meaning::STEPS];
-    let mut nexts = [0u16; meaning::RULES];
-    sound::is_sound(
-        counts,
-        xs,
-        ys,
-        cs,
-        days,
-        marks,
-        wxs,
-        wys,
-        wcs,
-        &mut heads,
-        &mut nexts,
-    )
+    if !lists {
+        return meaning::SHORT;
+    }
+    if !sound::has_room(xs, ys, cs, days, marks, wxs, wys, wcs) {
+        return meaning::SHORT;
+    }
+    if !sound::is_sound(counts, xs, ys, cs, days, marks, wxs, wys, wcs, heads, nexts) {
+        return meaning::DAMAGED;
+    }
+    0
 }
 
 // Open: SHORT; STEP where the count is outside 1 to STEPS; else that many steps, no rules, marks or watched rules, and day 0 for every step.
@@ -59,33 +76,16 @@ pub fn open(
     ensures { λ r. ⌜ Opens counts (now (xs .entry)) (now (ys .entry)) (now (cs .entry)) (now (days .entry)) (now (marks .entry)) (now (wxs .entry)) (now (wys .entry)) (now (wcs .entry)) steps r (now (days .exit)) ⌝ }
 {
     if !sound::has_room(xs, ys, cs, days, marks, wxs, wys, wcs) {
-        return Reply {
-            counts: counts,
-            answer: Answer::Short,
-        };
+        return meaning::refused(counts, meaning::SHORT);
     }
     if steps < 1 {
-        return Reply {
-            counts: counts,
-            answer: Answer::Step,
-        };
+        return meaning::refused(counts, meaning::STEP);
     }
     if meaning::STEPS < steps as usize {
-        return Reply {
-            counts: counts,
-            answer: Answer::Step,
-        };
+        return meaning::refused(counts, meaning::STEP);
     }
     inside::clear_days(steps as usize, days);
-    Reply {
-        counts: Counts {
-            steps: steps,
-            rules: 0,
-            marks: 0,
-            watched: 0,
-        },
-        answer: Answer::Done(0, 0),
-    }
+    meaning::done(meaning::steps_alone(steps), 0, 0)
 }
 
 // Watch: SHORT, DAMAGED, STEP, AMOUNT, FULL; else the rule stands at the end of the watched list.
@@ -99,23 +99,30 @@ pub fn watch(
     wxs: &mut [u16],
     wys: &mut [u16],
     wcs: &mut [i32],
-    x: u16,
-    y: u16,
+    x: u32,
+    y: u32,
     c: i32,
 ) -> Reply
     ensures { λ r. ⌜ Watches counts (now (xs .entry)) (now (ys .entry)) (now (cs .entry)) (now (days .entry)) (now (marks .entry)) (now (wxs .entry)) (now (wys .entry)) (now (wcs .entry)) x y c r (now (wxs .exit)) (now (wys .exit)) (now (wcs .exit)) ⌝ }
 {
-    if !sound::has_room(xs, ys, cs, days, marks, wxs, wys, wcs) {
-        return Reply {
-            counts: counts,
-            answer: Answer::Short,
-        };
-    }
-    if !stands(counts, xs, ys, cs, days, marks, wxs, wys, wcs) {
-        return Reply {
-            counts: counts,
-            answer: Answer::Damaged,
-        };
+    let mut heads = [0u16; meaning::STEPS];
+    let mut nexts = [0u16; meaning::RULES];
+    let number = verdict(
+        true,
+        counts,
+        xs,
+        ys,
+        cs,
+        days,
+        marks,
+        wxs,
+        wys,
+        wcs,
+        &mut heads,
+        &mut nexts,
+    );
+    if 0 < number {
+        return meaning::refused(counts, number);
     }
     inside::watch(counts, xs, ys, cs, days, marks, wxs, wys, wcs, x, y, c)
 }
@@ -134,17 +141,24 @@ pub fn mark(
 ) -> Reply
     ensures { λ r. ⌜ Marks counts (now (xs .entry)) (now (ys .entry)) (now (cs .entry)) (now (days .entry)) (now (marks .entry)) (now (wxs .entry)) (now (wys .entry)) (now (wcs .entry)) r (now (marks .exit)) ⌝ }
 {
-    if !sound::has_room(xs, ys, cs, days, marks, wxs, wys, wcs) {
-        return Reply {
-            counts: counts,
-            answer: Answer::Short,
-        };
-    }
-    if !stands(counts, xs, ys, cs, days, marks, wxs, wys, wcs) {
-        return Reply {
-            counts: counts,
-            answer: Answer::Damaged,
-        };
+    let mut heads = [0u16; meaning::STEPS];
+    let mut nexts = [0u16; meaning::RULES];
+    let number = verdict(
+        true,
+        counts,
+        xs,
+        ys,
+        cs,
+        days,
+        marks,
+        wxs,
+        wys,
+        wcs,
+        &mut heads,
+        &mut nexts,
+    );
+    if 0 < number {
+        return meaning::refused(counts, number);
     }
     inside::mark(counts, xs, ys, cs, days, marks, wxs, wys, wcs)
 }
@@ -163,17 +177,24 @@ pub fn back(
 ) -> Reply
     ensures { λ r. ⌜ GoesBack counts (now (xs .entry)) (now (ys .entry)) (now (cs .entry)) (now (days .entry)) (now (marks .entry)) (now (wxs .entry)) (now (wys .entry)) (now (wcs .entry)) r (now (days .exit)) ⌝ }
 {
-    if !sound::has_room(xs, ys, cs, days, marks, wxs, wys, wcs) {
-        return Reply {
-            counts: counts,
-            answer: Answer::Short,
-        };
-    }
-    if !stands(counts, xs, ys, cs, days, marks, wxs, wys, wcs) {
-        return Reply {
-            counts: counts,
-            answer: Answer::Damaged,
-        };
+    let mut heads = [0u16; meaning::STEPS];
+    let mut nexts = [0u16; meaning::RULES];
+    let number = verdict(
+        true,
+        counts,
+        xs,
+        ys,
+        cs,
+        days,
+        marks,
+        wxs,
+        wys,
+        wcs,
+        &mut heads,
+        &mut nexts,
+    );
+    if 0 < number {
+        return meaning::refused(counts, number);
     }
     goback::back(counts, xs, ys, cs, days, marks, wxs, wys, wcs)
 }
@@ -190,27 +211,16 @@ pub fn add(
     wys: &[u16],
     wcs: &[i32],
     list: &mut [u32],
-    x: u16,
-    y: u16,
+    x: u32,
+    y: u32,
     c: i32,
 ) -> Reply
     ensures { λ r. ⌜ Adds counts (now (xs .entry)) (now (ys .entry)) (now (cs .entry)) (now (days .entry)) (now (marks .entry)) (now (wxs .entry)) (now (wys .entry)) (now (wcs .entry)) (now (list .entry)) x y c r (now (xs .exit)) (now (ys .exit)) (now (cs .exit)) (now (days .exit)) (now (list .exit)) ⌝ }
 {
-    if list.len() < meaning::STEPS {
-        return Reply {
-            counts: counts,
-            answer: Answer::Short,
-        };
-    }
-    if !sound::has_room(xs, ys, cs, days, marks, wxs, wys, wcs) {
-        return Reply {
-            counts: counts,
-            answer: Answer::Short,
-        };
-    }
     let mut heads = [0u16; meaning::STEPS];
     let mut nexts = [0u16; meaning::RULES];
-    if !sound::is_sound(
+    let number = verdict(
+        has(meaning::STEPS, list),
         counts,
         xs,
         ys,
@@ -222,11 +232,9 @@ pub fn add(
         wcs,
         &mut heads,
         &mut nexts,
-    ) {
-        return Reply {
-            counts: counts,
-            answer: Answer::Damaged,
-        };
+    );
+    if 0 < number {
+        return meaning::refused(counts, number);
     }
     newrule::add(counts, xs, ys, cs, days, &heads, &nexts, list, x, y, c)
 }
@@ -244,33 +252,16 @@ pub fn trial(
     wcs: &[i32],
     one: &mut [u32],
     two: &mut [u32],
-    x: u16,
-    y: u16,
+    x: u32,
+    y: u32,
     c: i32,
 ) -> Reply
     ensures { λ r. ⌜ Tries counts (now (xs .entry)) (now (ys .entry)) (now (cs .entry)) (now (days .entry)) (now (marks .entry)) (now (wxs .entry)) (now (wys .entry)) (now (wcs .entry)) (now (one .entry)) (now (two .entry)) x y c r (now (one .exit)) (now (two .exit)) ⌝ }
 {
-    if one.len() < meaning::STEPS {
-        return Reply {
-            counts: counts,
-            answer: Answer::Short,
-        };
-    }
-    if two.len() < meaning::STEPS {
-        return Reply {
-            counts: counts,
-            answer: Answer::Short,
-        };
-    }
-    if !sound::has_room(xs, ys, cs, days, marks, wxs, wys, wcs) {
-        return Reply {
-            counts: counts,
-            answer: Answer::Short,
-        };
-    }
     let mut heads = [0u16; meaning::STEPS];
     let mut nexts = [0u16; meaning::RULES];
-    if !sound::is_sound(
+    let number = verdict(
+        both_have(meaning::STEPS, one, two),
         counts,
         xs,
         ys,
@@ -282,11 +273,9 @@ pub fn trial(
         wcs,
         &mut heads,
         &mut nexts,
-    ) {
-        return Reply {
-            counts: counts,
-            answer: Answer::Damaged,
-        };
+    );
+    if 0 < number {
+        return meaning::refused(counts, number);
     }
     newrule::trial(counts, xs, ys, cs, days, &heads, &nexts, one, two, x, y, c)
 }
@@ -307,27 +296,10 @@ pub fn consequences(
 ) -> Reply
     ensures { λ r. ⌜ Splits counts (now (xs .entry)) (now (ys .entry)) (now (cs .entry)) (now (days .entry)) (now (marks .entry)) (now (wxs .entry)) (now (wys .entry)) (now (wcs .entry)) (now (one .entry)) (now (two .entry)) r (now (one .exit)) (now (two .exit)) ⌝ }
 {
-    if one.len() < counts.watched as usize {
-        return Reply {
-            counts: counts,
-            answer: Answer::Short,
-        };
-    }
-    if two.len() < counts.watched as usize {
-        return Reply {
-            counts: counts,
-            answer: Answer::Short,
-        };
-    }
-    if !sound::has_room(xs, ys, cs, days, marks, wxs, wys, wcs) {
-        return Reply {
-            counts: counts,
-            answer: Answer::Short,
-        };
-    }
     let mut heads = [0u16; meaning::STEPS];
     let mut nexts = [0u16; meaning::RULES];
-    if !sound::is_sound(
+    let number = verdict(
+        both_have(counts.watched as usize, one, two),
         counts,
         xs,
         ys,
@@ -339,11 +311,9 @@ pub fn consequences(
         wcs,
         &mut heads,
         &mut nexts,
-    ) {
-        return Reply {
-            counts: counts,
-            answer: Answer::Damaged,
-        };
+    );
+    if 0 < number {
+        return meaning::refused(counts, number);
     }
     split::consequences(
         counts,
@@ -374,35 +344,34 @@ pub fn ring_check(
     wys: &[u16],
     wcs: &[i32],
     list: &[u32],
-    x: u16,
-    y: u16,
+    x: u32,
+    y: u32,
     c: i32,
 ) -> Reply
     ensures { λ r. ⌜ ChecksRing counts (now (xs .entry)) (now (ys .entry)) (now (cs .entry)) (now (days .entry)) (now (marks .entry)) (now (wxs .entry)) (now (wys .entry)) (now (wcs .entry)) (now (list .entry)) x y c r ⌝ }
 {
-    if !sound::has_room(xs, ys, cs, days, marks, wxs, wys, wcs) {
-        return Reply {
-            counts: counts,
-            answer: Answer::Short,
-        };
+    let mut heads = [0u16; meaning::STEPS];
+    let mut nexts = [0u16; meaning::RULES];
+    let number = verdict(
+        true,
+        counts,
+        xs,
+        ys,
+        cs,
+        days,
+        marks,
+        wxs,
+        wys,
+        wcs,
+        &mut heads,
+        &mut nexts,
+    );
+    if 0 < number {
+        return meaning::refused(counts, number);
     }
-    if !stands(counts, xs, ys, cs, days, marks, wxs, wys, wcs) {
-        return Reply {
-            counts: counts,
-            answer: Answer::Damaged,
-        };
-    }
-    if !inside::steps_fit(counts.steps as usize, x, y) {
-        return Reply {
-            counts: counts,
-            answer: Answer::Step,
-        };
-    }
-    if !leaf::amount_fits(c) {
-        return Reply {
-            counts: counts,
-            answer: Answer::Amount,
-        };
+    let unfit = inside::rule_verdict(counts.steps, x, y, c);
+    if 0 < unfit {
+        return meaning::refused(counts, unfit);
     }
     if ringcheck::is_ring(
         counts.steps as usize,
@@ -410,60 +379,14 @@ pub fn ring_check(
         xs,
         ys,
         cs,
-        x,
-        y,
+        x as u16,
+        y as u16,
         c,
         list,
     ) {
-        return Reply {
-            counts: counts,
-            answer: Answer::Done(1, 0),
-        };
+        return meaning::done(counts, 1, 0);
     }
-    Reply {
-        counts: counts,
-        answer: Answer::Done(0, 0),
-    }
-}
-
-// The number of an answer.
-pub fn number_of(answer: Answer) -> u32
-    ensures { λ r. ⌜ r ≡ given answer .number ⌝ }
-{
-    match answer {
-        Answer::Done(_, _) => 0,
-        Answer::Short => 1,
-        Answer::Damaged => 2,
-        Answer::Step => 3,
-        Answer::Amount => 4,
-        Answer::Full => 5,
-        Answer::Conflict(_) => 6,
-        Answer::NoMark => 7,
-        Answer::Syntax => 8,
-        Answer::Mode => 9,
-        Answer::Name => 10,
-        Answer::Size => 11,
-    }
-}
-
-// The first value of an answer: 0 where it has none.
-pub fn value_of(answer: Answer) -> u32
-    ensures { λ r. ⌜ r ≡ given answer .one ⌝ }
-{
-    match answer {
-        Answer::Done(a, _) => a,
-        Answer::Conflict(a) => a,
-        Answer::Short => 0,
-        Answer::Damaged => 0,
-        Answer::Step => 0,
-        Answer::Amount => 0,
-        Answer::Full => 0,
-        Answer::NoMark => 0,
-        Answer::Syntax => 0,
-        Answer::Mode => 0,
-        Answer::Name => 0,
-        Answer::Size => 0,
-    }
+    meaning::done(counts, 0, 0)
 }
 
 // The list's first k places; all of it where it has no more.
@@ -483,10 +406,9 @@ fn first_places<'a>(list: &'a [u32], k: u32) -> &'a [u32]
 pub fn trial_part<'a>(one: &'a [u32], two: &'a [u32], reply: Reply) -> &'a [u32]
     ensures { λ r. ⌜ TrialPart (one .entry .ptr) (two .entry .ptr) (now (one .entry)) (now (two .entry)) reply (r .ptr) (now r) ⌝ }
 {
-    let counts = reply.counts;
-    let answer = reply.answer;
-    if number_of(answer) == 0 {
+    if reply.number == 0 {
+        let counts = reply.counts;
         return first_places(one, counts.steps);
     }
-    first_places(two, value_of(answer))
+    first_places(two, reply.one)
 }

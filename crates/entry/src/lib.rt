@@ -1,9 +1,8 @@
 // What others link: the whole script, and every call, exported. Each call is over records that C lends, gives its number back, and its values through references.
 ghost use mathlib.Core.List.{List};
 ghost use Prim.Native.Nat.{ℕ};
-ghost use Rattle.meaning.specs.Promise.{Obeys, bare};
+ghost use Rattle.meaning.specs.Promise.{Obeys, bare, gave};
 ghost use Rattle.leaf.specs.Promises.{OpensTo, WatchesTo, AddsTo, MarksTo, GoesBackTo, TriesTo, SplitsTo, ChecksRingTo};
-ghost use Rattle.scripts.specs.Testing.{gave};
 ghost use Rattle.flat.specs.Records.{lent-by-c, start-by-c, command-by-c};
 ghost use Rattle.script.specs.Whole.{RunsScript};
 use flat::Record;
@@ -35,7 +34,7 @@ pub extern "C" fn dates_open(
 ) -> u32
     ensures { λ r. ⌜ OpensTo (now (counts .entry)) (now (xs .entry)) (now (ys .entry)) (now (cs .entry)) (now (days .entry)) (now (marks .entry)) (now (wxs .entry)) (now (wys .entry)) (now (wcs .entry)) steps (bare r) (now (counts .exit)) (now (days .exit)) ⌝ }
 {
-    let out = flat::open(*counts, xs, ys, cs, days, marks, wxs, wys, wcs, steps);
+    let out = desk::open(*counts, xs, ys, cs, days, marks, wxs, wys, wcs, steps);
     *counts = out.counts;
     out.number
 }
@@ -58,7 +57,7 @@ pub extern "C" fn dates_watch(
 ) -> u32
     ensures { λ r. ⌜ WatchesTo (now (counts .entry)) (now (xs .entry)) (now (ys .entry)) (now (cs .entry)) (now (days .entry)) (now (marks .entry)) (now (wxs .entry)) (now (wys .entry)) (now (wcs .entry)) x y c (bare r) (now (counts .exit)) (now (wxs .exit)) (now (wys .exit)) (now (wcs .exit)) ⌝ }
 {
-    let out = flat::watch(*counts, xs, ys, cs, days, marks, wxs, wys, wcs, x, y, c);
+    let out = desk::watch(*counts, xs, ys, cs, days, marks, wxs, wys, wcs, x, y, c);
     *counts = out.counts;
     out.number
 }
@@ -78,7 +77,7 @@ pub extern "C" fn dates_mark(
 ) -> u32
     ensures { λ r. ⌜ MarksTo (now (counts .entry)) (now (xs .entry)) (now (ys .entry)) (now (cs .entry)) (now (days .entry)) (now (marks .entry)) (now (wxs .entry)) (now (wys .entry)) (now (wcs .entry)) (bare r) (now (counts .exit)) (now (marks .exit)) ⌝ }
 {
-    let out = flat::mark(*counts, xs, ys, cs, days, marks, wxs, wys, wcs);
+    let out = desk::mark(*counts, xs, ys, cs, days, marks, wxs, wys, wcs);
     *counts = out.counts;
     out.number
 }
@@ -98,7 +97,7 @@ pub extern "C" fn dates_back(
 ) -> u32
     ensures { λ r. ⌜ GoesBackTo (now (counts .entry)) (now (xs .entry)) (now (ys .entry)) (now (cs .entry)) (now (days .entry)) (now (marks .entry)) (now (wxs .entry)) (now (wys .entry)) (now (wcs .entry)) (bare r) (now (counts .exit)) (now (days .exit)) ⌝ }
 {
-    let out = flat::back(*counts, xs, ys, cs, days, marks, wxs, wys, wcs);
+    let out = desk::back(*counts, xs, ys, cs, days, marks, wxs, wys, wcs);
     *counts = out.counts;
     out.number
 }
@@ -123,7 +122,7 @@ pub extern "C" fn dates_add(
 ) -> u32
     ensures { λ r. ⌜ AddsTo (now (counts .entry)) (now (xs .entry)) (now (ys .entry)) (now (cs .entry)) (now (days .entry)) (now (marks .entry)) (now (wxs .entry)) (now (wys .entry)) (now (wcs .entry)) (now (list .entry)) x y c (gave r (now (value .exit)) 0) (now (counts .exit)) (now (xs .exit)) (now (ys .exit)) (now (cs .exit)) (now (days .exit)) (now (list .exit)) ⌝ }
 {
-    let out = flat::add(
+    let out = desk::add(
         *counts,
         xs,
         ys,
@@ -137,9 +136,9 @@ pub extern "C" fn dates_add(
         x,
         y,
         c,
-        value,
     );
     *counts = out.counts;
+    *value = out.one;
     out.number
 }
 
@@ -164,7 +163,7 @@ pub extern "C" fn dates_trial(
 ) -> u32
     ensures { λ r. ⌜ TriesTo (now (counts .entry)) (now (xs .entry)) (now (ys .entry)) (now (cs .entry)) (now (days .entry)) (now (marks .entry)) (now (wxs .entry)) (now (wys .entry)) (now (wcs .entry)) (now (one .entry)) (now (two .entry)) x y c (gave r (now (value .exit)) 0) (now (counts .entry)) (now (one .exit)) (now (two .exit)) ⌝ }
 {
-    flat::trial(
+    let out = desk::trial(
         *counts,
         xs,
         ys,
@@ -179,8 +178,9 @@ pub extern "C" fn dates_trial(
         x,
         y,
         c,
-        value,
-    )
+    );
+    *value = out.one;
+    out.number
 }
 
 // Consequences: its number; `held` is how many watched rules hold in every arrangement, `excluded` how many in none, both 0 on a refusal.
@@ -202,21 +202,10 @@ pub extern "C" fn dates_consequences(
 ) -> u32
     ensures { λ r. ⌜ SplitsTo (now (counts .entry)) (now (xs .entry)) (now (ys .entry)) (now (cs .entry)) (now (days .entry)) (now (marks .entry)) (now (wxs .entry)) (now (wys .entry)) (now (wcs .entry)) (now (one .entry)) (now (two .entry)) (gave r (now (held .exit)) (now (excluded .exit))) (now (counts .entry)) (now (one .exit)) (now (two .exit)) ⌝ }
 {
-    flat::consequences(
-        *counts,
-        xs,
-        ys,
-        cs,
-        days,
-        marks,
-        wxs,
-        wys,
-        wcs,
-        one,
-        two,
-        held,
-        excluded,
-    )
+    let out = desk::consequences(*counts, xs, ys, cs, days, marks, wxs, wys, wcs, one, two);
+    *held = out.one;
+    *excluded = out.two;
+    out.number
 }
 
 // Ring check: its number; `verdict` is 1 where the list is such a ring, and 0 where it is not or on a refusal.
@@ -239,7 +228,7 @@ pub extern "C" fn dates_ring_check(
 ) -> u32
     ensures { λ r. ⌜ ChecksRingTo (now (counts .entry)) (now (xs .entry)) (now (ys .entry)) (now (cs .entry)) (now (days .entry)) (now (marks .entry)) (now (wxs .entry)) (now (wys .entry)) (now (wcs .entry)) (now (list .entry)) x y c (gave r (now (verdict .exit)) 0) (now (counts .entry)) ⌝ }
 {
-    flat::ring_check(
+    let out = desk::ring_check(
         *counts,
         xs,
         ys,
@@ -253,8 +242,9 @@ pub extern "C" fn dates_ring_check(
         x,
         y,
         c,
-        verdict,
-    )
+    );
+    *verdict = out.one;
+    out.number
 }
 
 // Start: its number; the counts are brought up to date, and the record is emptied.

@@ -1,6 +1,5 @@
 -- What the proofs share.
 pub mod Telling
-pub mod Narrowing
 pub mod Keeping
 pub mod Determined
 pub mod Mixing

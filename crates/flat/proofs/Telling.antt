@@ -4,10 +4,9 @@ use native.Mathlib.Decide.{ℕ-discrete}
 use mathlib.Core.Path.{_≡_, sym, subst, ap}
 use Rattle.meaning.specs.Bounds.{DONE, CONFLICT}
 use Rattle.meaning.specs.declared.Counts.{Counts}
-use Rattle.meaning.specs.Promise.{Given, Meaning, Obeys, bare}
+use Rattle.meaning.specs.Promise.{Given, Meaning, Obeys, bare, gave}
 use Rattle.meaning.specs.Tables.{Tables}
 use Rattle.meaning.specs.Calls.{WithList, WithLists}
-use Rattle.scripts.specs.Testing.{gave}
 
 -- By the number: carried out, on conflict, or refused.
 by-number : {X : Type 0} (k : ℕ) → (k ≡ DONE → X) → (k ≡ CONFLICT → X) → ((k ≡ DONE → ⊥) → (k ≡ CONFLICT → ⊥) → X) → X

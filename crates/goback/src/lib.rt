@@ -10,7 +10,6 @@ ghost use Rattle.leaf.specs.Promises.{Border, GoesBack};
 ghost use Rattle.leaf.specs.Lent.{first};
 ghost use Rattle.spread.specs.Ground.{rules};
 ghost use Rattle.goback.specs.Replan.{Plannable, Droppable, PlanRoom, LatestDay, Reachable, Reaches, Bringable, Brought};
-use meaning::Answer;
 use meaning::Counts;
 use meaning::Reply;
 
@@ -33,10 +32,7 @@ pub fn back(
 {
     let open = counts.marks as usize;
     if open == 0 {
-        return Reply {
-            counts: counts,
-            answer: Answer::NoMark,
-        };
+        return meaning::refused(counts, meaning::NOMARK);
     }
     let mark = marks[open - 1];
     keep_first(
@@ -49,19 +45,23 @@ pub fn back(
         days,
     );
     let left = counts.marks - 1;
-    Reply {
-        counts: Counts {
-            steps: counts.steps,
-            rules: mark,
-            marks: left,
-            watched: counts.watched,
-        },
-        answer: Answer::Done(0, 0),
-    }
+    meaning::done(
+        meaning::marks_now(meaning::rules_now(counts, mark), left),
+        0,
+        0,
+    )
 }
 
 // Brings the days of n steps, which are the earliest plan of m rules, to the earliest plan of the first k of them. Where k is m nothing changes.
-fn keep_first(n: usize, m: usize, k: usize, xs: &[u16], ys: &[u16], cs: &[i32], days: &mut [u32])
+pub fn keep_first(
+    n: usize,
+    m: usize,
+    k: usize,
+    xs: &[u16],
+    ys: &[u16],
+    cs: &[i32],
+    days: &mut [u32],
+)
     requires { ⌜ Droppable n (first m) (first k) (now xs) (now ys) (now cs) (now days) ⌝ }
     ensures { λ _. ⌜ Planned n (rules (now (xs .entry)) (now (ys .entry)) (now (cs .entry))) (first k) (now (days .entry)) (now (days .exit)) ⌝ }
 {

@@ -28,6 +28,18 @@ module _ {n : ℕ} where
   stay-lasts [] ks = tt
   stay-lasts (s ∷ ss) ks = (stay-last s (ks .0), stay-lasts ss (ks .1))
 
+  -- What the parameters past the first k keep.
+  abbrev pub kepts-past : (k : ℕ) (ss : List (Slot n)) → Kepts ss → Kepts (past k ss)
+  kepts-past zero ss ks = ks
+  kepts-past (suc k) [] ks = ks
+  kepts-past (suc k) (s ∷ ss) ks = kepts-past k ss (ks .1)
+
+  -- The first k were handed on, and of the others there is what is said.
+  abbrev pub stay-first : (k : ℕ) (ss : List (Slot n)) (ks : Kepts ss) → Stays (past k ss) (kepts-past k ss ks) → Stays ss ks
+  stay-first zero ss ks others = others
+  stay-first (suc k) [] ks others = others
+  stay-first (suc k) (s ∷ ss) ks others = (stay-last s (ks .0), stay-first k ss (ks .1) others)
+
   -- Nothing is owed of it.
   abbrev pub fit-lasts : (κs : Lfts n) (ss : List (Slot n)) (ks : Kepts ss) (a : Denots (typesAt ss κs)) (ws : Fins κs ss ks a) → fitsOf κs ss ks (stay-lasts ss ks) a ws
   fit-lasts κs [] ks a ws = tt
@@ -42,6 +54,13 @@ module _ {M : Type 1} (𝓤 : URA M) (H : Heap 𝓤) (A : Atoms 𝓤) (W : Given
     pub go-lasts : (ss : List (Slot n)) (ks : Kepts ss) → AllGo 𝓤 H A W n ss ks (stay-lasts ss ks)
     go-lasts [] ks = tt
     go-lasts (s ∷ ss) ks = (goes-last s (ks .0), go-lasts ss (ks .1))
+
+    pub go-first :
+        (k : ℕ) (ss : List (Slot n)) (ks : Kepts ss) (others : Stays (past k ss) (kepts-past k ss ks)) → AllGo 𝓤 H A W n (past k ss) (kepts-past k ss ks) others →
+        AllGo 𝓤 H A W n ss ks (stay-first k ss ks others)
+    go-first zero ss ks others go = go
+    go-first (suc k) [] ks others go = go
+    go-first (suc k) (s ∷ ss) ks others go = (goes-last s (ks .0), go-first k ss (ks .1) others go)
 
   -- A callee with no condition asks what its parameters' types own, and nothing beside.
   pub asked : (P : SProp 𝓤) → ent 𝓤 P (sep 𝓤 P (emp 𝓤))

@@ -4,24 +4,30 @@ ghost use mathlib.Core.Path.{_≡_};
 ghost use Prim.Native.Nat.{_≤_};
 ghost use lib.ListN.{length};
 ghost use Rattle.inside.specs.Cleared.{Cleared};
-ghost use lib.IntN.{ℤ};
-ghost use Rattle.meaning.specs.Rules.{InSteps};
+ghost use mathlib.Core.List.{[]};
+ghost use Rattle.meaning.specs.Promise.{First};
+ghost use Rattle.meaning.specs.Calls.{rule-needs};
 ghost use Rattle.meaning.specs.Tables.{put};
-ghost use Rattle.leaf.specs.Decides.{Decides};
 ghost use Rattle.leaf.specs.Lent.{columns, tables, Placed};
 ghost use Rattle.leaf.specs.Promises.{rule, Border, Watches, Marks};
-use meaning::Answer;
 use meaning::Counts;
 use meaning::Reply;
 
-// Whether both steps are below n.
-pub fn steps_fit(n: usize, x: u16, y: u16) -> bool
-    ensures { λ r. ⌜ ((c : ℤ) → Decides r (InSteps n (rule x y c))) ⌝ }
+// The number of the first refusal of a rule handed to a call, over so many steps: STEP, AMOUNT; else 0. Steps are handed over as u32, so that none is cut short on
+// the way: one that is not below the count is STEP, however large.
+pub fn rule_verdict(steps: u32, x: u32, y: u32, c: i32) -> u32
+    ensures { λ r. ⌜ First (rule-needs steps (rule x y c) []) r ⌝ }
 {
-    if n <= x as usize {
-        return false;
+    if steps <= x {
+        return meaning::STEP;
     }
-    (y as usize) < n
+    if steps <= y {
+        return meaning::STEP;
+    }
+    if !leaf::amount_fits(c) {
+        return meaning::AMOUNT;
+    }
+    0
 }
 
 // Writes the rule x, y, c under number i.
@@ -45,8 +51,8 @@ pub fn watch(
     wxs: &mut [u16],
     wys: &mut [u16],
     wcs: &mut [i32],
-    x: u16,
-    y: u16,
+    x: u32,
+    y: u32,
     c: i32,
 ) -> Reply
     requires { ⌜ Border (tables counts (now xs) (now ys) (now cs) (now days) (now marks) (now wxs) (now wys) (now wcs)) ⌝ }
@@ -54,35 +60,16 @@ pub fn watch(
         Watches counts (now (xs .entry)) (now (ys .entry)) (now (cs .entry)) (now (days .entry)) (now (marks .entry))
         (now (wxs .entry)) (now (wys .entry)) (now (wcs .entry)) x y c r (now (wxs .exit)) (now (wys .exit)) (now (wcs .exit)) ⌝ }
 {
-    if !steps_fit(counts.steps as usize, x, y) {
-        return Reply {
-            counts: counts,
-            answer: Answer::Step,
-        };
-    }
-    if !leaf::amount_fits(c) {
-        return Reply {
-            counts: counts,
-            answer: Answer::Amount,
-        };
+    let number = rule_verdict(counts.steps, x, y, c);
+    if 0 < number {
+        return meaning::refused(counts, number);
     }
     let at = counts.watched as usize;
     if meaning::WATCHED <= at {
-        return Reply {
-            counts: counts,
-            answer: Answer::Full,
-        };
+        return meaning::refused(counts, meaning::FULL);
     }
-    write_rule(wxs, wys, wcs, at, x, y, c);
-    Reply {
-        counts: Counts {
-            steps: counts.steps,
-            rules: counts.rules,
-            marks: counts.marks,
-            watched: counts.watched + 1,
-        },
-        answer: Answer::Done(0, 0),
-    }
+    write_rule(wxs, wys, wcs, at, x as u16, y as u16, c);
+    meaning::done(meaning::watched_now(counts, counts.watched + 1), 0, 0)
 }
 
 // Mark: FULL where no place is left; else the rule count is the newest mark.
@@ -104,21 +91,10 @@ pub fn mark(
 {
     let at = counts.marks as usize;
     if meaning::MARKS <= at {
-        return Reply {
-            counts: counts,
-            answer: Answer::Full,
-        };
+        return meaning::refused(counts, meaning::FULL);
     }
     marks[at] = counts.rules;
-    Reply {
-        counts: Counts {
-            steps: counts.steps,
-            rules: counts.rules,
-            marks: counts.marks + 1,
-            watched: counts.watched,
-        },
-        answer: Answer::Done(0, 0),
-    }
+    meaning::done(meaning::marks_now(counts, counts.marks + 1), 0, 0)
 }
 
 // Sets the first n days to 0.

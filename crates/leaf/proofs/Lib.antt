@@ -1,3 +1,4 @@
 -- What the readers' proofs share.
 pub mod Amounts
 pub mod Tests
+pub mod Watching

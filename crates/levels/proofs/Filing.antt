@@ -56,15 +56,15 @@ module _ {n k : ℕ} {days kept kept′ : List ℕ} (f : Filed n days k kept kep
       told (yes lower) = f .below (row-of j + v) (row-below (j % ROWS) (k % ROWS) v v-in lower)
       told (no higher) = f .above (row-of j + v) (row-above (j % ROWS) (k % ROWS) v (not-lower (j % ROWS) (k % ROWS) apart higher))
 
-  module _ {base : ℕ} (j : ℕ) (apart : j ≡ k → ⊥) (held : Holds base j kept′) where
+  module _ (j : ℕ) (apart : j ≡ k → ⊥) (held : Holds j kept′) where
     -- A row that names another mark is another row.
     rows-apart : j % ROWS ≡ k % ROWS → ⊥
     rows-apart same = apart (next-same j k (sym (held .named) ∙ ap (λ (x : ℕ). at kept′ (ROW * x + STEPS)) same ∙ f .names))
 
     -- It named that mark before.
-    pub held-before : Holds base j kept
+    pub held-before : Holds j kept
     held-before = record {
-      has-row = record { from-base = held .has-row .from-base; row-room = omega (arith, held .has-row .row-room, f .same-length) };
+      has-row = omega (arith, held .has-row, f .same-length);
       named = sym (other-row j STEPS (omega arith) rows-apart) ∙ held .named;
     }
 

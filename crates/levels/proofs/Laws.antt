@@ -4,8 +4,6 @@ use native.Mathlib.Omega.{arith}
 use mathlib.Core.Path.{_≡_, refl, sym, _∙_, ap, subst}
 use mathlib.Core.List.{List}
 use lib.ListN.{set}
-use lib.IntN.{ℤ}
-use Rattle.meaning.specs.declared.Counts.{Counts}
 use Rattle.meaning.specs.Bounds.{MARKS, DONE}
 use Rattle.meaning.specs.Rules.{Rule, Earliest}
 use Rattle.meaning.specs.Tables.{Tables, at, Sound, with-rule, with-mark, with-days}
@@ -17,7 +15,6 @@ use Rattle.meaning.proofs.Needs.{obeys-done}
 use Rattle.meaning.proofs.Lists.{past-same, past-refl}
 use Rattle.meaning.proofs.Put.{put-old}
 use Rattle.meaning.proofs.Sequences.{Kept, call-keeps}
-use Rattle.leaf.specs.Lent.{tables}
 use Rattle.leaf.specs.Promises.{Border}
 use Rattle.levels.specs.Levels.{with-marks, marked, more-marks, fewer-marks, without-marks, row-of, Popped, KeptDays}
 
@@ -46,12 +43,6 @@ with-marks-is (suc n) t = ap (λ (m : ℕ). record {
   marks = marked n (t .counts .rules) (t .counts .marks + 1) (set (t .marks) (t .counts .marks) (t .counts .rules));
   watched = t .watched;
 }) (omega arith) ∙ with-marks-is n (with-mark t)
-
--- Tables that are lent, with n marks set.
-pub pushed-is :
-    (n : ℕ) (counts : Counts) (xs ys : List ℕ) (cs : List ℤ) (days marks wxs wys : List ℕ) (wcs : List ℤ) →
-    tables (more-marks n counts) xs ys cs days (marked n (counts .rules) (counts .marks) marks) wxs wys wcs ≡ with-marks n (tables counts xs ys cs days marks wxs wys wcs)
-pushed-is n counts xs ys cs days marks wxs wys wcs = with-marks-is n (tables counts xs ys cs days marks wxs wys wcs)
 
 -- The calls keep sound tables with room.
 kept : {t : Tables} → Border t → Kept t
@@ -171,38 +162,38 @@ popped-border (suc n) {t} {u} b some p =
 
 -- ---- days kept
 
-module _ {steps base marks-open : ℕ} {kept : List ℕ} where
+module _ {steps marks-open : ℕ} {kept : List ℕ} where
   -- What is kept of the open marks is kept of fewer.
-  pub kept-fewer : {R : ℕ → Rule} {marks : List ℕ} {fewer : ℕ} → fewer ≤ marks-open → KeptDays R steps base marks-open marks kept → KeptDays R steps base fewer marks kept
-  kept-fewer few k = record { kept-earliest = λ j held j-in. k .kept-earliest j held (omega arith) }
+  pub kept-fewer : {R : ℕ → Rule} {marks : List ℕ} {fewer : ℕ} → fewer ≤ marks-open → KeptDays R steps marks-open marks kept → KeptDays R steps fewer marks kept
+  kept-fewer few k = record { kept-earliest = λ j j-in. k .kept-earliest j (omega arith) }
 
   -- Only the open marks and the rules below them count.
   pub kept-same :
-      {R R′ : ℕ → Rule} {marks marks′ : List ℕ} → ((k : ℕ) → base ≤ k → k < marks-open → at marks k ≡ at marks′ k) →
-      ((k i : ℕ) → base ≤ k → k < marks-open → i < at marks k → R i ≡ R′ i) →
-      KeptDays R steps base marks-open marks kept → KeptDays R′ steps base marks-open marks′ kept
+      {R R′ : ℕ → Rule} {marks marks′ : List ℕ} → ((k : ℕ) → k < marks-open → at marks k ≡ at marks′ k) →
+      ((k i : ℕ) → k < marks-open → i < at marks k → R i ≡ R′ i) →
+      KeptDays R steps marks-open marks kept → KeptDays R′ steps marks-open marks′ kept
   kept-same {R} {R′} {marks} {marks′} same-marks same-rules k = record {
-    kept-earliest = λ j held j-in.
-        subst (λ (m : ℕ). Earliest steps R′ (λ i. i < m) (λ v. at kept (row-of j + v))) (same-marks j (held .has-row .from-base) j-in)
-        (earliest-same {H = λ i. i < at marks j} {G = λ i. i < at marks j} (λ i i-in. i-in) (λ i i-in. i-in) (λ i i-in. same-rules j i (held .has-row .from-base) j-in i-in) (k .kept-earliest j held j-in));
+    kept-earliest = λ j j-in held.
+        subst (λ (m : ℕ). Earliest steps R′ (λ i. i < m) (λ v. at kept (row-of j + v))) (same-marks j j-in)
+        (earliest-same {H = λ i. i < at marks j} {G = λ i. i < at marks j} (λ i i-in. i-in) (λ i i-in. i-in) (λ i i-in. same-rules j i j-in i-in) (k .kept-earliest j j-in held));
   }
 
 -- A rule that is written after those held changes no days kept.
 pub kept-rule :
-    {base : ℕ} {kept : List ℕ} (r : Rule) {t : Tables} → Sound t → KeptDays (rules-of t) (t .counts .steps) base (t .counts .marks) (t .marks) kept →
-    KeptDays (rules-of (with-rule r t)) (t .counts .steps) base (t .counts .marks) (t .marks) kept
+    {kept : List ℕ} (r : Rule) {t : Tables} → Sound t → KeptDays (rules-of t) (t .counts .steps) (t .counts .marks) (t .marks) kept →
+    KeptDays (rules-of (with-rule r t)) (t .counts .steps) (t .counts .marks) (t .marks) kept
 kept-rule r {t} sound =
-    kept-same (λ k based k-in. refl)
-    (λ k i based k-in i-in. sym (put-old (t .rules) (t .counts .rules) r i (λ e. omega (arith, sound .marks-held k k-in))))
+    kept-same (λ k k-in. refl)
+    (λ k i k-in i-in. sym (put-old (t .rules) (t .counts .rules) r i (λ e. omega (arith, sound .marks-held k k-in))))
 
 -- Dropping marks changes no days kept of those that stay open.
 pub kept-popped :
-    (n : ℕ) {base : ℕ} {kept : List ℕ} {t u : Tables} → Popped n t u → KeptDays (rules-of t) (t .counts .steps) base (t .counts .marks) (t .marks) kept →
-    KeptDays (rules-of u) (u .counts .steps) base (u .counts .marks) (u .marks) kept
-kept-popped n {base} {kept} {t} {u} p k = subst Kept-by (sym (p .dropped)) (told n)
+    (n : ℕ) {kept : List ℕ} {t u : Tables} → Popped n t u → KeptDays (rules-of t) (t .counts .steps) (t .counts .marks) (t .marks) kept →
+    KeptDays (rules-of u) (u .counts .steps) (u .counts .marks) (u .marks) kept
+kept-popped n {kept} {t} {u} p k = subst Kept-by (sym (p .dropped)) (told n)
   where
     Kept-by : Tables → Type 0
-    Kept-by w = KeptDays (rules-of w) (w .counts .steps) base (w .counts .marks) (w .marks) kept
+    Kept-by w = KeptDays (rules-of w) (w .counts .steps) (w .counts .marks) (w .marks) kept
 
     told : (m : ℕ) → Kept-by (with-days (u .days) (without-marks m t))
     told zero = k

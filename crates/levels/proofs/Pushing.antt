@@ -55,20 +55,20 @@ unfolding marked
 marked-end r k marks e = ap (λ (x : ℕ). marked x r k marks) e
 
 -- Where a row names one of the marks from first up to k, it holds the days; where it names an older mark, it did so before and its days stayed.
-pub record KeptFrom (steps base first k : ℕ) (days kept kept′ : List ℕ) : Type 0 where
+pub record KeptFrom (steps first k : ℕ) (days kept kept′ : List ℕ) : Type 0 where
   pub same-length : length kept′ ≡ length kept
-  pub older-held : (j : ℕ) → j < first → Holds base j kept′ → Holds base j kept
-  pub older : (j v : ℕ) → j < first → Holds base j kept′ → v < STEPS → at kept′ (row-of j + v) ≡ at kept (row-of j + v)
-  pub newer : (j v : ℕ) → first ≤ j → j < k → Holds base j kept′ → v < steps → at kept′ (row-of j + v) ≡ at days v
+  pub older-held : (j : ℕ) → j < first → Holds j kept′ → Holds j kept
+  pub older : (j v : ℕ) → j < first → Holds j kept′ → v < STEPS → at kept′ (row-of j + v) ≡ at kept (row-of j + v)
+  pub newer : (j v : ℕ) → first ≤ j → j < k → Holds j kept′ → v < steps → at kept′ (row-of j + v) ≡ at days v
 
 -- Before the first of them every row is as it was.
-pub kept-none : (steps base first : ℕ) (days kept : List ℕ) → KeptFrom steps base first first days kept kept
-kept-none steps base first days kept =
+pub kept-none : (steps first : ℕ) (days kept : List ℕ) → KeptFrom steps first first days kept kept
+kept-none steps first days kept =
     record { same-length = refl; older-held = λ j j-in held. held; older = λ j v j-in held v-in. refl; newer = λ j v from j-in held v-in. absurd (omega arith) }
 
-module _ {steps base first k : ℕ} {days kept kept′ : List ℕ} (passed : KeptFrom steps base first k days kept kept′) where
+module _ {steps first k : ℕ} {days kept kept′ : List ℕ} (passed : KeptFrom steps first k days kept kept′) where
   -- A mark without a row is named by none.
-  pub kept-skip : (HasRow base k (length kept′) → ⊥) → KeptFrom steps base first (k + 1) days kept kept′
+  pub kept-skip : (HasRow k (length kept′) → ⊥) → KeptFrom steps first (k + 1) days kept kept′
   kept-skip no-row = record {
     same-length = passed .same-length;
     older-held = passed .older-held;
@@ -76,12 +76,12 @@ module _ {steps base first k : ℕ} {days kept kept′ : List ℕ} (passed : Kep
     newer = λ j v from j-in held v-in. told j v from j-in held v-in (ℕ-discrete j k);
   }
     where
-      told : (j v : ℕ) → first ≤ j → j < k + 1 → Holds base j kept′ → v < steps → Dec (j ≡ k) → at kept′ (row-of j + v) ≡ at days v
-      told j v from j-in held v-in (yes e) = absurd (no-row (subst (λ (x : ℕ). HasRow base x (length kept′)) e (held .has-row)))
+      told : (j v : ℕ) → first ≤ j → j < k + 1 → Holds j kept′ → v < steps → Dec (j ≡ k) → at kept′ (row-of j + v) ≡ at days v
+      told j v from j-in held v-in (yes e) = absurd (no-row (subst (λ (x : ℕ). HasRow x (length kept′)) e (held .has-row)))
       told j v from j-in held v-in (no e) = passed .newer j v from (omega arith) held v-in
 
   -- The days of one mark more are kept; the mark that had its row before is named no longer.
-  pub kept-more : {kept″ : List ℕ} → first ≤ k → steps ≤ STEPS → Filed steps days k kept′ kept″ → KeptFrom steps base first (k + 1) days kept kept″
+  pub kept-more : {kept″ : List ℕ} → first ≤ k → steps ≤ STEPS → Filed steps days k kept′ kept″ → KeptFrom steps first (k + 1) days kept kept″
   kept-more {kept″} from-first few f = record {
     same-length = f .same-length ∙ passed .same-length;
     older-held = λ j j-in held. passed .older-held j j-in (held-before f j (λ e. omega arith) held);
@@ -89,17 +89,17 @@ module _ {steps base first k : ℕ} {days kept kept′ : List ℕ} (passed : Kep
     newer = λ j v from j-in held v-in. told j v from j-in held v-in (ℕ-discrete j k);
   }
     where
-      told : (j v : ℕ) → first ≤ j → j < k + 1 → Holds base j kept″ → v < steps → Dec (j ≡ k) → at kept″ (row-of j + v) ≡ at days v
+      told : (j v : ℕ) → first ≤ j → j < k + 1 → Holds j kept″ → v < steps → Dec (j ≡ k) → at kept″ (row-of j + v) ≡ at days v
       told j v from j-in held v-in (yes e) = ap (λ (x : ℕ). at kept″ (row-of x + v)) e ∙ f .filed v v-in
       told j v from j-in held v-in (no e) = days-before f j e held v (omega arith) ∙ passed .newer j v from (omega arith) (held-before f j e held) v-in
 
 -- Once n new marks are passed, the row of each open mark that it names holds its days.
 pub keeps-days :
-    (n : ℕ) {c : Counts} {base : ℕ} {days marks kept kept′ : List ℕ} → MARKS ≤ length marks → c .marks + n ≤ MARKS →
-    KeptFrom (c .steps) base (c .marks) (c .marks + n) days kept kept′ →
-    KeepsDays c base days marks kept (more-marks n c) (marked n (c .rules) (c .marks) marks) kept′
-keeps-days n {c} {base} {days} {marks} {kept} {kept′} room few passed rules watched sound before = record {
-  kept-earliest = λ k held k-in. told k held k-in (decLt k (c .marks));
+    (n : ℕ) {c : Counts} {days marks kept kept′ : List ℕ} → MARKS ≤ length marks → c .marks + n ≤ MARKS →
+    KeptFrom (c .steps) (c .marks) (c .marks + n) days kept kept′ →
+    KeepsDays c days marks kept (more-marks n c) (marked n (c .rules) (c .marks) marks) kept′
+keeps-days n {c} {days} {marks} {kept} {kept′} room few passed rules watched sound before = record {
+  kept-earliest = λ k k-in held. told k held k-in (decLt k (c .marks));
 }
   where
     plan : (k : ℕ) → (ℕ → ℕ) → Type 0
@@ -112,11 +112,11 @@ keeps-days n {c} {base} {days} {marks} {kept} {kept′} room few passed rules wa
     same-plan : (m : ℕ) (p q : ℕ → ℕ) → m ≤ c .rules → ((v : ℕ) → v < c .steps → p v ≡ q v) → plan m p → plan m q
     same-plan m p q held = earliest-ext (c .steps) (rule-at rules) (λ i. i < m) p q (λ i i-in. sound .rules-good i (omega arith) .steps-in)
 
-    told : (k : ℕ) → Holds base k kept′ → k < c .marks + n → Dec (k < c .marks) → plan (at marks′ k) (λ v. at kept′ (row-of k + v))
+    told : (k : ℕ) → Holds k kept′ → k < c .marks + n → Dec (k < c .marks) → plan (at marks′ k) (λ v. at kept′ (row-of k + v))
     told k held k-in (yes older) =
         subst (λ (m : ℕ). plan m (λ v. at kept′ (row-of k + v))) (sym (marked-old n (c .rules) (c .marks) marks k older))
         (same-plan (at marks k) (λ v. at kept (row-of k + v)) (λ v. at kept′ (row-of k + v)) (sound .marks-held k older)
-        (λ v v-in. sym (passed .older k v older held (omega (arith, sound .counts-in .steps-in)))) (before .kept-earliest k (passed .older-held k older held) older))
+        (λ v v-in. sym (passed .older k v older held (omega (arith, sound .counts-in .steps-in)))) (before .kept-earliest k older (passed .older-held k older held)))
     told k held k-in (no newer) =
         subst (λ (m : ℕ). plan m (λ v. at kept′ (row-of k + v))) (sym (marked-new n (c .rules) (c .marks) marks k (omega arith) k-in (omega arith)))
         (same-plan (c .rules) (at days) (λ v. at kept′ (row-of k + v)) (omega arith)
@@ -124,13 +124,13 @@ keeps-days n {c} {base} {days} {marks} {kept} {kept′} room few passed rules wa
 
 -- No mark is left to be set: all are as they should be, and so are the days kept.
 pub pushed :
-    (n : ℕ) {c : Counts} {base k : ℕ} {days marks marks′ kept kept′ : List ℕ} → MARKS ≤ length marks → c .marks + n ≤ MARKS → k ≡ c .marks + n →
-    marked (c .marks + n - k) (c .rules) k marks′ ≡ marked n (c .rules) (c .marks) marks → KeptFrom (c .steps) base (c .marks) k days kept kept′ →
-    (marks′ ≡ marked n (c .rules) (c .marks) marks) × KeepsDays c base days marks kept (more-marks n c) marks′ kept′
-pushed n {c} {base} {k} {days} {marks} {marks′} {kept} {kept′} room few all rest passed = (
+    (n : ℕ) {c : Counts} {k : ℕ} {days marks marks′ kept kept′ : List ℕ} → MARKS ≤ length marks → c .marks + n ≤ MARKS → k ≡ c .marks + n →
+    marked (c .marks + n - k) (c .rules) k marks′ ≡ marked n (c .rules) (c .marks) marks → KeptFrom (c .steps) (c .marks) k days kept kept′ →
+    (marks′ ≡ marked n (c .rules) (c .marks) marks) × KeepsDays c days marks kept (more-marks n c) marks′ kept′
+pushed n {c} {k} {days} {marks} {marks′} {kept} {kept′} room few all rest passed = (
   same,
-  subst (λ (l : List ℕ). KeepsDays c base days marks kept (more-marks n c) l kept′) (sym same)
-      (keeps-days n room few (subst (λ (x : ℕ). KeptFrom (c .steps) base (c .marks) x days kept kept′) all passed)),
+  subst (λ (l : List ℕ). KeepsDays c days marks kept (more-marks n c) l kept′) (sym same)
+      (keeps-days n room few (subst (λ (x : ℕ). KeptFrom (c .steps) (c .marks) x days kept kept′) all passed)),
 )
   where
     none-left : c .marks + n - k ≡ 0

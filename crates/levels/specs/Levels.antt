@@ -55,25 +55,28 @@ ROW = STEPS + 1
 abbrev pub row-of : ℕ → ℕ
 row-of k = ROW * (k % ROWS)
 
--- The mark at place k is at place base or later, and its row is within a table with so many places.
-pub record HasRow (base k room : ℕ) : Type 0 where
-  pub from-base : base ≤ k
-  pub row-room : row-of k + STEPS < room
+-- The row of the mark at place k is within a table with so many places.
+abbrev pub HasRow : (k room : ℕ) → Type 0
+HasRow k room = row-of k + STEPS < room
 
 -- The mark at place k has a row, and the row names it: after the days stands k + 1, so that 0 names no mark.
-pub record Holds (base k : ℕ) (kept : List ℕ) : Type 0 where
-  pub has-row : HasRow base k (length kept)
+pub record Holds (k : ℕ) (kept : List ℕ) : Type 0 where
+  pub has-row : HasRow k (length kept)
   pub named : at kept (row-of k + STEPS) ≡ k + 1
 
+-- Where its row names the mark at place k, the days in the row are the earliest plan of the first m rules.
+abbrev pub KeptFor : (R : ℕ → Rule) (steps m k : ℕ) (kept : List ℕ) → Type 0
+KeptFor R steps m k kept = Holds k kept → Earliest steps R (λ i. i < m) (λ v. at kept (row-of k + v))
+
 -- Where the row of an open mark names it, the days in the row are the earliest plan of the rules held when the mark was set. A row that names no open mark tells nothing.
-pub record KeptDays (R : ℕ → Rule) (steps base open-marks : ℕ) (marks kept : List ℕ) : Type 0 where
-  pub kept-earliest : (k : ℕ) → Holds base k kept → k < open-marks → Earliest steps R (λ i. i < at marks k) (λ v. at kept (row-of k + v))
+pub record KeptDays (R : ℕ → Rule) (steps open-marks : ℕ) (marks kept : List ℕ) : Type 0 where
+  pub kept-earliest : (k : ℕ) → k < open-marks → KeptFor R steps (at marks k) k kept
 
 -- Whatever rules the tables were sound with: where the days of the marks then open were kept, those of the marks now open are kept.
-abbrev pub KeepsDays : Counts → (base : ℕ) (days marks kept : List ℕ) → Counts → (marks′ kept′ : List ℕ) → Type 0
-KeepsDays c base days marks kept c′ marks′ kept′ =
+abbrev pub KeepsDays : Counts → (days marks kept : List ℕ) → Counts → (marks′ kept′ : List ℕ) → Type 0
+KeepsDays c days marks kept c′ marks′ kept′ =
     (rules watched : Columns) → Sound (record { counts = c; rules = rules; days = days; marks = marks; watched = watched }) →
-    KeptDays (rule-at rules) (c .steps) base (c .marks) marks kept → KeptDays (rule-at rules) (c .steps) base (c′ .marks) marks′ kept′
+    KeptDays (rule-at rules) (c .steps) (c .marks) marks kept → KeptDays (rule-at rules) (c .steps) (c′ .marks) marks′ kept′
 
 -- n places of one list, from a on, were copied to another, from b on; its other places are as before.
 pub record Copied (n : ℕ) (from : List ℕ) (a : ℕ) (to : List ℕ) (b : ℕ) (to′ : List ℕ) : Type 0 where

@@ -6,11 +6,14 @@ ghost use lib.ListN.{length};
 ghost use Rattle.meaning.specs.Bounds.{STEPS, MARKS};
 ghost use Rattle.meaning.specs.Tables.{at, rule-at};
 ghost use Rattle.meaning.specs.Promise.{Planned};
-ghost use Rattle.leaf.specs.Lent.{columns, tables};
+ghost use Rattle.leaf.specs.Lent.{columns, first};
+ghost use Rattle.leaf.specs.Idle.{unwatched};
 ghost use Rattle.leaf.specs.Promises.{Border};
 ghost use Rattle.leaf.specs.Decides.{Decides};
+ghost use Rattle.spread.specs.Ground.{rules};
 ghost use Rattle.newrule.specs.Lending.{LentChains};
-ghost use Rattle.levels.specs.Levels.{marked, more-marks, row-of, Popped, HasRow, Holds, KeptDays, KeepsDays, Copied, Filed};
+ghost use Rattle.goback.specs.Replan.{Droppable};
+ghost use Rattle.levels.specs.Levels.{marked, more-marks, row-of, Popped, HasRow, Holds, KeptFor, KeptDays, KeepsDays, Copied, Filed};
 use meaning::Counts;
 
 // So many rows of kept days are used in turn.
@@ -29,22 +32,19 @@ fn row_of(k: usize) -> usize
     ROW * (k % ROWS)
 }
 
-// Whether mark k is at place base or later and has its row in a table with so many places.
-fn has_row(base: usize, k: usize, room: usize) -> bool
-    ensures { λ r. ⌜ Decides r (HasRow base k room) ⌝ }
+// Whether mark k has its row in a table with so many places.
+fn has_row(k: usize, room: usize) -> bool
+    ensures { λ r. ⌜ Decides r (HasRow k room) ⌝ }
 {
-    if k < base {
-        return false;
-    }
     row_of(k) + meaning::STEPS < room
 }
 
 // Whether the days of mark k are kept: it has a row, which names it.
-fn holds(base: usize, k: usize, kept: &[u32]) -> bool
+fn holds(k: usize, kept: &[u32]) -> bool
     requires { ⌜ k < MARKS ⌝ }
-    ensures { λ r. ⌜ Decides r (Holds base k (now (kept .entry))) ⌝ }
+    ensures { λ r. ⌜ Decides r (Holds k (now (kept .entry))) ⌝ }
 {
-    if has_row(base, k, kept.len()) {
+    if has_row(k, kept.len()) {
         return kept[row_of(k) + meaning::STEPS] == (k + 1) as u32;
     }
     false
@@ -74,28 +74,21 @@ fn keep_days(n: usize, days: &[u32], kept: &mut [u32], k: usize)
     kept[row + meaning::STEPS] = (k + 1) as u32;
 }
 
-// Sets n marks. The days of those from place base on that have a row are kept there.
-pub fn push(
-    counts: Counts,
-    days: &[u32],
-    marks: &mut [u32],
-    kept: &mut [u32],
-    base: usize,
-    n: usize,
-) -> Counts
+// Sets n marks. The days of those that have a row are kept there.
+pub fn push(counts: Counts, days: &[u32], marks: &mut [u32], kept: &mut [u32], n: usize) -> Counts
     requires { ⌜ counts .steps ≤ STEPS ⌝ }
     requires { ⌜ STEPS ≤ length (now days) ⌝ }
     requires { ⌜ MARKS ≤ length (now marks) ⌝ }
     requires { ⌜ counts .marks + n ≤ MARKS ⌝ }
     ensures { λ r. ⌜ r ≡ more-marks n counts ⌝ }
     ensures { λ r. ⌜ now (marks .exit) ≡ marked n (counts .rules) (counts .marks) (now (marks .entry)) ⌝ }
-    ensures { λ r. ⌜ KeepsDays counts base (now (days .entry)) (now (marks .entry)) (now (kept .entry)) r (now (marks .exit)) (now (kept .exit)) ⌝ }
+    ensures { λ r. ⌜ KeepsDays counts (now (days .entry)) (now (marks .entry)) (now (kept .entry)) r (now (marks .exit)) (now (kept .exit)) ⌝ }
 {
     let first = counts.marks as usize;
     let steps = counts.steps as usize;
     for k in first..first + n {
         marks[k] = counts.rules;
-        if has_row(base, k, kept.len()) {
+        if has_row(k, kept.len()) {
             keep_days(steps, days, kept, k);
         }
     }
@@ -131,22 +124,18 @@ pub fn pop(
     cs: &[i32],
     days: &mut [u32],
     marks: &[u32],
-    wxs: &[u16],
-    wys: &[u16],
-    wcs: &[i32],
     heads: &mut [u16],
     nexts: &[u16],
     kept: &[u32],
-    base: usize,
     n: usize,
 ) -> Counts
-    requires { ⌜ Border (tables counts (now xs) (now ys) (now cs) (now days) (now marks) (now wxs) (now wys) (now wcs)) ⌝ }
+    requires { ⌜ Border (unwatched counts (now xs) (now ys) (now cs) (now days) (now marks)) ⌝ }
     requires { ⌜ n ≤ counts .marks ⌝ }
     requires { ⌜ LentChains (counts .steps) (counts .rules) (now xs) (now heads) (now nexts) ⌝ }
-    requires { ⌜ KeptDays (rule-at (columns (now xs) (now ys) (now cs))) (counts .steps) base (counts .marks) (now marks) (now kept) ⌝ }
+    requires { ⌜ KeptDays (rule-at (columns (now xs) (now ys) (now cs))) (counts .steps) (counts .marks) (now marks) (now kept) ⌝ }
     ensures { λ r. ⌜
-        Popped n (tables counts (now (xs .entry)) (now (ys .entry)) (now (cs .entry)) (now (days .entry)) (now (marks .entry)) (now (wxs .entry)) (now (wys .entry)) (now (wcs .entry)))
-        (tables r (now (xs .entry)) (now (ys .entry)) (now (cs .entry)) (now (days .exit)) (now (marks .entry)) (now (wxs .entry)) (now (wys .entry)) (now (wcs .entry))) ⌝ }
+        Popped n (unwatched counts (now (xs .entry)) (now (ys .entry)) (now (cs .entry)) (now (days .entry)) (now (marks .entry)))
+        (unwatched r (now (xs .entry)) (now (ys .entry)) (now (cs .entry)) (now (days .exit)) (now (marks .entry))) ⌝ }
     ensures { λ r. ⌜ LentChains (r .steps) (r .rules) (now (xs .entry)) (now (heads .exit)) (now (nexts .entry)) ⌝ }
 {
     if n == 0 {
@@ -154,21 +143,10 @@ pub fn pop(
     }
     let k = counts.marks as usize - n;
     let m = marks[k];
-    drop_rules(
-        m as usize,
-        counts.rules as usize,
-        counts.steps as usize,
-        xs,
-        heads,
-        nexts,
-    );
-    let fewer = Counts {
-        steps: counts.steps,
-        rules: counts.rules,
-        marks: (k + 1) as u32,
-        watched: counts.watched,
-    };
-    days_at_mark(fewer, xs, ys, cs, days, marks, wxs, wys, wcs, kept, base);
+    let steps = counts.steps as usize;
+    let rules = counts.rules as usize;
+    drop_rules(m as usize, rules, steps, xs, heads, nexts);
+    days_at(steps, rules, m as usize, xs, ys, cs, days, kept, k);
     Counts {
         steps: counts.steps,
         rules: m,
@@ -177,31 +155,27 @@ pub fn pop(
     }
 }
 
-// Brings the days to the earliest plan of the rules held at the newest mark: a copy where they are kept.
-fn days_at_mark(
-    counts: Counts,
+// Brings the days of n steps, which are the earliest plan of m rules, to the earliest plan of the first l of them, those held when mark k was set: a copy where
+// they are kept.
+fn days_at(
+    n: usize,
+    m: usize,
+    l: usize,
     xs: &[u16],
     ys: &[u16],
     cs: &[i32],
     days: &mut [u32],
-    marks: &[u32],
-    wxs: &[u16],
-    wys: &[u16],
-    wcs: &[i32],
     kept: &[u32],
-    base: usize,
+    k: usize,
 )
-    requires { ⌜ Border (tables counts (now xs) (now ys) (now cs) (now days) (now marks) (now wxs) (now wys) (now wcs)) ⌝ }
-    requires { ⌜ 1 ≤ counts .marks ⌝ }
-    requires { ⌜ KeptDays (rule-at (columns (now xs) (now ys) (now cs))) (counts .steps) base (counts .marks) (now marks) (now kept) ⌝ }
-    ensures { λ _. ⌜
-        Planned (counts .steps) (rule-at (columns (now (xs .entry)) (now (ys .entry)) (now (cs .entry)))) (λ i. i < at (now (marks .entry)) (counts .marks - 1))
-        (now (days .entry)) (now (days .exit)) ⌝ }
+    requires { ⌜ Droppable n (first m) (first l) (now xs) (now ys) (now cs) (now days) ⌝ }
+    requires { ⌜ k < MARKS ⌝ }
+    requires { ⌜ KeptFor (rules (now xs) (now ys) (now cs)) n l k (now kept) ⌝ }
+    ensures { λ _. ⌜ Planned n (rules (now (xs .entry)) (now (ys .entry)) (now (cs .entry))) (first l) (now (days .entry)) (now (days .exit)) ⌝ }
 {
-    let k = counts.marks as usize - 1;
-    if holds(base, k, kept) {
-        copy_days(counts.steps as usize, kept, row_of(k), days, 0);
+    if holds(k, kept) {
+        copy_days(n, kept, row_of(k), days, 0);
         return;
     }
-    goback::back(counts, xs, ys, cs, days, marks, wxs, wys, wcs);
+    goback::keep_first(n, m, l, xs, ys, cs, days);
 }

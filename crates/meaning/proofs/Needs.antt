@@ -2,12 +2,12 @@
 use Prim.Native.Nat.{ℕ, zero, suc, _≤_, _<_}
 use native.Mathlib.Omega.{arith}
 use mathlib.Core.Path.{_≡_, refl, sym, _∙_, ap, subst}
-use mathlib.Core.List.{List, [], _∷_}
+use mathlib.Core.List.{List, [], _∷_, _++_}
 use mathlib.Core.Logic.{_⊎_, inl, inr, _↔_}
-use mathlib.Core.Bool.{Bool, true, false, _&&_}
-use lib.Dec.{T, ltb, ltb→lt}
+use mathlib.Core.Bool.{Bool, true, false, not, _&&_}
+use lib.Dec.{T, ltb, ltb→lt, eqb}
+use borrow.Author.Tests.{eq-eqb}
 use Rattle.meaning.specs.Bounds.{DONE, CONFLICT}
-use Rattle.meaning.specs.declared.Answer.{Answer}
 use Rattle.meaning.specs.Rules.{Rule}
 use Rattle.meaning.specs.Tables.{Tables}
 use Rattle.meaning.specs.Promise.{Given, bare, given, Need, First, Meaning, Obeys}
@@ -52,6 +52,9 @@ rises k (n ∷ l) = ltb k (n .number) && rises (n .number) l
 both : (a b : Bool) → T (a && b) → T a × T b
 both true b h = (tt, h)
 both false b h = absurd h
+
+other : (k n : ℕ) → T (not (eqb k n)) → k ≡ n → ⊥
+other k n h e = subst (λ (b : Bool). T (not b)) (eq-eqb k n e) h
 
 rise-head : (k : ℕ) (n : Need) (l : List Need) → T (rises k (n ∷ l)) → k < n .number
 rise-head k n l h = ltb→lt k (n .number) (both (ltb k (n .number)) (rises (n .number) l) h .0)
@@ -135,6 +138,27 @@ done-met k g [] h e z = tt
 done-met k g (n ∷ l) h (inl a) z = absurd (omega (arith, rise-head k n l h, a .0))
 done-met k g (n ∷ l) h (inr a) z = (a .0, done-met (n .number) g l (rise-tail k n l h) (a .1) z)
 
+-- Where a need of l is not met, more needs behind it change nothing.
+pub first-stops : (l k : List Need) (g : ℕ) → (g ≡ DONE → ⊥) → First l g → First (l ++ k) g
+first-stops [] k g some f = absurd (some f)
+first-stops (n ∷ l) k g some (inl a) = inl a
+first-stops (n ∷ l) k g some (inr a) = inr (a .0, first-stops l k g some (a .1))
+
+-- Where every need of l is met, those behind it decide.
+pub first-passes : (l k : List Need) (g : ℕ) → AllMet l → First k g → First (l ++ k) g
+first-passes [] k g met f = f
+first-passes (n ∷ l) k g met f = inr (met .0, first-passes l k g (met .1) f)
+
+-- The test that no need of l has the number k; then, if k is not DONE, it is not given.
+abbrev pub none-has : ℕ → List Need → Bool
+none-has k [] = true
+none-has k (n ∷ l) = not (eqb k (n .number)) && none-has k l
+
+pub not-given : (k g : ℕ) (l : List Need) → T (none-has k l) → (k ≡ DONE → ⊥) → First l g → g ≡ k → ⊥
+not-given k g [] h some f e = some (sym e ∙ f)
+not-given k g (n ∷ l) h some (inl a) e = other (k) (n .number) (both (not (eqb k (n .number))) (none-has k l) h .0) (sym e ∙ a .0)
+not-given k g (n ∷ l) h some (inr a) e = not-given k g l (both (not (eqb k (n .number))) (none-has k l) h .1) some (a .1) e
+
 -- ---- laws by which each return of the code is answered in a line
 
 module _ {S : Type 0} (m : Meaning S) (before : S) where
@@ -167,42 +191,3 @@ module _ {S : Type 0} (m : Meaning S) (before : S) where
         on-conflict = λ e. absurd (nc e);
         when-refused = λ a b. (refl, refl);
       }
-
--- ---- number and values tell the answer
-
--- The answer that has the number and the values.
-answer-of : Given → Answer
-answer-of g = pick (g .number)
-  where
-    pick : ℕ → Answer
-    pick zero = Answer.Done (g .one) (g .two)
-    pick (suc zero) = Answer.Short
-    pick (suc (suc zero)) = Answer.Damaged
-    pick (suc (suc (suc zero))) = Answer.Step
-    pick (suc (suc (suc (suc zero)))) = Answer.Amount
-    pick (suc (suc (suc (suc (suc zero))))) = Answer.Full
-    pick (suc (suc (suc (suc (suc (suc zero)))))) = Answer.Conflict (g .one)
-    pick (suc (suc (suc (suc (suc (suc (suc zero))))))) = Answer.NoMark
-    pick (suc (suc (suc (suc (suc (suc (suc (suc zero)))))))) = Answer.Syntax
-    pick (suc (suc (suc (suc (suc (suc (suc (suc (suc zero))))))))) = Answer.Mode
-    pick (suc (suc (suc (suc (suc (suc (suc (suc (suc (suc zero)))))))))) = Answer.Name
-    pick (suc (suc (suc (suc (suc (suc (suc (suc (suc (suc (suc k))))))))))) = Answer.Size
-
-answer-back : (a : Answer) → answer-of (given a) ≡ a
-unfolding answer-of
-answer-back (Answer.Done a b) = refl
-answer-back Answer.Short = refl
-answer-back Answer.Damaged = refl
-answer-back Answer.Step = refl
-answer-back Answer.Amount = refl
-answer-back Answer.Full = refl
-answer-back (Answer.Conflict a) = refl
-answer-back Answer.NoMark = refl
-answer-back Answer.Syntax = refl
-answer-back Answer.Mode = refl
-answer-back Answer.Name = refl
-answer-back Answer.Size = refl
-
--- Answers with the same number and values are the same.
-pub answer-told : (a b : Answer) → given a ≡ given b → a ≡ b
-answer-told a b e = sym (answer-back a) ∙ ap answer-of e ∙ answer-back b

@@ -299,7 +299,7 @@ module _ {S : Type 0} (m : Meaning S) (before : S) where
       go-on enough sound last-2
 
   -- Those of a call that is handed a rule.
-  look-at-rule : (r : Rule) (t : Tables) (l : List Need) → Last (rule-needs r t l) → (InSteps (t .counts .steps) r → InAmount (r .amount) → Last l → Outcome m before) → Outcome m before
+  look-at-rule : (r : Rule) (t : Tables) (l : List Need) → Last (rule-needs (t .counts .steps) r l) → (InSteps (t .counts .steps) r → InAmount (r .amount) → Last l → Outcome m before) → Outcome m before
   look-at-rule r t l last go-on =
       look STEP (InSteps (t .counts .steps) r) (needs AMOUNT (InAmount (r .amount)) ∷ l) tt last (in-steps? (t .counts .steps) r) λ steps last-1.
       look AMOUNT (InAmount (r .amount)) l tt last-1 (in-amount? (r .amount)) λ amount last-2.
@@ -316,7 +316,7 @@ open-possible n t =
 
 pub watch-possible : (r : Rule) (t : Tables) → Outcome (watch-meaning r t) t
 watch-possible r t =
-    look-at-tables m t t (Room t) (rule-needs r t (needs FULL (t .counts .watched < WATCHED) ∷ [])) (λ g f. f) (room? t) λ room sound last.
+    look-at-tables m t t (Room t) (rule-needs (t .counts .steps) r (needs FULL (t .counts .watched < WATCHED) ∷ [])) (λ g f. f) (room? t) λ room sound last.
     look-at-rule m t r t (needs FULL (t .counts .watched < WATCHED) ∷ []) last λ steps amount last-1.
     look m t FULL (t .counts .watched < WATCHED) [] tt last-1 (decLt _ _) λ place last-2.
     allowed-outcome (watch-met r t room sound steps amount place)
@@ -347,7 +347,7 @@ back-possible t =
 -- What Add and Trial need before the last need, where what must have room is given.
 look-as-add : {S : Type 0} (m : Meaning S) (before : S) (r : Rule) (t : Tables) (P : Type 0) → (P → Room t) → Last m before (add-needs r t P) → Dec P → (P → Asked r t → Outcome m before) → Outcome m before
 look-as-add m before r t P room-of last enough? go-on =
-    look-at-tables m before t P (rule-needs r t rest) last enough? λ enough sound last-1.
+    look-at-tables m before t P (rule-needs (t .counts .steps) r rest) last enough? λ enough sound last-1.
     look-at-rule m before r t rest last-1 λ steps amount last-2.
     look m before FULL (t .counts .rules < RULES) (needs CONFLICT (Fits (rules-of t) (held-in t) r) ∷ []) tt last-2 (decLt _ _) λ place last-3.
     go-on enough (record { room = room-of enough; sound = sound; steps-in = steps; amount-in = amount; not-full = place })
@@ -427,7 +427,7 @@ consequences-possible s =
 
 pub ring-check-possible : (r : Rule) (s : WithList) → Outcome (ring-check-meaning r s) s
 ring-check-possible r s =
-    look-at-tables m s t (Room t) (rule-needs r t []) (λ g f. f) (room? t) λ room sound last.
+    look-at-tables m s t (Room t) (rule-needs (t .counts .steps) r []) (λ g f. f) (room? t) λ room sound last.
     look-at-rule m s r t [] last λ steps amount last-1.
     allowed-outcome (ring-check-met r t (s .list) room sound steps amount (refutes? (rules-of t) (held-in t) (λ i. decLt i (t .counts .rules)) (next-in t) r (s .list)))
   where

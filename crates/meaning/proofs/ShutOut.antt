@@ -14,7 +14,7 @@ use lib.ListN.{length, replicate, take, length-replicate}
 use Rattle.meaning.specs.Bounds.{STEPS, RULES, MARKS, WATCHED, DONE, FULL, CONFLICT}
 use Rattle.meaning.specs.declared.Counts.{Counts}
 use Rattle.meaning.specs.Rules.{Rule, Keeps, Plan, Earliest, Leads, All, Different, total, more, Tight}
-use Rattle.meaning.specs.Tables.{Tables, Columns, rule-at, at, ColumnsRoom, Room, with-days}
+use Rattle.meaning.specs.Tables.{Tables, Columns, rule-at, at, ColumnsRoom, Room, with-days, steps-alone}
 use Rattle.meaning.specs.Promise.{Given, bare, Meaning, Obeys, Past, In, Exactly}
 use Rattle.meaning.specs.Calls.{WithList, WithLists, rules-of, held-in, next-in, rules-and, held-and, add-meaning, back-meaning, consequences-meaning}
 use Rattle.meaning.specs.Cases.{Row, Days, Done, Says}
@@ -123,7 +123,7 @@ blank-columns : ℕ → Columns
 blank-columns k = record { firsts = replicate k 0; seconds = replicate k 0; amounts = replicate k (pos 0) }
 
 blank : Tables
-blank = record { counts = record { steps = 0; rules = 0; marks = 0; watched = 0 }; rules = blank-columns RULES; days = replicate STEPS 0; marks = replicate MARKS 0; watched = blank-columns WATCHED }
+blank = record { counts = steps-alone 0; rules = blank-columns RULES; days = replicate STEPS 0; marks = replicate MARKS 0; watched = blank-columns WATCHED }
 
 columns-room : (k : ℕ) → ColumnsRoom k (blank-columns k)
 unfolding blank-columns

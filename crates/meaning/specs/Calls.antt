@@ -36,9 +36,9 @@ rules-and r t = more (rules-of t) (next-in t) r
 abbrev pub held-and : Tables → ℕ → Type 0
 held-and t = plus (held-in t) (next-in t)
 
--- What a rule handed to a call needs.
-abbrev pub rule-needs : Rule → Tables → List Need → List Need
-rule-needs r t l = needs STEP (InSteps (t .counts .steps) r) ∷ needs AMOUNT (InAmount (r .amount)) ∷ l
+-- What a rule handed to a call needs, over n steps.
+abbrev pub rule-needs : ℕ → Rule → List Need → List Need
+rule-needs n r l = needs STEP (InSteps n r) ∷ needs AMOUNT (InAmount (r .amount)) ∷ l
 
 -- **Open**: n steps, no rules, marks or watched rules, day 0 for every step.
 pub record Opened (n : ℕ) (before : Tables) (a b : ℕ) (after : Tables) : Type 0 where
@@ -62,7 +62,7 @@ pub record Watched (r : Rule) (before : Tables) (a b : ℕ) (after : Tables) : T
 abbrev pub watch-meaning : Rule → Tables → Meaning Tables
 watch-meaning r before = record {
   asks =
-      needs SHORT (Room before) ∷ needs DAMAGED (Sound before) ∷ rule-needs r before (needs FULL (before .counts .watched < WATCHED) ∷ []);
+      needs SHORT (Room before) ∷ needs DAMAGED (Sound before) ∷ rule-needs (before .counts .steps) r (needs FULL (before .counts .watched < WATCHED) ∷ []);
   done = Watched r before;
   conflict = no-conflict;
 }
@@ -70,7 +70,7 @@ watch-meaning r before = record {
 -- What Add and Trial need, where what must have room is given.
 abbrev pub add-needs : Rule → Tables → Type 0 → List Need
 add-needs r t room =
-    needs SHORT room ∷ needs DAMAGED (Sound t) ∷ rule-needs r t
+    needs SHORT room ∷ needs DAMAGED (Sound t) ∷ rule-needs (t .counts .steps) r
     (needs FULL (t .counts .rules < RULES) ∷ needs CONFLICT (Fits (rules-of t) (held-in t) r) ∷ [])
 
 -- The ring of a conflict, in the list lent for it.
@@ -174,7 +174,7 @@ pub record RingChecked (r : Rule) (before : WithList) (a b : ℕ) (after : WithL
 
 abbrev pub ring-check-meaning : Rule → WithList → Meaning WithList
 ring-check-meaning r before = record {
-  asks = needs SHORT (Room (before .tables)) ∷ needs DAMAGED (Sound (before .tables)) ∷ rule-needs r (before .tables) [];
+  asks = needs SHORT (Room (before .tables)) ∷ needs DAMAGED (Sound (before .tables)) ∷ rule-needs (before .tables .counts .steps) r [];
   done = RingChecked r before;
   conflict = no-conflict;
 }

@@ -6,8 +6,9 @@ use mathlib.Core.Bool.{cond}
 use mathlib.Core.Logic.{_⊎_}
 use lib.Dec.{eqb}
 use lib.ListN.{length, take}
-use Rattle.meaning.specs.declared.Answer.{Answer}
-use Rattle.meaning.specs.Bounds.{DONE, SHORT, DAMAGED, STEP, AMOUNT, FULL, CONFLICT, NOMARK, SYNTAX, MODE, NAME, SIZE}
+use Rattle.meaning.specs.declared.Counts.{Counts}
+use Rattle.meaning.specs.declared.Reply.{Reply}
+use Rattle.meaning.specs.Bounds.{DONE, CONFLICT}
 use Rattle.meaning.specs.Rules.{Rule, All, Earliest}
 use Rattle.meaning.specs.Tables.{at}
 
@@ -21,20 +22,16 @@ pub record Given : Type 0 where
 abbrev pub bare : ℕ → Given
 bare k = record { number = k; one = 0; two = 0 }
 
--- The number and values of each answer.
-abbrev pub given : Answer → Given
-given (Answer.Done a b) = record { number = DONE; one = a; two = b }
-given Answer.Short = bare SHORT
-given Answer.Damaged = bare DAMAGED
-given Answer.Step = bare STEP
-given Answer.Amount = bare AMOUNT
-given Answer.Full = bare FULL
-given (Answer.Conflict a) = record { number = CONFLICT; one = a; two = 0 }
-given Answer.NoMark = bare NOMARK
-given Answer.Syntax = bare SYNTAX
-given Answer.Mode = bare MODE
-given Answer.Name = bare NAME
-given Answer.Size = bare SIZE
+-- A number with two values.
+abbrev pub gave : ℕ → ℕ → ℕ → Given
+gave k a b = record { number = k; one = a; two = b }
+
+-- A reply: the counts after the call, its number and its two values; and what it gives back.
+abbrev pub reply : Counts → ℕ → ℕ → ℕ → Reply
+reply c k a b = record { counts = c; number = k; one = a; two = b }
+
+abbrev pub given : Reply → Given
+given r = gave (r .number) (r .one) (r .two)
 
 -- Something a call needs, and the number given where it is the first that is not met.
 pub record Need : Type 1 where

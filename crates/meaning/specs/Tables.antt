@@ -72,14 +72,28 @@ pub record Sound (t : Tables) : Type 0 where
   pub marks-held : (i : ℕ) → i < t .counts .marks → at (t .marks) i ≤ t .counts .rules
   pub days-earliest : Earliest (t .counts .steps) (rule-at (t .rules)) (held t) (at (t .days))
 
+-- The counts of n steps, and of nothing else.
+abbrev pub steps-alone : ℕ → Counts
+steps-alone n = record { steps = n; rules = 0; marks = 0; watched = 0 }
+
+-- The counts with k rules held, with k marks open, with k rules watched.
+abbrev pub rules-now : ℕ → Counts → Counts
+rules-now k c = record { steps = c .steps; rules = k; marks = c .marks; watched = c .watched }
+
+abbrev pub marks-now : ℕ → Counts → Counts
+marks-now k c = record { steps = c .steps; rules = c .rules; marks = k; watched = c .watched }
+
+abbrev pub watched-now : ℕ → Counts → Counts
+watched-now k c = record { steps = c .steps; rules = c .rules; marks = c .marks; watched = k }
+
 -- The tables of n steps with no rule, mark or watched rule. The days are not yet set.
 abbrev pub opened : ℕ → Tables → Tables
-opened n t = record { counts = record { steps = n; rules = 0; marks = 0; watched = 0 }; rules = t .rules; days = t .days; marks = t .marks; watched = t .watched }
+opened n t = record { counts = steps-alone n; rules = t .rules; days = t .days; marks = t .marks; watched = t .watched }
 
 -- The tables with one more rule watched, at the end.
 abbrev pub with-watched : Rule → Tables → Tables
 with-watched r t = record {
-  counts = record { steps = t .counts .steps; rules = t .counts .rules; marks = t .counts .marks; watched = t .counts .watched + 1 };
+  counts = watched-now (t .counts .watched + 1) (t .counts);
   rules = t .rules;
   days = t .days;
   marks = t .marks;
@@ -89,7 +103,7 @@ with-watched r t = record {
 -- The tables with one more rule held, under the next number. The days are not yet brought up to date.
 abbrev pub with-rule : Rule → Tables → Tables
 with-rule r t = record {
-  counts = record { steps = t .counts .steps; rules = t .counts .rules + 1; marks = t .counts .marks; watched = t .counts .watched };
+  counts = rules-now (t .counts .rules + 1) (t .counts);
   rules = put (t .rules) (next t) r;
   days = t .days;
   marks = t .marks;
@@ -99,7 +113,7 @@ with-rule r t = record {
 -- The tables with one more mark: the number of rules held now.
 abbrev pub with-mark : Tables → Tables
 with-mark t = record {
-  counts = record { steps = t .counts .steps; rules = t .counts .rules; marks = t .counts .marks + 1; watched = t .counts .watched };
+  counts = marks-now (t .counts .marks + 1) (t .counts);
   rules = t .rules;
   days = t .days;
   marks = set (t .marks) (t .counts .marks) (t .counts .rules);
@@ -113,7 +127,7 @@ newest-mark t = at (t .marks) (t .counts .marks - 1)
 -- The tables without the newest mark and the rules added after it. The days are not yet brought up to date.
 abbrev pub without-mark : Tables → Tables
 without-mark t = record {
-  counts = record { steps = t .counts .steps; rules = newest-mark t; marks = t .counts .marks - 1; watched = t .counts .watched };
+  counts = marks-now (t .counts .marks - 1) (rules-now (newest-mark t) (t .counts));
   rules = t .rules;
   days = t .days;
   marks = t .marks;

@@ -1,4 +1,8 @@
 // The types that every call's contract shares, and the bounds as the code has them. What they mean stands in specs/.
+ghost use mathlib.Core.Path.{_≡_};
+ghost use Rattle.meaning.specs.Bounds.{DONE, CONFLICT};
+ghost use Rattle.meaning.specs.Tables.{steps-alone, rules-now, marks-now, watched-now};
+ghost use Rattle.meaning.specs.Promise.{reply};
 
 // There are 1 to STEPS steps.
 pub const STEPS: usize = 256;
@@ -64,24 +68,94 @@ pub struct Counts {
     pub watched: u32,
 }
 
-// What a call gives back. Done has the call's two values, 0 where it has none; Conflict has the ring's length.
-pub enum Answer {
-    Done(u32, u32),
-    Short,
-    Damaged,
-    Step,
-    Amount,
-    Full,
-    Conflict(u32),
-    NoMark,
-    Syntax,
-    Mode,
-    Name,
-    Size,
+// The counts of tables with so many steps, and no rules, marks or watched rules.
+pub fn steps_alone(steps: u32) -> Counts
+    ensures { λ r. ⌜ r ≡ steps-alone steps ⌝ }
+{
+    Counts {
+        steps: steps,
+        rules: 0,
+        marks: 0,
+        watched: 0,
+    }
 }
 
-// An answer with the counts as they are after the call.
+// The counts with so many rules held.
+pub fn rules_now(counts: Counts, rules: u32) -> Counts
+    ensures { λ r. ⌜ r ≡ rules-now rules counts ⌝ }
+{
+    Counts {
+        steps: counts.steps,
+        rules: rules,
+        marks: counts.marks,
+        watched: counts.watched,
+    }
+}
+
+// The counts with so many marks open.
+pub fn marks_now(counts: Counts, marks: u32) -> Counts
+    ensures { λ r. ⌜ r ≡ marks-now marks counts ⌝ }
+{
+    Counts {
+        steps: counts.steps,
+        rules: counts.rules,
+        marks: marks,
+        watched: counts.watched,
+    }
+}
+
+// The counts with so many rules watched.
+pub fn watched_now(counts: Counts, watched: u32) -> Counts
+    ensures { λ r. ⌜ r ≡ watched-now watched counts ⌝ }
+{
+    Counts {
+        steps: counts.steps,
+        rules: counts.rules,
+        marks: counts.marks,
+        watched: watched,
+    }
+}
+
+// What a call gives back: its number and two values, 0 where it has none, with the counts as they are after the call. On CONFLICT the first value is the ring's length.
 pub struct Reply {
     pub counts: Counts,
-    pub answer: Answer,
+    pub number: u32,
+    pub one: u32,
+    pub two: u32,
+}
+
+// The call was carried out.
+pub fn done(counts: Counts, one: u32, two: u32) -> Reply
+    ensures { λ r. ⌜ r ≡ reply counts DONE one two ⌝ }
+{
+    Reply {
+        counts: counts,
+        number: DONE,
+        one: one,
+        two: two,
+    }
+}
+
+// The call was refused, and changed nothing.
+pub fn refused(counts: Counts, number: u32) -> Reply
+    ensures { λ r. ⌜ r ≡ reply counts number 0 0 ⌝ }
+{
+    Reply {
+        counts: counts,
+        number: number,
+        one: 0,
+        two: 0,
+    }
+}
+
+// The rule fits no arrangement, and a ring of so many rules says why.
+pub fn conflict(counts: Counts, length: u32) -> Reply
+    ensures { λ r. ⌜ r ≡ reply counts CONFLICT length 0 ⌝ }
+{
+    Reply {
+        counts: counts,
+        number: CONFLICT,
+        one: length,
+        two: 0,
+    }
 }

@@ -6,8 +6,7 @@ use mathlib.Core.List.{List}
 use lib.ListN.{length, take, replicate, getD-replicate, length-replicate}
 use lib.IntN.{ℤ, pos}
 use Rattle.meaning.specs.declared.Counts.{Counts}
-use Rattle.meaning.specs.declared.Answer.{Answer}
-use Rattle.meaning.specs.Bounds.{STEPS, RULES, LARGEST}
+use Rattle.meaning.specs.Bounds.{STEPS, RULES, LARGEST, DONE, CONFLICT}
 use Rattle.meaning.specs.Rules.{Keeps, InBounds, Earliest, Refutes, more, plus}
 use Rattle.meaning.specs.Tables.{Columns, ColumnsRoom, rule-at, put, at}
 use Rattle.meaning.specs.Promise as promise
@@ -147,7 +146,7 @@ module _
       (one two one′ : List ℕ) → BothRoom one two → (k : ℕ) →
       promise.Planned (counts .steps) (more (rules xs ys cs) (counts .rules) (rule x y c)) (plus (first (counts .rules)) (counts .rules)) one one′ →
       k ≡ promise.moved (counts .steps) days one′ →
-      TrialKept counts xs ys cs days one two x y c (record { counts = counts; answer = Answer.Done k 0 }) one′ two
+      TrialKept counts xs ys cs days one two x y c (promise.reply counts DONE k 0) one′ two
   trial-done one two one′ long k p count marks wxs wys wcs b =
       let a = asked marks wxs wys wcs b in
       obeys-done _ _ k 0 _
@@ -157,7 +156,7 @@ module _
   -- Trial, on conflict.
   pub trial-conflict :
       (one two two′ : List ℕ) → BothRoom one two → (k : ℕ) → RingIn (first (counts .rules)) (counts .rules) xs ys cs x y c k two two′ →
-      TrialKept counts xs ys cs days one two x y c (record { counts = counts; answer = Answer.Conflict k }) one two′
+      TrialKept counts xs ys cs days one two x y c (promise.reply counts CONFLICT k 0) one two′
   trial-conflict one two two′ long k ring marks wxs wys wcs b =
       let a = asked marks wxs wys wcs b in
       obeys-conflict _ _ k _ (first-conflict (rule x y c) _ a (take k two′) (a .room, long .one-room, long .two-room) (ring .holds))
@@ -167,7 +166,7 @@ module _
   pub add-done :
       (list : List ℕ) → STEPS ≤ length list → (k : ℕ) (after : Counts) (xs′ ys′ : List ℕ) (cs′ : List ℤ) (days′ : List ℕ) → after ≡ one-more counts →
       Taken (counts .steps) (first (counts .rules)) (counts .rules) (rule x y c) (columns xs ys cs) days k (columns xs′ ys′ cs′) days′ →
-      AddKept counts xs ys cs days list x y c (record { counts = after; answer = Answer.Done k 0 }) xs′ ys′ cs′ days′ list
+      AddKept counts xs ys cs days list x y c (promise.reply after DONE k 0) xs′ ys′ cs′ days′ list
   add-done list long k after xs′ ys′ cs′ days′ counted t marks wxs wys wcs b =
       let a = asked marks wxs wys wcs b in
       obeys-done _ _ k 0 _
@@ -185,7 +184,7 @@ module _
       (list list′ : List ℕ) → STEPS ≤ length list → (k moved : ℕ) (xs′ ys′ : List ℕ) (cs′ : List ℤ) (days′ : List ℕ) →
       Left (first (counts .rules)) (rule x y c) (columns xs ys cs) days moved (columns xs′ ys′ cs′) days′ →
       RingIn (first (counts .rules)) (counts .rules) xs ys cs x y c k list list′ →
-      AddKept counts xs ys cs days list x y c (record { counts = counts; answer = Answer.Conflict k }) xs′ ys′ cs′ days′ list′
+      AddKept counts xs ys cs days list x y c (promise.reply counts CONFLICT k 0) xs′ ys′ cs′ days′ list′
   add-conflict list list′ long k moved xs′ ys′ cs′ days′ left ring marks wxs wys wcs b =
       let a = asked marks wxs wys wcs b in
       obeys-conflict _ _ k _ (first-conflict (rule x y c) _ a (take k list′) (a .room, long) (ring .holds))

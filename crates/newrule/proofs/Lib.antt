@@ -2,3 +2,4 @@
 pub mod Raising
 pub mod Fitting
 pub mod Answers
+pub mod Holding

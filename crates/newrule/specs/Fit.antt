@@ -7,7 +7,7 @@ use mathlib.Core.List.{List}
 use lib.IntN.{ℤ}
 use Rattle.meaning.specs.declared.Counts.{Counts}
 use Rattle.meaning.specs.Rules.{Rule, Fits, more, plus}
-use Rattle.meaning.specs.Tables.{Columns, rule-at, put}
+use Rattle.meaning.specs.Tables.{Columns, rule-at, put, rules-now}
 use Rattle.meaning.specs.Promise as promise
 use Rattle.leaf.specs.Lent.{columns}
 use Rattle.leaf.specs.Promises.{rule}
@@ -40,4 +40,4 @@ pub record TellsWhy
 
 -- The counts with one more rule.
 abbrev pub one-more : Counts → Counts
-one-more counts = record { steps = counts .steps; rules = counts .rules + 1; marks = counts .marks; watched = counts .watched }
+one-more counts = rules-now (counts .rules + 1) counts

@@ -1,11 +1,14 @@
 -- The promises of Add and Trial, whatever the marks and the watched rules are.
-use Prim.Native.Nat.{ℕ, _≤_}
-use mathlib.Core.List.{List}
+use Prim.Native.Nat.{ℕ, _≤_, _<_}
+use mathlib.Core.List.{List, [], _∷_}
 use lib.ListN.{length}
 use lib.IntN.{ℤ}
 use Rattle.meaning.specs.declared.Counts.{Counts}
 use Rattle.meaning.specs.declared.Reply.{Reply}
-use Rattle.meaning.specs.Bounds.{STEPS}
+use Rattle.meaning.specs.Bounds.{STEPS, RULES, FULL}
+use Rattle.meaning.specs.Rules.{Rule}
+use Rattle.meaning.specs.Promise.{Need, needs}
+use Rattle.meaning.specs.Calls.{rule-needs}
 use Rattle.leaf.specs.Lent.{tables}
 use Rattle.leaf.specs.Promises.{Border, Adds, Tries}
 
@@ -13,6 +16,10 @@ use Rattle.leaf.specs.Promises.{Border, Adds, Tries}
 pub record BothRoom (one two : List ℕ) : Type 0 where
   pub one-room : STEPS ≤ length one
   pub two-room : STEPS ≤ length two
+
+-- What a rule that is to be held needs.
+abbrev pub hold-needs : Counts → Rule → List Need
+hold-needs counts r = rule-needs (counts .steps) r (needs FULL (counts .rules < RULES) ∷ [])
 
 module _ (counts : Counts) (xs ys : List ℕ) (cs : List ℤ) (days : List ℕ) where
   -- Trial's promise, with any marks and watched rules that have room and are sound.

@@ -4,14 +4,14 @@ ghost use mathlib.Core.Path.{_≡_};
 ghost use Prim.Native.Nat.{_<_, _≤_};
 ghost use lib.ListN.{length};
 ghost use Rattle.meaning.specs.Bounds.{STEPS, RULES};
+ghost use Rattle.meaning.specs.Promise.{First};
 ghost use Rattle.leaf.specs.Lent.{columns, first};
 ghost use Rattle.leaf.specs.Promises.{rule};
 ghost use Rattle.chains.specs.Chains.{number};
 ghost use Rattle.newrule.specs.Planning.{Lack, Base, NoGains, Plannable, Planned, Raised, Raisable};
 ghost use Rattle.newrule.specs.Lending.{Ready};
 ghost use Rattle.newrule.specs.Fit.{Tells, TellsWhy, one-more};
-ghost use Rattle.newrule.specs.Kept.{BothRoom, TrialKept, AddKept};
-use meaning::Answer;
+ghost use Rattle.newrule.specs.Kept.{BothRoom, hold-needs, TrialKept, AddKept};
 use meaning::Counts;
 use meaning::Reply;
 
@@ -199,12 +199,21 @@ pub fn one_more(counts: Counts) -> Counts
     requires { ⌜ counts .rules < RULES ⌝ }
     ensures { λ r. ⌜ r ≡ one-more counts ⌝ }
 {
-    Counts {
-        steps: counts.steps,
-        rules: counts.rules + 1,
-        marks: counts.marks,
-        watched: counts.watched,
+    meaning::rules_now(counts, counts.rules + 1)
+}
+
+// The number of the first refusal of a rule that is to be held: STEP, AMOUNT, FULL; else 0.
+fn hold_verdict(counts: Counts, x: u32, y: u32, c: i32) -> u32
+    ensures { λ r. ⌜ First (hold-needs counts (rule x y c)) r ⌝ }
+{
+    let number = inside::rule_verdict(counts.steps, x, y, c);
+    if 0 < number {
+        return number;
     }
+    if meaning::RULES <= counts.rules as usize {
+        return meaning::FULL;
+    }
+    0
 }
 
 // Trial of a rule that can be asked for, with gains and by to work in.
@@ -249,10 +258,7 @@ fn trial_fine(
         by,
     ) {
         let moved = write_days(n, days, gains, one);
-        return Reply {
-            counts: counts,
-            answer: Answer::Done(moved, 0),
-        };
+        return meaning::done(counts, moved, 0);
     }
     let k = spread::ring(
         n,
@@ -268,10 +274,7 @@ fn trial_fine(
         c,
         two,
     );
-    Reply {
-        counts: counts,
-        answer: Answer::Conflict(k as u32),
-    }
+    meaning::conflict(counts, k as u32)
 }
 
 // Add of a rule that can be asked for, with gains and by to work in.
@@ -301,10 +304,7 @@ fn add_fine(
     let m = counts.rules as usize;
     let fitted = fit_with(n, m, xs, ys, cs, days, heads, nexts, x, y, c, gains, by);
     if fitted.fits {
-        return Reply {
-            counts: one_more(counts),
-            answer: Answer::Done(fitted.moved, 0),
-        };
+        return meaning::done(one_more(counts), fitted.moved, 0);
     }
     let k = spread::ring(
         n,
@@ -320,10 +320,7 @@ fn add_fine(
         c,
         list,
     );
-    Reply {
-        counts: counts,
-        answer: Answer::Conflict(k as u32),
-    }
+    meaning::conflict(counts, k as u32)
 }
 
 // Trial: STEP, AMOUNT, FULL in this order where the rule cannot be asked for; the days it would give, in list one, where it fits; else its ring,
@@ -338,8 +335,8 @@ pub fn trial(
     nexts: &[u16],
     one: &mut [u32],
     two: &mut [u32],
-    x: u16,
-    y: u16,
+    x: u32,
+    y: u32,
     c: i32,
 ) -> Reply
     requires { ⌜ Base (counts .steps) (first (counts .rules)) number (now xs) (now ys) (now cs) (now days) (now heads) (now nexts) ⌝ }
@@ -348,23 +345,9 @@ pub fn trial(
         TrialKept counts (now (xs .entry)) (now (ys .entry)) (now (cs .entry)) (now (days .entry)) (now (one .entry)) (now (two .entry))
         x y c r (now (one .exit)) (now (two .exit)) ⌝ }
 {
-    if !inside::steps_fit(counts.steps as usize, x, y) {
-        return Reply {
-            counts: counts,
-            answer: Answer::Step,
-        };
-    }
-    if !leaf::amount_fits(c) {
-        return Reply {
-            counts: counts,
-            answer: Answer::Amount,
-        };
-    }
-    if meaning::RULES <= counts.rules as usize {
-        return Reply {
-            counts: counts,
-            answer: Answer::Full,
-        };
+    let number = hold_verdict(counts, x, y, c);
+    if 0 < number {
+        return meaning::refused(counts, number);
     }
     let mut gains = [0u64; meaning::STEPS];
     let mut by = [0u16; meaning::STEPS];
@@ -380,8 +363,8 @@ pub fn trial(
         &mut by,
         one,
         two,
-        x,
-        y,
+        x as u16,
+        y as u16,
         c,
     )
 }
@@ -397,8 +380,8 @@ pub fn add(
     heads: &[u16],
     nexts: &[u16],
     list: &mut [u32],
-    x: u16,
-    y: u16,
+    x: u32,
+    y: u32,
     c: i32,
 ) -> Reply
     requires { ⌜ Base (counts .steps) (first (counts .rules)) number (now xs) (now ys) (now cs) (now days) (now heads) (now nexts) ⌝ }
@@ -407,31 +390,14 @@ pub fn add(
         AddKept counts (now (xs .entry)) (now (ys .entry)) (now (cs .entry)) (now (days .entry)) (now (list .entry)) x y c r
         (now (xs .exit)) (now (ys .exit)) (now (cs .exit)) (now (days .exit)) (now (list .exit)) ⌝ }
 {
-    if !inside::steps_fit(counts.steps as usize, x, y) {
-        return Reply {
-            counts: counts,
-            answer: Answer::Step,
-        };
-    }
-    if !leaf::amount_fits(c) {
-        return Reply {
-            counts: counts,
-            answer: Answer::Amount,
-        };
-    }
-    if meaning::RULES <= counts.rules as usize {
-        return Reply {
-            counts: counts,
-            answer: Answer::Full,
-        };
+    let number = hold_verdict(counts, x, y, c);
+    if 0 < number {
+        return meaning::refused(counts, number);
     }
     // A rule that the days keep already is held before any list is cleared.
     if lack(days, x as usize, y as usize, c) == 0 {
-        inside::write_rule(xs, ys, cs, counts.rules as usize, x, y, c);
-        return Reply {
-            counts: one_more(counts),
-            answer: Answer::Done(0, 0),
-        };
+        inside::write_rule(xs, ys, cs, counts.rules as usize, x as u16, y as u16, c);
+        return meaning::done(one_more(counts), 0, 0);
     }
     let mut gains = [0u64; meaning::STEPS];
     let mut by = [0u16; meaning::STEPS];
@@ -446,8 +412,8 @@ pub fn add(
         &mut gains,
         &mut by,
         list,
-        x,
-        y,
+        x as u16,
+        y as u16,
         c,
     )
 }

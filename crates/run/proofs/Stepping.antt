@@ -26,8 +26,8 @@ use Rattle.run.proofs.Room.{written-short, error-short}
 use Rattle.script.proofs.Refusing.{never-short}
 
 pub maintained-out :
-    (l : Lent) (o heads nexts kept hashes name-heads name-nexts : List ℕ) → Maintained 0 l heads nexts kept hashes name-heads name-nexts →
-    Maintained 0 (with-out o l) heads nexts kept hashes name-heads name-nexts
+    (l : Lent) (o heads nexts kept hashes name-heads name-nexts : List ℕ) → Maintained l heads nexts kept hashes name-heads name-nexts →
+    Maintained (with-out o l) heads nexts kept hashes name-heads name-nexts
 maintained-out l o heads nexts kept hashes name-heads name-nexts m = record {
   room = record { tables-room = m .room .tables-room; names-room = m .room .names-room; lens-room = m .room .lens-room };
   sound = record {

@@ -7,7 +7,7 @@ ghost use Rattle.meaning.specs.Bounds.{ROOM, DONE, SYNTAX};
 ghost use Rattle.text.specs.Table.{TABLE};
 ghost use Rattle.write.specs.Written.{over, decimal};
 ghost use Rattle.script.specs.Whole.{error-line, RunsScript};
-ghost use Rattle.carry.specs.Carrying.{lent, Maintained};
+ghost use Rattle.carry.specs.Carrying.{in-hand, Maintained};
 ghost use Rattle.run.specs.Reaching.{Advances};
 ghost use Rattle.run.specs.Stepping.{Begins, Halted, Settled, GoesOn, Steps, PlaysFresh};
 use meaning::Counts;
@@ -146,9 +146,6 @@ fn one(
     cs: &mut [i32],
     days: &mut [u32],
     marks: &mut [u32],
-    wxs: &[u16],
-    wys: &[u16],
-    wcs: &[i32],
     heads: &mut [u16],
     nexts: &mut [u16],
     kept: &mut [u32],
@@ -161,9 +158,9 @@ fn one(
     to: usize,
 ) -> Step
     requires { ⌜ now tab ≡ TABLE ⌝ }
-    requires { ⌜ Maintained 0 (lent counts (now xs) (now ys) (now cs) (now days) (now marks) (now wxs) (now wys) (now wcs) notes (now names) (now lens) (now out)) (now heads) (now nexts) (now kept) (now hashes) (now «name_heads») (now «name_nexts») ⌝ }
-    ensures { λ r. ⌜ Steps (now (s .entry)) at (lent counts (now (xs .entry)) (now (ys .entry)) (now (cs .entry)) (now (days .entry)) (now (marks .entry)) (now (wxs .entry)) (now (wys .entry)) (now (wcs .entry)) notes (now (names .entry)) (now (lens .entry)) (now (out .entry))) to (r .number) (r .going) (r .paused) (r .at) (r .to) (lent (r .counts) (now (xs .exit)) (now (ys .exit)) (now (cs .exit)) (now (days .exit)) (now (marks .exit)) (now (wxs .entry)) (now (wys .entry)) (now (wcs .entry)) (r .notes) (now (names .exit)) (now (lens .exit)) (now (out .exit))) ⌝ }
-    ensures { λ r. ⌜ Maintained 0 (lent (r .counts) (now (xs .exit)) (now (ys .exit)) (now (cs .exit)) (now (days .exit)) (now (marks .exit)) (now (wxs .entry)) (now (wys .entry)) (now (wcs .entry)) (r .notes) (now (names .exit)) (now (lens .exit)) (now (out .exit))) (now (heads .exit)) (now (nexts .exit)) (now (kept .exit)) (now (hashes .exit)) (now («name_heads» .exit)) (now («name_nexts» .exit)) ⌝ }
+    requires { ⌜ Maintained (in-hand counts (now xs) (now ys) (now cs) (now days) (now marks) notes (now names) (now lens) (now out)) (now heads) (now nexts) (now kept) (now hashes) (now «name_heads») (now «name_nexts») ⌝ }
+    ensures { λ r. ⌜ Steps (now (s .entry)) at (in-hand counts (now (xs .entry)) (now (ys .entry)) (now (cs .entry)) (now (days .entry)) (now (marks .entry)) notes (now (names .entry)) (now (lens .entry)) (now (out .entry))) to (r .number) (r .going) (r .paused) (r .at) (r .to) (in-hand (r .counts) (now (xs .exit)) (now (ys .exit)) (now (cs .exit)) (now (days .exit)) (now (marks .exit)) (r .notes) (now (names .exit)) (now (lens .exit)) (now (out .exit))) ⌝ }
+    ensures { λ r. ⌜ Maintained (in-hand (r .counts) (now (xs .exit)) (now (ys .exit)) (now (cs .exit)) (now (days .exit)) (now (marks .exit)) (r .notes) (now (names .exit)) (now (lens .exit)) (now (out .exit))) (now (heads .exit)) (now (nexts .exit)) (now (kept .exit)) (now (hashes .exit)) (now («name_heads» .exit)) (now («name_nexts» .exit)) ⌝ }
 {
     let b = begin(s, tab, at, out.len(), to);
     if !b.ready {
@@ -190,13 +187,9 @@ fn one(
         cs,
         days,
         marks,
-        wxs,
-        wys,
-        wcs,
         heads,
         nexts,
         kept,
-        0,
         names,
         lens,
         hashes,
@@ -232,9 +225,6 @@ pub fn advance(
     cs: &mut [i32],
     days: &mut [u32],
     marks: &mut [u32],
-    wxs: &[u16],
-    wys: &[u16],
-    wcs: &[i32],
     heads: &mut [u16],
     nexts: &mut [u16],
     kept: &mut [u32],
@@ -246,9 +236,9 @@ pub fn advance(
     out: &mut [u8],
 ) -> Played
     requires { ⌜ now tab ≡ TABLE ⌝ }
-    requires { ⌜ Maintained 0 (lent counts (now xs) (now ys) (now cs) (now days) (now marks) (now wxs) (now wys) (now wcs) notes (now names) (now lens) (now out)) (now heads) (now nexts) (now kept) (now hashes) (now «name_heads») (now «name_nexts») ⌝ }
-    ensures { λ r. ⌜ Advances (now (s .entry)) start (lent counts (now (xs .entry)) (now (ys .entry)) (now (cs .entry)) (now (days .entry)) (now (marks .entry)) (now (wxs .entry)) (now (wys .entry)) (now (wcs .entry)) notes (now (names .entry)) (now (lens .entry)) (now (out .entry))) (r .number) (r .paused) (r .at) (r .written) (lent (r .counts) (now (xs .exit)) (now (ys .exit)) (now (cs .exit)) (now (days .exit)) (now (marks .exit)) (now (wxs .entry)) (now (wys .entry)) (now (wcs .entry)) (r .notes) (now (names .exit)) (now (lens .exit)) (now (out .exit))) ⌝ }
-    ensures { λ r. ⌜ Maintained 0 (lent (r .counts) (now (xs .exit)) (now (ys .exit)) (now (cs .exit)) (now (days .exit)) (now (marks .exit)) (now (wxs .entry)) (now (wys .entry)) (now (wcs .entry)) (r .notes) (now (names .exit)) (now (lens .exit)) (now (out .exit))) (now (heads .exit)) (now (nexts .exit)) (now (kept .exit)) (now (hashes .exit)) (now («name_heads» .exit)) (now («name_nexts» .exit)) ⌝ }
+    requires { ⌜ Maintained (in-hand counts (now xs) (now ys) (now cs) (now days) (now marks) notes (now names) (now lens) (now out)) (now heads) (now nexts) (now kept) (now hashes) (now «name_heads») (now «name_nexts») ⌝ }
+    ensures { λ r. ⌜ Advances (now (s .entry)) start (in-hand counts (now (xs .entry)) (now (ys .entry)) (now (cs .entry)) (now (days .entry)) (now (marks .entry)) notes (now (names .entry)) (now (lens .entry)) (now (out .entry))) (r .number) (r .paused) (r .at) (r .written) (in-hand (r .counts) (now (xs .exit)) (now (ys .exit)) (now (cs .exit)) (now (days .exit)) (now (marks .exit)) (r .notes) (now (names .exit)) (now (lens .exit)) (now (out .exit))) ⌝ }
+    ensures { λ r. ⌜ Maintained (in-hand (r .counts) (now (xs .exit)) (now (ys .exit)) (now (cs .exit)) (now (days .exit)) (now (marks .exit)) (r .notes) (now (names .exit)) (now (lens .exit)) (now (out .exit))) (now (heads .exit)) (now (nexts .exit)) (now (kept .exit)) (now (hashes .exit)) (now («name_heads» .exit)) (now («name_nexts» .exit)) ⌝ }
 {
     let mut at = start;
     let mut to = 0;
@@ -266,9 +256,6 @@ pub fn advance(
             cs,
             days,
             marks,
-            wxs,
-            wys,
-            wcs,
             heads,
             nexts,
             kept,
@@ -309,9 +296,6 @@ fn play_fresh(s: &[u8], out: &mut [u8]) -> Ran
     let mut cs = [0i32; meaning::RULES];
     let mut days = [0u32; meaning::STEPS];
     let mut marks = [0u32; meaning::MARKS];
-    let wxs = [0u16; meaning::WATCHED];
-    let wys = [0u16; meaning::WATCHED];
-    let wcs = [0i32; meaning::WATCHED];
     let mut heads = [0u16; meaning::STEPS];
     let mut nexts = [0u16; meaning::RULES];
     let mut kept = [0u32; levels::KEPT];
@@ -341,9 +325,6 @@ fn play_fresh(s: &[u8], out: &mut [u8]) -> Ran
         &mut cs,
         &mut days,
         &mut marks,
-        &wxs,
-        &wys,
-        &wcs,
         &mut heads,
         &mut nexts,
         &mut kept,

@@ -13,7 +13,7 @@ use lib.Seq.{getD-set-same, getD-set-other}
 use Rattle.meaning.specs.declared.Counts.{Counts}
 use Rattle.meaning.specs.Bounds.{STEPS, RULES, MARKS, DONE, MODE, NAME, FULL}
 use Rattle.meaning.specs.Rules.{Rule, InBounds, Fits, Earliest}
-use Rattle.meaning.specs.Tables.{Tables, at, Room, with-rule, with-mark, with-days}
+use Rattle.meaning.specs.Tables.{Tables, at, Room, with-rule, with-mark, with-days, rules-now, marks-now}
 use Rattle.meaning.specs.Promise.{First, needs}
 use Rattle.meaning.specs.Calls.{rules-of, held-in}
 use Rattle.meaning.proofs.Theory.{arrangement-same, earliest-same, earliest-unique}
@@ -29,7 +29,7 @@ use Rattle.levels.specs.Levels.{with-marks, without-marks}
 use Rattle.write.specs.Written.{decimal}
 use Rattle.script.specs.declared.Notes.{Notes}
 use Rattle.script.specs.Record.{Lent, InForm, Known, name-of, step-of, step-in, seek}
-use Rattle.script.specs.Effect.{Does, AddsAll, resolved, with-notes, with-tables, with-name, broken-after, broken-left, either-answer, SAT, UNSAT, asked, pair, pairs, values}
+use Rattle.script.specs.Effect.{Does, AddsAll, resolved, with-notes, with-tables, with-name, broken-after, broken-left, either-answer, SAT, UNSAT, asked, pair, pairs, values, forgotten, at-level, one-named, logic-set, sat-told}
 use Rattle.script.specs.Commands.{rule-needs, name-needs, logic-need, command-needs}
 use Rattle.script.specs.Mixed.{on-tables}
 use Rattle.script.specs.Traces.{with-out}
@@ -137,7 +137,7 @@ module _ (t u : Tables) (same : SameHeld t u) where
   -- With the same rule written under the next number, whatever the days.
   rule-alike : (r : Rule) (d e : List ℕ) → Room t → Room u → t .counts .rules < RULES → SameHeld (with-days d (with-rule r t)) (with-days e (with-rule r u))
   rule-alike r d e room room′ few = record {
-    same-counts = ap (λ (c : Counts). record { steps = c .steps; rules = c .rules + 1; marks = c .marks; watched = c .watched }) (same .same-counts);
+    same-counts = ap (λ (c : Counts). rules-now (c .rules + 1) c) (same .same-counts);
     same-rules = λ i h. tell i h (ℕ-discrete i (t .counts .rules));
     same-marks = same .same-marks;
   }
@@ -154,7 +154,7 @@ module _ (t u : Tables) (same : SameHeld t u) where
   -- With one mark more.
   mark-alike : MARKS ≤ length (t .marks) → MARKS ≤ length (u .marks) → t .counts .marks < MARKS → SameHeld (with-mark t) (with-mark u)
   mark-alike room room′ few = record {
-    same-counts = ap (λ (c : Counts). record { steps = c .steps; rules = c .rules; marks = c .marks + 1; watched = c .watched }) (same .same-counts);
+    same-counts = ap (λ (c : Counts). marks-now (c .marks + 1) c) (same .same-counts);
     same-rules = same .same-rules;
     same-marks = λ i h. tell i h (ℕ-discrete i (t .counts .marks));
   }
@@ -237,7 +237,7 @@ module _ (l m : Lent) (a : Alike l m) where
   tables-same : (t u : Tables) (b c : ℕ) → SameHeld t u → b ≡ c → Alike (with-tables t b l) (with-tables u c m)
   tables-same t u b c same level = record {
     tables-alike = same;
-    same-notes = λ i. record { names = a .same-notes i .names; logic = a .same-notes i .logic; broken = level i; sat = false };
+    same-notes = λ i. at-level (level i) (a .same-notes i);
     same-names = a .same-names;
   }
 
@@ -245,7 +245,7 @@ module _ (l m : Lent) (a : Alike l m) where
   named-alike : Fine l → Fine m → (w : List ℕ) → InForm w → l .notes .names < STEPS → Alike (with-name w l) (with-name w m)
   named-alike f g w form few = record {
     tables-alike = a .tables-alike;
-    same-notes = ap (λ (n : Notes). record { names = n .names + 1; logic = n .logic; broken = n .broken; sat = false }) (a .same-notes);
+    same-notes = ap one-named (a .same-notes);
     same-names = λ k h. tell k h (ℕ-discrete k (l .notes .names));
   }
     where
@@ -271,10 +271,10 @@ module _ (l m : Lent) (a : Alike l m) where
       (c : Command) (s : List ℕ) (j k v w : ℕ) (l′ m′ : Lent) → Fine l → Fine m → ((x y : ℕ) → c ≡ Declare x y → InForm (bytes s x y)) →
       First (command-needs c s l) DONE → Does c s j l v l′ → Does c s k m w m′ → Alike l′ m′
   does-alike SetLogic s j k v w l′ m′ f g named met (v-is, p) (w-is, q) =
-      both-are l′ m′ p q (noted-alike (λ n. record { names = n .names; logic = true; broken = n .broken; sat = false }) (λ n. refl))
+      both-are l′ m′ p q (noted-alike logic-set (λ n. refl))
   does-alike (Declare x y) s j k v w l′ m′ f g named met (v-is, p) (w-is, q) = both-are l′ m′ p q (named-alike f g (bytes s x y) (named x y refl) (declare-met x y s l met .1))
   does-alike (Assert i) s j k v w l′ m′ f g named met (v-is, inl (some, p)) (w-is, inl (some′, q)) =
-      both-are l′ m′ p q (noted-alike (λ n. record { names = n .names; logic = n .logic; broken = n .broken; sat = false }) (λ n. refl))
+      both-are l′ m′ p q (noted-alike forgotten (λ n. refl))
   does-alike (Assert i) s j k v w l′ m′ f g named met (v-is, inl (some, p)) (w-is, inr (none, rest)) = absurd (some (ap (λ (n : Notes). n .broken) (a .same-notes) ∙ none))
   does-alike (Assert i) s j k v w l′ m′ f g named met (v-is, inr (none, rest)) (w-is, inl (some, q)) = absurd (some (sym (ap (λ (n : Notes). n .broken) (a .same-notes)) ∙ none))
   does-alike (Assert i) s j k v w l′ m′ f g named met (v-is, inr (none, (t, (x, (adds, p))))) (w-is, inr (none′, (u, (y, (adds′, q))))) =
@@ -298,12 +298,12 @@ module _ (l m : Lent) (a : Alike l m) where
   does-alike CheckSat s j k v w l′ m′ f g named met (v-is, p) (w-is, q) =
       both-are l′ m′ p q (record {
         tables-alike = a .tables-alike;
-        same-notes = ap (λ (n : Notes). record { names = n .names; logic = n .logic; broken = n .broken; sat = eqb (n .broken) 0 }) (a .same-notes);
+        same-notes = ap sat-told (a .same-notes);
         same-names = a .same-names;
       })
   does-alike (GetValue i) s j k v w l′ m′ f g named met (v-is, p) (w-is, q) = both-are l′ m′ p q (bytes-alike _ _)
   does-alike Exit s j k v w l′ m′ f g named met (v-is, p) (w-is, q) =
-      both-are l′ m′ p q (noted-alike (λ n. record { names = n .names; logic = n .logic; broken = n .broken; sat = false }) (λ n. refl))
+      both-are l′ m′ p q (noted-alike forgotten (λ n. refl))
   does-alike Unsupported s j k v w l′ m′ f g named met (v-is, p) (w-is, q) = both-are l′ m′ p q (bytes-alike _ _)
   does-alike Syntax s j k v w l′ m′ f g named met impossible other = absurd impossible
   does-alike Oversize s j k v w l′ m′ f g named met impossible other = absurd impossible

@@ -6,6 +6,7 @@ pub mod Lengths
 pub mod Granted
 pub mod Refusing
 pub mod Adding
+pub mod Beside
 pub mod Keeping
 pub mod Passed
 pub mod Cutting

@@ -25,7 +25,7 @@ use Rattle.form.specs.Form.{form}
 use Rattle.atoms.specs.Atoms.{rules-at}
 use Rattle.levels.specs.Levels.{Popped, fewer-marks}
 use Rattle.levels.proofs.Laws.{popped-none, fewer-border}
-use Rattle.script.specs.Record.{Lent, StartRoom, ScriptRoom, ScriptSound, step-of}
+use Rattle.script.specs.Record.{Lent, StartRoom, ScriptRoom, ScriptSound, step-of, no-notes}
 use Rattle.script.specs.Effect.{Does, Holds, AddsAll, resolved}
 use Rattle.script.specs.Commands.{own, command-needs, command-meaning, start-meaning}
 use Rattle.script.proofs.Granted.{assert-met, pop-met, granted}
@@ -125,7 +125,7 @@ start-met l room =
     let x = a .keeps .when-done (a .number-is) in
     record {
       answer = record { number = DONE; one = a .answer .one; two = a .answer .two };
-      after = record { tables = a .after; notes = record { names = 0; logic = false; broken = 0; sat = false }; names = l .names; lens = l .lens; out = l .out };
+      after = record { tables = a .after; notes = no-notes; names = l .names; lens = l .lens; out = l .out };
       keeps = record {
         first-unmet = inr (room, refl);
         when-done = λ e. record { opened = x; emptied = refl; names-stay = refl; lens-stay = refl; out-stays = refl };

@@ -15,7 +15,7 @@ use Rattle.form.specs.declared.Command.{Command}
 use Rattle.form.specs.declared.Command.the-variants.{SetLogic, Declare, Assert, Push, Pop, CheckSat, GetValue, Exit, Unsupported, Syntax, Oversize}
 use Rattle.form.specs.Form.{form}
 use Rattle.atoms.specs.Atoms.{Named, rules-at}
-use Rattle.script.specs.Record.{Lent, StartRoom, ScriptRoom, ScriptSound, Known}
+use Rattle.script.specs.Record.{Lent, StartRoom, ScriptRoom, ScriptSound, Known, no-notes}
 use Rattle.script.specs.Effect.{asked, Does}
 
 -- The leftmost of NAME and AMOUNT over the rules of a term, in an atom NAME first. K says which names are declared.
@@ -69,7 +69,7 @@ command-meaning text before = record {
 -- **Start**: the tables are opened with STEPS steps, and the script's record is emptied.
 pub record Started (before : Lent) (a b : ℕ) (after : Lent) : Type 0 where
   pub opened : Opened STEPS (before .tables) a b (after .tables)
-  pub emptied : after .notes ≡ record { names = 0; logic = false; broken = 0; sat = false }
+  pub emptied : after .notes ≡ no-notes
   pub names-stay : after .names ≡ before .names
   pub lens-stay : after .lens ≡ before .lens
   pub out-stays : after .out ≡ before .out

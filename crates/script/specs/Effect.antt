@@ -37,9 +37,23 @@ AddsAll [] t clash u = (u ≡ t) × (clash ≡ false)
 AddsAll (r ∷ l) t clash u =
     ((Fits (rules-of t) (held-in t) r → ⊥) × ((u ≡ t) × (clash ≡ true))) ⊎ ((v : Tables) × (Holds r t v × AddsAll l v clash u))
 
--- The record after a command that forgets a remembered `sat`.
+-- The record after a command that forgets a remembered `sat`: with nothing else changed, with b for the contradictory level, counted from 1, with one name more, with
+-- the logic set.
 abbrev pub forgotten : Notes → Notes
 forgotten n = record { names = n .names; logic = n .logic; broken = n .broken; sat = false }
+
+abbrev pub at-level : ℕ → Notes → Notes
+at-level b n = record { names = n .names; logic = n .logic; broken = b; sat = false }
+
+abbrev pub one-named : Notes → Notes
+one-named n = record { names = n .names + 1; logic = n .logic; broken = n .broken; sat = false }
+
+abbrev pub logic-set : Notes → Notes
+logic-set n = record { names = n .names; logic = true; broken = n .broken; sat = false }
+
+-- The record after `check-sat`, which prints `sat` where no level counts as contradictory.
+abbrev pub sat-told : Notes → Notes
+sat-told n = record { names = n .names; logic = n .logic; broken = n .broken; sat = eqb (n .broken) 0 }
 
 abbrev pub with-notes : Notes → Lent → Lent
 with-notes n l = record { tables = l .tables; notes = n; names = l .names; lens = l .lens; out = l .out }
@@ -48,7 +62,7 @@ with-notes n l = record { tables = l .tables; notes = n; names = l .names; lens 
 abbrev pub with-tables : Tables → ℕ → Lent → Lent
 with-tables t b l = record {
   tables = t;
-  notes = record { names = l .notes .names; logic = l .notes .logic; broken = b; sat = false };
+  notes = at-level b (l .notes);
   names = l .names;
   lens = l .lens;
   out = l .out;
@@ -62,7 +76,7 @@ with-printed k w l = record { tables = l .tables; notes = l .notes; names = l .n
 abbrev pub with-name : List ℕ → Lent → Lent
 with-name w l = record {
   tables = l .tables;
-  notes = record { names = l .notes .names + 1; logic = l .notes .logic; broken = l .notes .broken; sat = false };
+  notes = one-named (l .notes);
   names = over (l .names) (NAME-BYTES * (l .notes .names)) w;
   lens = set (l .lens) (l .notes .names) (length w);
   out = l .out;
@@ -126,13 +140,13 @@ Asserts rs before after =
 -- check-sat: `sat` exactly when no level counts as contradictory.
 abbrev pub checked : ℕ → Lent → Lent
 checked k l =
-    with-notes (record { names = l .notes .names; logic = l .notes .logic; broken = l .notes .broken; sat = eqb (l .notes .broken) 0 })
+    with-notes (sat-told (l .notes))
     (with-printed k (either-answer (eqb (l .notes .broken) 0) SAT UNSAT) l)
 
 -- What the command c of text s does to what is lent, printing w bytes from place k on.
 abbrev pub Does : Command → List ℕ → ℕ → Lent → ℕ → Lent → Type 0
 Does SetLogic s k before w after =
-    (w ≡ 0) × (after ≡ with-notes (record { names = before .notes .names; logic = true; broken = before .notes .broken; sat = false }) before)
+    (w ≡ 0) × (after ≡ with-notes (logic-set (before .notes)) before)
 Does (Declare a b) s k before w after = (w ≡ 0) × (after ≡ with-name (bytes s a b) before)
 Does (Assert i) s k before w after = (w ≡ 0) × Asserts (rules-at s i) before after
 Does (Push n) s k before w after = (w ≡ 0) × (after ≡ with-tables (with-marks n (before .tables)) (before .notes .broken) before)

@@ -4,12 +4,19 @@ use mathlib.Core.Path.{_≡_}
 use mathlib.Core.Bool.{Bool, true, false, cond}
 use mathlib.Core.List.{List}
 use lib.ListN.{length}
+use lib.IntN.{ℤ}
+use Rattle.meaning.specs.declared.Counts.{Counts}
 use Rattle.meaning.specs.Bounds.{STEPS, NAME-BYTES, ROOM}
 use Rattle.meaning.specs.Tables.{Tables, Room, Sound, at}
+use Rattle.leaf.specs.Lent.{tables}
 use Rattle.text.specs.Lexicon.{SYMBOL, tok, token-at, same-bytes}
 use Rattle.words.specs.Words.{reserved}
 use Rattle.names.specs.Names.{name-at, AllDifferent}
 use Rattle.script.specs.declared.Notes.{Notes}
+
+-- The empty record.
+abbrev pub no-notes : Notes
+no-notes = record { names = 0; logic = false; broken = 0; sat = false }
 
 -- All that is lent to a script call: the office tables, the record, the declared names with their lengths, and the bytes for the answer.
 pub record Lent : Type 0 where
@@ -18,6 +25,16 @@ pub record Lent : Type 0 where
   pub names : List ℕ
   pub lens : List ℕ
   pub out : List ℕ
+
+-- It, from its lists.
+abbrev pub lent : Counts → List ℕ → List ℕ → List ℤ → List ℕ → List ℕ → List ℕ → List ℕ → List ℤ → Notes → List ℕ → List ℕ → List ℕ → Lent
+lent counts xs ys cs days marks wxs wys wcs notes names lens out = record {
+  tables = tables counts xs ys cs days marks wxs wys wcs;
+  notes = notes;
+  names = names;
+  lens = lens;
+  out = out;
+}
 
 -- The tables have room, those of the names too.
 pub record StartRoom (l : Lent) : Type 0 where

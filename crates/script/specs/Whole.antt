@@ -6,7 +6,7 @@ use mathlib.Core.List.{List, [], _∷_, _++_}
 use lib.ListN.{length, take, drop, replicate}
 use lib.IntN.{pos}
 use Rattle.meaning.specs.Bounds.{STEPS, RULES, MARKS, WATCHED, NAME-BYTES, ROOM, TEXT, DONE, SHORT, SYNTAX, SIZE}
-use Rattle.meaning.specs.Tables.{at}
+use Rattle.meaning.specs.Tables.{at, steps-alone}
 use Rattle.meaning.specs.Promise.{First}
 use Rattle.text.specs.Lexicon.{END, token-at}
 use Rattle.span.specs.Span.{span}
@@ -14,7 +14,7 @@ use Rattle.form.specs.declared.Command.{Command}
 use Rattle.form.specs.declared.Command.the-variants.{SetLogic, Declare, Assert, Push, Pop, CheckSat, GetValue, Exit, Unsupported, Syntax, Oversize}
 use Rattle.form.specs.Form.{form}
 use Rattle.write.specs.Written.{over, decimal}
-use Rattle.script.specs.Record.{Lent, StartRoom}
+use Rattle.script.specs.Record.{Lent, StartRoom, no-notes}
 use Rattle.script.specs.Effect.{Does}
 use Rattle.script.specs.Commands.{own, command-needs}
 
@@ -71,21 +71,21 @@ pub data Plays (s : List ℕ) : ℕ → Lent → ℕ → (g w : ℕ) → (out : 
 -- What is lent at the start of a script: tables with room, STEPS steps on day 0, no rule, mark or watched rule, and an empty record.
 pub record Fresh (l : Lent) : Type 0 where
   pub room : StartRoom l
-  pub counts-are : l .tables .counts ≡ record { steps = STEPS; rules = 0; marks = 0; watched = 0 }
-  pub notes-are : l .notes ≡ record { names = 0; logic = false; broken = 0; sat = false }
+  pub counts-are : l .tables .counts ≡ steps-alone STEPS
+  pub notes-are : l .notes ≡ no-notes
   pub day-0 : (v : ℕ) → v < STEPS → at (l .tables .days) v ≡ 0
 
 -- The tables of a script's own: zeros, each table exactly as long as its bound says.
 abbrev pub blank : List ℕ → Lent
 blank out = record {
   tables = record {
-    counts = record { steps = STEPS; rules = 0; marks = 0; watched = 0 };
+    counts = steps-alone STEPS;
     rules = record { firsts = replicate {A = ℕ} RULES 0; seconds = replicate {A = ℕ} RULES 0; amounts = replicate RULES (pos 0) };
     days = replicate {A = ℕ} STEPS 0;
     marks = replicate {A = ℕ} MARKS 0;
     watched = record { firsts = replicate {A = ℕ} WATCHED 0; seconds = replicate {A = ℕ} WATCHED 0; amounts = replicate WATCHED (pos 0) };
   };
-  notes = record { names = 0; logic = false; broken = 0; sat = false };
+  notes = no-notes;
   names = replicate {A = ℕ} (NAME-BYTES * STEPS) 0;
   lens = replicate {A = ℕ} STEPS 0;
   out = out;

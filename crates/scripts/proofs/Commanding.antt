@@ -6,18 +6,24 @@ use mathlib.Core.List.{List, [], _∷_}
 use mathlib.Core.Logic.{_⊎_, inl, inr}
 use lib.ListN.{length, take, drop}
 use Rattle.meaning.specs.Bounds.{RULES, DONE, CONFLICT, MODE, NAME, AMOUNT, FULL, NOMARK, SYNTAX, SIZE}
-use Rattle.meaning.specs.Promise.{Need, needs, First, Obeys, bare}
+use Rattle.meaning.specs.Promise.{Need, needs, First, Obeys, bare, gave}
 use Rattle.span.specs.Span.{span}
 use Rattle.form.specs.declared.Command.{Command}
 use Rattle.form.specs.declared.Command.the-variants.{SetLogic, Declare, Assert, Push, Pop, CheckSat, GetValue, Exit, Unsupported, Syntax, Oversize}
 use Rattle.form.specs.Form.{form}
 use Rattle.atoms.specs.Atoms.{Named, rules-at}
-use Rattle.script.specs.Record.{Lent, ScriptRoom, ScriptSound, Known}
+use Rattle.meaning.specs.Tables.{Columns, Tables}
+use Rattle.leaf.specs.Idle.{idle, watching}
+use Rattle.leaf.specs.Promises.{Border}
+use Rattle.leaf.proofs.Watching.{idle-border}
+use Rattle.script.specs.Record.{Lent, StartRoom, ScriptRoom, ScriptSound, Known}
 use Rattle.script.specs.Effect.{asked}
 use Rattle.script.specs.Commands.{rule-needs, name-needs, command-needs, own, command-meaning}
+use Rattle.script.proofs.Alike.{needs-alike}
+use Rattle.script.proofs.Beside.{lent-watching, does-watching}
+use Rattle.script.proofs.Keeping.{Fine}
 use Rattle.carry.specs.declared.Carried.{Carried}
 use Rattle.carry.specs.Carrying.{Carries}
-use Rattle.scripts.specs.Testing.{gave}
 use Rattle.scripts.proofs.Answers.{read, read-all, read-none}
 
 -- No command is refused by CONFLICT.
@@ -74,6 +80,37 @@ pub own-part : (text : List ℕ) (size : ℕ) → size ≡ span text → take (s
 own-part text size e =
     let long : size - 0 ≡ span text = omega (arith, e) in
     ap (λ (k : ℕ). take k text) long
+
+-- What is lent is fine with idle watched rules too.
+pub idle-fine : {l : Lent} → StartRoom l → ScriptSound l → Fine (lent-watching idle l)
+idle-fine {l} room sound = record {
+  room = record { tables-room = border .room; names-room = room .names-room; lens-room = room .lens-room };
+  sound = record {
+    tables-sound = border .sound;
+    all-steps = sound .all-steps;
+    names-in = sound .names-in;
+    names-short = sound .names-short;
+    names-in-form = sound .names-in-form;
+    names-different = sound .names-different;
+    level-open = sound .level-open;
+    no-sat = sound .no-sat;
+  };
+}
+  where
+    border : Border (watching idle (l .tables))
+    border = idle-border (record { room = room .tables-room; sound = sound .tables-sound })
+
+-- What a command carries out with some watched rules it carries out with any.
+pub carries-watching : (w : Columns) {s : List ℕ} {k : ℕ} {before after : Lent} {r : Carried} → Carries s k before r after → Carries s k (lent-watching w before) r (lent-watching w after)
+carries-watching w {s} {k} {before} {after} {r} h = record {
+  first-unmet =
+      needs-alike (form s) s (r .number) before (lent-watching w before)
+      (record { tables-alike = record { same-counts = refl; same-rules = λ i i-in. refl; same-marks = λ i i-in. refl }; same-notes = refl; same-names = λ j j-in. refl })
+      (h .first-unmet);
+  when-done = λ e. does-watching w (form s) s k before (r .written) after (h .when-done e);
+  when-refused = λ nd. (ap (lent-watching w) (h .when-refused nd .0), h .when-refused nd .1);
+  ends = h .ends;
+}
 
 -- What is carried out, or refused, keeps the promise.
 pub commanded :

@@ -6,7 +6,7 @@ use mathlib.Core.List.{List}
 use lib.ListN.{length}
 use Rattle.meaning.specs.declared.Counts.{Counts}
 use Rattle.meaning.specs.Bounds.{STEPS, NAME-BYTES, DONE, CONFLICT}
-use Rattle.meaning.specs.Promise.{First, Given}
+use Rattle.meaning.specs.Promise.{First}
 use Rattle.newrule.specs.Lending.{LentChains}
 use Rattle.span.specs.Span.{span}
 use Rattle.script.specs.Commands.{command-meaning}
@@ -66,7 +66,3 @@ pub record Entered (text : List ℕ) (l : Lent) (number : ℕ) (heads nexts hash
   pub room : number ≡ DONE → ScriptRoom 0 l
   pub stands : number ≡ DONE → Stands l heads nexts hashes name-heads name-nexts
   pub begins : number ≡ DONE → 1 ≤ span text
-
--- A number with two values.
-abbrev pub gave : ℕ → ℕ → ℕ → Given
-gave k a b = record { number = k; one = a; two = b }

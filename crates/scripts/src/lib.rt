@@ -10,16 +10,14 @@ ghost use Rattle.meaning.specs.declared.Counts.{Counts};
 ghost use Rattle.meaning.specs.Bounds.{STEPS, RULES};
 ghost use Rattle.meaning.specs.Tables.{Room};
 ghost use Rattle.leaf.specs.Lent.{tables};
-ghost use Rattle.meaning.specs.Promise.{Obeys, given};
+ghost use Rattle.meaning.specs.Promise.{Obeys, bare, gave};
 ghost use Rattle.leaf.specs.Decides.{Decides};
 ghost use Rattle.text.specs.Table.{TABLE};
 ghost use Rattle.names.specs.Names.{IndexRoom};
 ghost use Rattle.script.specs.declared.Notes.{Notes};
-ghost use Rattle.script.specs.Record.{StartRoom, ScriptRoom, InForm};
+ghost use Rattle.script.specs.Record.{lent, StartRoom, ScriptRoom, InForm};
 ghost use Rattle.script.specs.Commands.{start-meaning, command-meaning};
-ghost use Rattle.carry.specs.Carrying.{lent};
-ghost use Rattle.scripts.specs.Testing.{NamesRoom, NameFine, NamesFine, NotesFine, RecordTested, StandTested, Entered, gave};
-use meaning::Answer;
+ghost use Rattle.scripts.specs.Testing.{NamesRoom, NameFine, NamesFine, NotesFine, RecordTested, StandTested, Entered};
 use meaning::Counts;
 use script::Notes;
 use script::ScriptReply;
@@ -67,31 +65,21 @@ pub fn start(
         Obeys
         (start-meaning (lent counts (now (xs .entry)) (now (ys .entry)) (now (cs .entry)) (now (days .entry)) (now (marks .entry)) (now (wxs .entry)) (now (wys .entry)) (now (wcs .entry)) notes (now (names .entry)) (now (lens .entry)) out))
         (lent counts (now (xs .entry)) (now (ys .entry)) (now (cs .entry)) (now (days .entry)) (now (marks .entry)) (now (wxs .entry)) (now (wys .entry)) (now (wcs .entry)) notes (now (names .entry)) (now (lens .entry)) out)
-        (given (r .answer))
+        (bare (r .number))
         (lent (r .counts) (now (xs .entry)) (now (ys .entry)) (now (cs .entry)) (now (days .exit)) (now (marks .entry)) (now (wxs .entry)) (now (wys .entry)) (now (wcs .entry)) (r .notes) (now (names .entry)) (now (lens .entry)) out)) ⌝ }
 {
     if !start_room(xs, ys, cs, days, marks, wxs, wys, wcs, names, lens) {
         return ScriptReply {
             counts: counts,
             notes: notes,
-            answer: Answer::Short,
+            number: meaning::SHORT,
         };
     }
     inside::clear_days(meaning::STEPS, days);
     ScriptReply {
-        counts: Counts {
-            steps: script::STEPS,
-            rules: 0,
-            marks: 0,
-            watched: 0,
-        },
-        notes: Notes {
-            names: 0,
-            logic: false,
-            broken: 0,
-            sat: false,
-        },
-        answer: Answer::Done(0, 0),
+        counts: meaning::steps_alone(script::STEPS),
+        notes: script::no_notes(),
+        number: 0,
     }
 }
 
@@ -419,13 +407,9 @@ fn command_by(
         cs,
         days,
         marks,
-        wxs,
-        wys,
-        wcs,
         &mut heads,
         &mut nexts,
         &mut kept,
-        meaning::MARKS,
         names,
         lens,
         &mut hashes,

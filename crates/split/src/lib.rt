@@ -15,7 +15,6 @@ ghost use Rattle.spread.specs.Ground.{Ground, rules};
 ghost use Rattle.split.specs.Carries.{ASKED, Carries, Near, Telling};
 ghost use Rattle.split.specs.Verdicts.{Verdict, Judged, Picked};
 ghost use Rattle.split.specs.Contracts.{Gained, Reach, Testable, Within, Broken, ChainsBy, Judgeable, Watching, Places, JudgedStep, JudgedAll};
-use meaning::Answer;
 use meaning::Counts;
 use meaning::Reply;
 
@@ -353,8 +352,5 @@ pub fn consequences(
     );
     let in_all = pick(w, &always, one);
     let in_none = pick(w, &never, two);
-    Reply {
-        counts: counts,
-        answer: Answer::Done(in_all as u32, in_none as u32),
-    }
+    meaning::done(counts, in_all as u32, in_none as u32)
 }

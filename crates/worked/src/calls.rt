@@ -58,8 +58,8 @@ pub fn watch<'a>(
         cells::lend_steps(ask, words::WXS, &mut wxs),
         cells::lend_steps(ask, words::WYS, &mut wys),
         cells::lend_amounts(ask, words::WCS, &mut wcs),
-        ask.x,
-        ask.y,
+        ask.x as u32,
+        ask.y as u32,
         ask.c,
     );
     let mut next = office::after(o, reply);
@@ -152,8 +152,8 @@ pub fn add<'a>(
         wys,
         wcs,
         cells::lend_numbers(ask, words::ONE, &mut one),
-        ask.x,
-        ask.y,
+        ask.x as u32,
+        ask.y as u32,
         ask.c,
     );
     let mut next = office::after(o, reply);
@@ -192,8 +192,8 @@ pub fn trial<'a>(
         wcs,
         cells::lend_numbers(ask, words::ONE, &mut one),
         cells::lend_numbers(ask, words::TWO, &mut two),
-        ask.x,
-        ask.y,
+        ask.x as u32,
+        ask.y as u32,
         ask.c,
     );
     let mut next = office::after(o, reply);
@@ -274,8 +274,8 @@ pub fn ring_check<'a>(
         wys,
         wcs,
         ring_of(ask, &numbers, two),
-        ask.x,
-        ask.y,
+        ask.x as u32,
+        ask.y as u32,
         ask.c,
     );
     office::after(o, reply)

@@ -2,11 +2,10 @@
 // need.
 use crate::words;
 use crate::words::Ask;
-use meaning::Answer;
 use meaning::Counts;
 use meaning::Reply;
 
-// An answer's number and its two values.
+// A reply's number and its two values.
 pub struct Given {
     pub number: u32,
     pub one: u32,
@@ -29,25 +28,12 @@ pub struct Office {
     pub two: [u32; 1025],
 }
 
-// The number and the values of each answer.
+// The number and the values of a reply.
 pub fn values(reply: Reply) -> Given {
-    let answer = reply.answer;
-    match answer {
-        Answer::Done(a, b) => Given {
-            number: 0,
-            one: a,
-            two: b,
-        },
-        Answer::Conflict(a) => Given {
-            number: 6,
-            one: a,
-            two: 0,
-        },
-        _ => Given {
-            number: desk::number_of(answer),
-            one: 0,
-            two: 0,
-        },
+    Given {
+        number: reply.number,
+        one: reply.one,
+        two: reply.two,
     }
 }
 
@@ -55,10 +41,7 @@ pub fn values(reply: Reply) -> Given {
 pub fn fresh(counts: Counts) -> Office {
     Office {
         counts: counts,
-        last: Reply {
-            counts: counts,
-            answer: Answer::Done(0, 0),
-        },
+        last: meaning::done(counts, 0, 0),
         xs: [7; 4097],
         ys: [7; 4097],
         cs: [7; 4097],

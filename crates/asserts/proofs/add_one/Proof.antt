@@ -25,26 +25,26 @@ cast-m c = search needs
 
 fit-requires : tie.Need-fit-requires
 fit-requires c κs =
-    let start = c .before .before .before .before .before .before .before .before .before .before .before .before .before .before .before .before in
+    let start = c .before .before .before .before .before .before .before .before .before .before .before .before .before in
     rw (toZ-ofZ w32 (start .args .c) (start .fits .c))
-    (ready (start .args .counts) (start .args .xs .now) (start .args .ys .now) (start .args .cs .now) (start .args .days .now) (start .args .marks .now) (start .args .wxs .now) (start .args .wys .now) (start .args .wcs .now)
+    (ready (start .args .counts) (start .args .xs .now) (start .args .ys .now) (start .args .cs .now) (start .args .days .now)
     (start .args .heads .now) (start .args .nexts .now) (start .args .x) (start .args .y) (start .args .c)
     (start .pre))
 
 push-requires : tie.Need-push-requires
 push-requires c κs =
-    let start = c .before .before .before .before .before .before .before .before .before .before .before .before .before .before .before .before .before .before .before .before .before .before .before .before .before .before .before .before in
+    let start = c .before .before .before .before .before .before .before .before .before .before .before .before .before .before .before .before .before .before .before .before .before .before .before .before .before in
     let fit = c .before .before .before .before .before .before .before .before .before .before .before .fit in
     let if1 = c .before .before .before .if1 in
     let args = start .args in
     let t : Tells (args .counts .steps) (first (args .counts .rules)) (args .counts .rules) (rule (args .x) (args .y) (args .c)) (columns (args .xs .now) (args .ys .now) (args .cs .now)) (args .days .now) (fit .result .fits) (fit .result .moved) (columns _ _ _) _
     = rw (toZ-ofZ w32 (args .c) (start .fits .c)) at (fit .ensures) in
-    new-linkable (args .counts) (args .xs .now) (args .ys .now) (args .cs .now) (args .days .now) (args .marks .now) (args .wxs .now) (args .wys .now) (args .wcs .now) (args .heads .now) (args .nexts .now)
+    new-linkable (args .counts) (args .xs .now) (args .ys .now) (args .cs .now) (args .days .now) (args .heads .now) (args .nexts .now)
     (args .x) (args .y) (args .c) (start .pre) (fit .result .fits) (fit .result .moved) _ _ _ _ t (if1 .taken)
 
 one-more-requires : tie.Need-one-more-requires
 one-more-requires c κs =
-    let start = c .before .before .before .before .before .before .before .before .before .before .before .before .before .before .before .before .before .before .before .before .before .before .before .before .before .before .before .before .before .before .before .before .before in
+    let start = c .before .before .before .before .before .before .before .before .before .before .before .before .before .before .before .before .before .before .before .before .before .before .before .before .before .before .before .before .before .before in
     start .pre .1 .1 .1 .0
 
 same-length : tie.Need-same-length
@@ -79,7 +79,7 @@ same-length-6 c =
 
 returns : tie.Need-returns
 returns c =
-    let start = c .before .before .before .before .before .before .before .before .before .before .before .before .before .before .before .before .before .before .before .before .before .before .before .before .before .before .before .before .before .before .before .before .before .before in
+    let start = c .before .before .before .before .before .before .before .before .before .before .before .before .before .before .before .before .before .before .before .before .before .before .before .before .before .before .before .before .before .before .before in
     let fit = c .before .before .before .before .before .before .before .before .before .before .before .before .before .before .before .before .before .fit in
     let if1 = c .before .before .before .before .before .before .before .before .before .if1 in
     let push = c .before .before .before .before .before .push in
@@ -87,7 +87,7 @@ returns c =
     let args = start .args in
     let t : Tells (args .counts .steps) (first (args .counts .rules)) (args .counts .rules) (rule (args .x) (args .y) (args .c)) (columns (args .xs .now) (args .ys .now) (args .cs .now)) (args .days .now) (fit .result .fits) (fit .result .moved) (columns _ _ _) _
     = rw (toZ-ofZ w32 (args .c) (start .fits .c)) at (fit .ensures) in
-    one-held (args .counts) (args .xs .now) (args .ys .now) (args .cs .now) (args .days .now) (args .marks .now) (args .wxs .now) (args .wys .now) (args .wcs .now) (args .heads .now) (args .nexts .now)
+    one-held (args .counts) (args .xs .now) (args .ys .now) (args .cs .now) (args .days .now) (args .heads .now) (args .nexts .now)
     (args .x) (args .y) (args .c) (start .pre) (fit .result .fits) (fit .result .moved) _ _ _ _ t (if1 .taken) (one-more .result) (one-more .ensures) _ _ (push .ensures)
 
 same-length-7 : tie.Need-same-length-7
@@ -118,13 +118,13 @@ same-length-12 c = refl
 
 returns-2 : tie.Need-returns-2
 returns-2 c =
-    let start = c .before .before .before .before .before .before .before .before .before .before .before .before .before .before .before .before .before .before .before .before .before .before .before .before .before in
+    let start = c .before .before .before .before .before .before .before .before .before .before .before .before .before .before .before .before .before .before .before .before .before .before in
     let fit = c .before .before .before .before .before .before .before .before .fit in
     let if1 = c .if1 in
     let args = start .args in
     let t : Tells (args .counts .steps) (first (args .counts .rules)) (args .counts .rules) (rule (args .x) (args .y) (args .c)) (columns (args .xs .now) (args .ys .now) (args .cs .now)) (args .days .now) (fit .result .fits) (fit .result .moved) (columns _ _ _) _
     = rw (toZ-ofZ w32 (args .c) (start .fits .c)) at (fit .ensures) in
-    one-clash (args .counts) (args .xs .now) (args .ys .now) (args .cs .now) (args .days .now) (args .marks .now) (args .wxs .now) (args .wys .now) (args .wcs .now) (args .heads .now) (args .nexts .now)
+    one-clash (args .counts) (args .xs .now) (args .ys .now) (args .cs .now) (args .days .now) (args .heads .now) (args .nexts .now)
     (args .x) (args .y) (args .c) (start .pre) (fit .result .fits) (fit .result .moved) _ _ _ _ t (if1 .left)
 
 pub add-one-spec : {M : Type 1} → statement M

@@ -5,9 +5,10 @@ use borrow.Author.Tests.{not-true, not-false}
 use mir.Syntax.{w32}
 use mir.ValLaws.{toZ-ofZ}
 use Rattle.asserts.proofs.Going.{left-start, left-none, found-within, atom-good, atom-place, atom-clash, atom-held}
-use Prim.Native.Nat.{_-_}
+use Prim.Native.Nat.{ℕ, _-_}
 use lib.ListN.{length}
-use Rattle.leaf.specs.Lent.{tables}
+use mathlib.Core.List.{List}
+use Rattle.leaf.specs.Idle.{unwatched}
 use Rattle.newrule.specs.Lending.{LentChains}
 use Rattle.atoms.specs.Atoms.{rules-at}
 use Rattle.asserts.proofs.Going.{AsLong, Left}
@@ -22,108 +23,179 @@ use Rattle.atoms.proofs.next_atom.Reads as next-atom-reads
 use Rattle.names.proofs.find.Reads as find-reads
 
 abbrev Inv-loop : tie.InvT-loop
-Inv-loop s tab at n names lens hashes name-heads name-nexts xs₀ ys₀ cs₀ days₀ marks wxs wys wcs heads₀ nexts₀ i₀ held₀ xs ys cs days heads nexts i held =
+Inv-loop s tab at n names lens hashes name-heads name-nexts xs₀ ys₀ cs₀ days₀ heads₀ nexts₀ i₀ held₀ xs ys cs days heads nexts i held =
     AsLong xs₀ ys₀ cs₀ days₀ heads₀ nexts₀ xs ys cs days heads nexts
-    × (Left n names lens (rules-at s at) (tables held₀ xs₀ ys₀ cs₀ days₀ marks wxs wys wcs) (rules-at s i) (tables held xs ys cs days marks wxs wys wcs)
+    × (((marks : List ℕ) × Left n names lens (rules-at s at) (unwatched held₀ xs₀ ys₀ cs₀ days₀ marks) (rules-at s i) (unwatched held xs ys cs days marks))
     × LentChains (held .steps) (held .rules) xs heads nexts)
 
 abbrev μ-loop : tie.MeasureT-loop
-μ-loop s tab at n names lens hashes name-heads name-nexts xs₀ ys₀ cs₀ days₀ marks wxs wys wcs heads₀ nexts₀ i₀ held₀ xs ys cs days heads nexts i held =
+μ-loop s tab at n names lens hashes name-heads name-nexts xs₀ ys₀ cs₀ days₀ heads₀ nexts₀ i₀ held₀ xs ys cs days heads nexts i held =
     length s - i
 
 loop-holds : tie.Need-loop-holds Inv-loop μ-loop
-loop-holds c = (
-  record { xs-long = refl; ys-long = refl; cs-long = refl; days-long = refl; heads-long = refl; nexts-long = refl },
-  (left-start _ _ _ _ _ (c .before .before .before .before .before .before .before .before .before .before .before .before .before .before .pre .1 .1 .1 .1 .1 .1 .1 .1 .0) (c .before .before .before .before .before .before .before .before .before .before .before .before .before .before .pre .1 .1 .1 .1 .1 .0) (c .before .before .before .before .before .before .before .before .before .before .before .before .before .before .pre .1 .1 .1 .1 .1 .1 .0) (c .before .before .before .before .before .before .before .before .before .before .before .before .before .before .pre .1 .1 .1 .1 .1 .1 .1 .0), c .before .before .before .before .before .before .before .before .before .before .before .before .before .before .pre .1 .1 .1 .1 .1 .1 .1 .1 .1 .0),
-)
+loop-holds c =
+    let start = c .before .before .before .before .before .before .before .before .before .before .before in (
+      record { xs-long = refl; ys-long = refl; cs-long = refl; days-long = refl; heads-long = refl; nexts-long = refl },
+      ((start .pre .1 .1 .1 .1 .1 .1 .1 .1 .0 .0, left-start _ _ _ _ _ (start .pre .1 .1 .1 .1 .1 .1 .1 .1 .0 .1) (start .pre .1 .1 .1 .1 .1 .0) (start .pre .1 .1 .1 .1 .1 .1 .0) (start .pre .1 .1 .1 .1 .1 .1 .1 .0)), start .pre .1 .1 .1 .1 .1 .1 .1 .1 .1 .0),
+    )
 
 next-atom-requires : tie.Need-next-atom-requires Inv-loop μ-loop
-next-atom-requires c κs = c .before .before .before .before .before .before .before .before .before .before .before .before .before .before .before .pre .0
+next-atom-requires c κs =
+    let start = c .before .before .before .before .before .before .before .before .before .before .before .before in
+    start .pre .0
 
 same-length : tie.Need-same-length Inv-loop μ-loop
-same-length c = c .before .before .before .loop .inv .0 .xs-long
+same-length c =
+    let loop = c .before .before .before .loop in
+    loop .inv .0 .xs-long
 
 same-length-2 : tie.Need-same-length-2 Inv-loop μ-loop
-same-length-2 c = c .before .before .before .loop .inv .0 .ys-long
+same-length-2 c =
+    let loop = c .before .before .before .loop in
+    loop .inv .0 .ys-long
 
 same-length-3 : tie.Need-same-length-3 Inv-loop μ-loop
-same-length-3 c = c .before .before .before .loop .inv .0 .cs-long
+same-length-3 c =
+    let loop = c .before .before .before .loop in
+    loop .inv .0 .cs-long
 
 same-length-4 : tie.Need-same-length-4 Inv-loop μ-loop
-same-length-4 c = c .before .before .before .loop .inv .0 .days-long
+same-length-4 c =
+    let loop = c .before .before .before .loop in
+    loop .inv .0 .days-long
 
 same-length-5 : tie.Need-same-length-5 Inv-loop μ-loop
-same-length-5 c = c .before .before .before .loop .inv .0 .heads-long
+same-length-5 c =
+    let loop = c .before .before .before .loop in
+    loop .inv .0 .heads-long
 
 same-length-6 : tie.Need-same-length-6 Inv-loop μ-loop
-same-length-6 c = c .before .before .before .loop .inv .0 .nexts-long
+same-length-6 c =
+    let loop = c .before .before .before .loop in
+    loop .inv .0 .nexts-long
 
 returns : tie.Need-returns Inv-loop μ-loop
-returns c = (left-none _ _ _ _ _ _ _ (c .before .before .next-atom .ensures .when-none (not-true _ (c .if1 .taken))) (c .before .before .before .loop .inv .1 .0), c .before .before .before .loop .inv .1 .1)
+returns c =
+    let loop = c .before .before .before .loop in
+    (left-none _ _ _ _ _ _ _ (c .before .before .next-atom .ensures .when-none (not-true _ (c .if1 .taken))) (loop .inv .1 .0 .1), loop .inv .1 .1)
 
 find-requires : tie.Need-find-requires Inv-loop μ-loop
-find-requires c κs = (c .before .before .before .before .before .before .before .before .before .before .before .before .before .before .before .before .before .before .pre .1 .1 .0, (c .before .before .before .before .before .before .before .before .before .before .before .before .before .before .before .before .before .before .pre .1 .1 .1 .0, (c .before .before .next-atom .ensures .first-ends .ordered, c .before .before .next-atom .ensures .first-ends .within)))
+find-requires c κs =
+    let start = c .before .before .before .before .before .before .before .before .before .before .before .before .before .before .before in
+    let next-atom = c .before .before .next-atom in
+    (start .pre .1 .1 .0, (start .pre .1 .1 .1 .0, (next-atom .ensures .first-ends .ordered, next-atom .ensures .first-ends .within)))
 
 cast-x : tie.Need-cast-x Inv-loop μ-loop
-cast-x c = omega (arith, found-within (c .before .before .before .before .before .before .before .before .before .before .before .before .before .before .before .before .before .before .before .args .n) (c .before .before .before .before .before .before .before .before .before .before .before .before .before .before .before .before .before .before .before .args .names .now) (c .before .before .before .before .before .before .before .before .before .before .before .before .before .before .before .before .before .before .before .args .lens .now) _ _ (c .find .ensures), c .before .before .before .before .before .before .before .before .before .before .before .before .before .before .before .before .before .before .before .pre .1 .1 .0 .names-in)
+cast-x c =
+    let start = c .before .before .before .before .before .before .before .before .before .before .before .before .before .before .before .before in
+    omega (arith, found-within (start .args .n) (start .args .names .now) (start .args .lens .now) _ _ (c .find .ensures), start .pre .1 .1 .0 .names-in)
 
 find-requires-2 : tie.Need-find-requires-2 Inv-loop μ-loop
-find-requires-2 c κs = (c .before .before .before .before .before .before .before .before .before .before .before .before .before .before .before .before .before .before .before .pre .1 .1 .0, (c .before .before .before .before .before .before .before .before .before .before .before .before .before .before .before .before .before .before .before .pre .1 .1 .1 .0, (c .before .before .before .next-atom .ensures .second-ends .ordered, c .before .before .before .next-atom .ensures .second-ends .within)))
+find-requires-2 c κs =
+    let start = c .before .before .before .before .before .before .before .before .before .before .before .before .before .before .before .before in
+    let next-atom = c .before .before .before .next-atom in
+    (start .pre .1 .1 .0, (start .pre .1 .1 .1 .0, (next-atom .ensures .second-ends .ordered, next-atom .ensures .second-ends .within)))
 
 cast-y : tie.Need-cast-y Inv-loop μ-loop
-cast-y c = omega (arith, found-within (c .before .before .before .before .before .before .before .before .before .before .before .before .before .before .before .before .before .before .before .before .args .n) (c .before .before .before .before .before .before .before .before .before .before .before .before .before .before .before .before .before .before .before .before .args .names .now) (c .before .before .before .before .before .before .before .before .before .before .before .before .before .before .before .before .before .before .before .before .args .lens .now) _ _ (c .find2 .ensures), c .before .before .before .before .before .before .before .before .before .before .before .before .before .before .before .before .before .before .before .before .pre .1 .1 .0 .names-in)
+cast-y c =
+    let start = c .before .before .before .before .before .before .before .before .before .before .before .before .before .before .before .before .before in
+    omega (arith, found-within (start .args .n) (start .args .names .now) (start .args .lens .now) _ _ (c .find2 .ensures), start .pre .1 .1 .0 .names-in)
 
 add-one-requires : tie.Need-add-one-requires Inv-loop μ-loop
-add-one-requires c κs = (
-  c .before .before .before .before .before .before .before .before .before .before .before .before .loop .inv .1 .0 .border,
-  (
-    c .before .before .before .before .before .before .before .before .before .before .before .before .loop .inv .1 .1,
-    (
-      rw (toZ-ofZ w32 (c .before .before .before .before .before .before .before .before .before .before .before .next-atom .result .amount) (record { sfits = c .struct-told .given .1 .1 .1 .1 .1 .0 .1 })) (atom-good _ _ _ _ _ _ _ (c .before .before .before .before .before .before .before .before .before .before .before .next-atom .result) _ (c .before .before .before .before .before .before .before .before .find .result) (c .before .before .before .before .before .before .before .find2 .result) (c .before .before .before .before .before .before .before .before .before .before .before .next-atom .ensures) (not-false _ (c .before .before .before .before .before .before .before .before .before .if1 .left)) (c .before .before .before .before .before .before .before .before .before .before .before .before .loop .inv .1 .0) (c .before .before .before .before .before .before .before .before .before .before .before .before .before .before .before .before .before .before .before .before .before .before .before .before .before .before .before .pre .1 .1 .1 .1 .0) (c .before .before .before .before .before .before .before .before .find .ensures) (c .before .before .before .before .before .before .before .find2 .ensures)),
+add-one-requires c κs =
+    let loop = c .before .before .before .before .before .before .before .before .before .before .before .before .loop in
+    let next-atom = c .before .before .before .before .before .before .before .before .before .before .before .next-atom in
+    let find = c .before .before .before .before .before .before .before .before .find in
+    let find2 = c .before .before .before .before .before .before .before .find2 in
+    let if1 = c .before .before .before .before .before .before .before .before .before .if1 in
+    let start = c .before .before .before .before .before .before .before .before .before .before .before .before .before .before .before .before .before .before .before .before .before .before .before .before in (
+      (loop .inv .1 .0 .0, loop .inv .1 .0 .1 .border),
       (
-        atom-place _ _ _ _ _ _ _ (c .before .before .before .before .before .before .before .before .before .before .before .next-atom .result) _ (c .before .before .before .before .before .before .before .before .find .result) (c .before .before .before .before .before .before .before .find2 .result) (c .before .before .before .before .before .before .before .before .before .before .before .next-atom .ensures) (not-false _ (c .before .before .before .before .before .before .before .before .before .if1 .left)) (c .before .before .before .before .before .before .before .before .before .before .before .before .loop .inv .1 .0) (c .before .before .before .before .before .before .before .before .before .before .before .before .before .before .before .before .before .before .before .before .before .before .before .before .before .before .before .pre .1 .1 .1 .1 .0) (c .before .before .before .before .before .before .before .before .find .ensures) (c .before .before .before .before .before .before .before .find2 .ensures),
-        omega (arith, c .before .before .before .before .before .before .before .before .before .before .before .before .before .before .before .before .before .before .before .before .before .before .before .before .before .before .before .pre .1 .1 .1 .1 .1 .1 .1 .1 .1 .1, c .before .before .before .before .before .before .before .before .before .before .before .before .loop .inv .0 .nexts-long),
+        loop .inv .1 .1,
+        (
+          rw (toZ-ofZ w32 (next-atom .result .amount) (record { sfits = c .struct-told .given .1 .1 .1 .1 .1 .0 .1 })) (atom-good _ _ _ _ _ _ _ (next-atom .result) _ (find .result) (find2 .result) (next-atom .ensures) (not-false _ (if1 .left)) (loop .inv .1 .0 .1) (start .pre .1 .1 .1 .1 .0) (find .ensures) (find2 .ensures)),
+          (
+            atom-place _ _ _ _ _ _ _ (next-atom .result) _ (find .result) (find2 .result) (next-atom .ensures) (not-false _ (if1 .left)) (loop .inv .1 .0 .1) (start .pre .1 .1 .1 .1 .0) (find .ensures) (find2 .ensures),
+            omega (arith, start .pre .1 .1 .1 .1 .1 .1 .1 .1 .1 .1, loop .inv .0 .nexts-long),
+          ),
+        ),
       ),
-    ),
-  ),
-)
+    )
 
 same-length-7 : tie.Need-same-length-7 Inv-loop μ-loop
-same-length-7 c = (c .before .before .before .before .before .before .before .before .before .before .before .before .add-one .kept .1 .0) ∙ (c .before .before .before .before .before .before .before .before .before .before .before .before .before .before .before .before .before .before .before .before .before .before .before .before .before .loop .inv .0 .xs-long)
+same-length-7 c =
+    let add-one = c .before .before .before .before .before .before .before .before .before .before .before .before .add-one in
+    let loop = c .before .before .before .before .before .before .before .before .before .before .before .before .before .before .before .before .before .before .before .before .before .before .before .before .before .loop in
+    (add-one .kept .1 .0) ∙ (loop .inv .0 .xs-long)
 
 same-length-8 : tie.Need-same-length-8 Inv-loop μ-loop
-same-length-8 c = (c .before .before .before .before .before .before .before .before .before .before .before .before .add-one .kept .1 .1 .0) ∙ (c .before .before .before .before .before .before .before .before .before .before .before .before .before .before .before .before .before .before .before .before .before .before .before .before .before .loop .inv .0 .ys-long)
+same-length-8 c =
+    let add-one = c .before .before .before .before .before .before .before .before .before .before .before .before .add-one in
+    let loop = c .before .before .before .before .before .before .before .before .before .before .before .before .before .before .before .before .before .before .before .before .before .before .before .before .before .loop in
+    (add-one .kept .1 .1 .0) ∙ (loop .inv .0 .ys-long)
 
 same-length-9 : tie.Need-same-length-9 Inv-loop μ-loop
-same-length-9 c = (c .before .before .before .before .before .before .before .before .before .before .before .before .add-one .kept .1 .1 .1 .0) ∙ (c .before .before .before .before .before .before .before .before .before .before .before .before .before .before .before .before .before .before .before .before .before .before .before .before .before .loop .inv .0 .cs-long)
+same-length-9 c =
+    let add-one = c .before .before .before .before .before .before .before .before .before .before .before .before .add-one in
+    let loop = c .before .before .before .before .before .before .before .before .before .before .before .before .before .before .before .before .before .before .before .before .before .before .before .before .before .loop in
+    (add-one .kept .1 .1 .1 .0) ∙ (loop .inv .0 .cs-long)
 
 same-length-10 : tie.Need-same-length-10 Inv-loop μ-loop
-same-length-10 c = (c .before .before .before .before .before .before .before .before .before .before .before .before .add-one .kept .1 .1 .1 .1 .0) ∙ (c .before .before .before .before .before .before .before .before .before .before .before .before .before .before .before .before .before .before .before .before .before .before .before .before .before .loop .inv .0 .days-long)
+same-length-10 c =
+    let add-one = c .before .before .before .before .before .before .before .before .before .before .before .before .add-one in
+    let loop = c .before .before .before .before .before .before .before .before .before .before .before .before .before .before .before .before .before .before .before .before .before .before .before .before .before .loop in
+    (add-one .kept .1 .1 .1 .1 .0) ∙ (loop .inv .0 .days-long)
 
 same-length-11 : tie.Need-same-length-11 Inv-loop μ-loop
-same-length-11 c = (c .before .before .before .before .before .before .before .before .before .before .before .before .add-one .kept .1 .1 .1 .1 .1 .1 .1 .1 .1 .0) ∙ (c .before .before .before .before .before .before .before .before .before .before .before .before .before .before .before .before .before .before .before .before .before .before .before .before .before .loop .inv .0 .heads-long)
+same-length-11 c =
+    let add-one = c .before .before .before .before .before .before .before .before .before .before .before .before .add-one in
+    let loop = c .before .before .before .before .before .before .before .before .before .before .before .before .before .before .before .before .before .before .before .before .before .before .before .before .before .loop in
+    (add-one .kept .1 .1 .1 .1 .1 .0) ∙ (loop .inv .0 .heads-long)
 
 same-length-12 : tie.Need-same-length-12 Inv-loop μ-loop
-same-length-12 c = (c .before .before .before .before .before .before .before .before .before .before .before .before .add-one .kept .1 .1 .1 .1 .1 .1 .1 .1 .1 .1 .0) ∙ (c .before .before .before .before .before .before .before .before .before .before .before .before .before .before .before .before .before .before .before .before .before .before .before .before .before .loop .inv .0 .nexts-long)
+same-length-12 c =
+    let add-one = c .before .before .before .before .before .before .before .before .before .before .before .before .add-one in
+    let loop = c .before .before .before .before .before .before .before .before .before .before .before .before .before .before .before .before .before .before .before .before .before .before .before .before .before .loop in
+    (add-one .kept .1 .1 .1 .1 .1 .1 .0) ∙ (loop .inv .0 .nexts-long)
 
 returns-2 : tie.Need-returns-2 Inv-loop μ-loop
-returns-2 c = (atom-clash _ _ _ _ _ _ _ (c .before .before .before .before .before .before .before .before .before .before .before .before .before .before .before .before .before .before .before .before .before .before .before .before .next-atom .result) _ (c .before .before .before .before .before .before .before .before .before .before .before .before .before .before .before .before .before .before .before .before .before .find .result) (c .before .before .before .before .before .before .before .before .before .before .before .before .before .before .before .before .before .before .before .before .find2 .result) (c .before .before .before .before .before .before .before .before .before .before .before .before .before .before .before .before .before .before .before .before .before .before .before .before .next-atom .ensures) (not-false _ (c .before .before .before .before .before .before .before .before .before .before .before .before .before .before .before .before .before .before .before .before .before .before .if1 .left)) (c .before .before .before .before .before .before .before .before .before .before .before .before .before .before .before .before .before .before .before .before .before .before .before .before .before .loop .inv .1 .0) (c .before .before .before .before .before .before .before .before .before .before .before .before .before .before .before .before .before .before .before .before .before .before .before .before .before .before .before .before .before .before .before .before .before .before .before .before .before .before .before .before .pre .1 .1 .1 .1 .0) (c .before .before .before .before .before .before .before .before .before .before .before .before .before .before .before .before .before .before .before .before .before .find .ensures) (c .before .before .before .before .before .before .before .before .before .before .before .before .before .before .before .before .before .before .before .before .find2 .ensures) _ _ (c .if2 .taken) (rw (toZ-ofZ w32 (c .before .before .before .before .before .before .before .before .before .before .before .before .before .before .before .before .before .before .before .before .before .before .before .before .next-atom .result .amount) (record { sfits = c .before .before .before .before .before .before .before .before .before .before .before .before .before .struct-told .given .1 .1 .1 .1 .1 .0 .1 })) at (c .before .before .before .before .before .before .before .before .before .before .before .before .add-one .ensures .0)), c .before .before .before .before .before .before .before .before .before .before .before .before .add-one .ensures .1)
+returns-2 c =
+    let next-atom = c .before .before .before .before .before .before .before .before .before .before .before .before .before .before .before .before .before .before .before .before .before .before .before .before .next-atom in
+    let find = c .before .before .before .before .before .before .before .before .before .before .before .before .before .before .before .before .before .before .before .before .before .find in
+    let find2 = c .before .before .before .before .before .before .before .before .before .before .before .before .before .before .before .before .before .before .before .before .find2 in
+    let if1 = c .before .before .before .before .before .before .before .before .before .before .before .before .before .before .before .before .before .before .before .before .before .before .if1 in
+    let loop = c .before .before .before .before .before .before .before .before .before .before .before .before .before .before .before .before .before .before .before .before .before .before .before .before .before .loop in
+    let start = c .before .before .before .before .before .before .before .before .before .before .before .before .before .before .before .before .before .before .before .before .before .before .before .before .before .before .before .before .before .before .before .before .before .before .before .before .before in
+    let struct-told = c .before .before .before .before .before .before .before .before .before .before .before .before .before .struct-told in
+    let add-one = c .before .before .before .before .before .before .before .before .before .before .before .before .add-one in
+    (atom-clash _ _ _ _ _ _ _ (next-atom .result) _ (find .result) (find2 .result) (next-atom .ensures) (not-false _ (if1 .left)) (loop .inv .1 .0 .1) (start .pre .1 .1 .1 .1 .0) (find .ensures) (find2 .ensures) _ _ (c .if2 .taken) (rw (toZ-ofZ w32 (next-atom .result .amount) (record { sfits = struct-told .given .1 .1 .1 .1 .1 .0 .1 })) at (add-one .ensures .0 (loop .inv .1 .0 .0))), add-one .ensures .1)
 
 loop-less : tie.Need-loop-less Inv-loop μ-loop
-loop-less c = omega (arith, c .before .before .before .before .before .before .before .before .before .before .before .before .before .before .before .before .before .before .before .before .before .before .before .before .before .next-atom .ensures .onward (not-false _ (c .before .before .before .before .before .before .before .before .before .before .before .before .before .before .before .before .before .before .before .before .before .before .before .if1 .left)))
+loop-less c =
+    let next-atom = c .before .before .before .before .before .before .before .before .before .before .before .before .before .before .before .before .before .before .before .before .before .before .before .before .before .next-atom in
+    let if1 = c .before .before .before .before .before .before .before .before .before .before .before .before .before .before .before .before .before .before .before .before .before .before .before .if1 in
+    omega (arith, next-atom .ensures .onward (not-false _ (if1 .left)))
 
 loop-again : tie.Need-loop-again Inv-loop μ-loop
-loop-again c = (
-  record {
-    xs-long = (c .before .before .before .before .before .before .before .before .before .before .before .before .before .add-one .kept .1 .0) ∙ (c .before .before .before .before .before .before .before .before .before .before .before .before .before .before .before .before .before .before .before .before .before .before .before .before .before .before .loop .inv .0 .xs-long);
-    ys-long = (c .before .before .before .before .before .before .before .before .before .before .before .before .before .add-one .kept .1 .1 .0) ∙ (c .before .before .before .before .before .before .before .before .before .before .before .before .before .before .before .before .before .before .before .before .before .before .before .before .before .before .loop .inv .0 .ys-long);
-    cs-long = (c .before .before .before .before .before .before .before .before .before .before .before .before .before .add-one .kept .1 .1 .1 .0) ∙ (c .before .before .before .before .before .before .before .before .before .before .before .before .before .before .before .before .before .before .before .before .before .before .before .before .before .before .loop .inv .0 .cs-long);
-    days-long = (c .before .before .before .before .before .before .before .before .before .before .before .before .before .add-one .kept .1 .1 .1 .1 .0) ∙ (c .before .before .before .before .before .before .before .before .before .before .before .before .before .before .before .before .before .before .before .before .before .before .before .before .before .before .loop .inv .0 .days-long);
-    heads-long = (c .before .before .before .before .before .before .before .before .before .before .before .before .before .add-one .kept .1 .1 .1 .1 .1 .1 .1 .1 .1 .0) ∙ (c .before .before .before .before .before .before .before .before .before .before .before .before .before .before .before .before .before .before .before .before .before .before .before .before .before .before .loop .inv .0 .heads-long);
-    nexts-long = (c .before .before .before .before .before .before .before .before .before .before .before .before .before .add-one .kept .1 .1 .1 .1 .1 .1 .1 .1 .1 .1 .0) ∙ (c .before .before .before .before .before .before .before .before .before .before .before .before .before .before .before .before .before .before .before .before .before .before .before .before .before .before .loop .inv .0 .nexts-long);
-  },
-  (atom-held _ _ _ _ _ _ _ (c .before .before .before .before .before .before .before .before .before .before .before .before .before .before .before .before .before .before .before .before .before .before .before .before .before .next-atom .result) _ (c .before .before .before .before .before .before .before .before .before .before .before .before .before .before .before .before .before .before .before .before .before .before .find .result) (c .before .before .before .before .before .before .before .before .before .before .before .before .before .before .before .before .before .before .before .before .before .find2 .result) (c .before .before .before .before .before .before .before .before .before .before .before .before .before .before .before .before .before .before .before .before .before .before .before .before .before .next-atom .ensures) (not-false _ (c .before .before .before .before .before .before .before .before .before .before .before .before .before .before .before .before .before .before .before .before .before .before .before .if1 .left)) (c .before .before .before .before .before .before .before .before .before .before .before .before .before .before .before .before .before .before .before .before .before .before .before .before .before .before .loop .inv .1 .0) (c .before .before .before .before .before .before .before .before .before .before .before .before .before .before .before .before .before .before .before .before .before .before .before .before .before .before .before .before .before .before .before .before .before .before .before .before .before .before .before .before .before .pre .1 .1 .1 .1 .0) (c .before .before .before .before .before .before .before .before .before .before .before .before .before .before .before .before .before .before .before .before .before .before .find .ensures) (c .before .before .before .before .before .before .before .before .before .before .before .before .before .before .before .before .before .before .before .before .before .find2 .ensures) _ _ (c .before .if2 .left) (rw (toZ-ofZ w32 (c .before .before .before .before .before .before .before .before .before .before .before .before .before .before .before .before .before .before .before .before .before .before .before .before .before .next-atom .result .amount) (record { sfits = c .before .before .before .before .before .before .before .before .before .before .before .before .before .before .struct-told .given .1 .1 .1 .1 .1 .0 .1 })) at (c .before .before .before .before .before .before .before .before .before .before .before .before .before .add-one .ensures .0)), c .before .before .before .before .before .before .before .before .before .before .before .before .before .add-one .ensures .1),
-)
+loop-again c =
+    let add-one = c .before .before .before .before .before .before .before .before .before .before .before .before .before .add-one in
+    let loop = c .before .before .before .before .before .before .before .before .before .before .before .before .before .before .before .before .before .before .before .before .before .before .before .before .before .before .loop in
+    let next-atom = c .before .before .before .before .before .before .before .before .before .before .before .before .before .before .before .before .before .before .before .before .before .before .before .before .before .next-atom in
+    let find = c .before .before .before .before .before .before .before .before .before .before .before .before .before .before .before .before .before .before .before .before .before .before .find in
+    let find2 = c .before .before .before .before .before .before .before .before .before .before .before .before .before .before .before .before .before .before .before .before .before .find2 in
+    let if1 = c .before .before .before .before .before .before .before .before .before .before .before .before .before .before .before .before .before .before .before .before .before .before .before .if1 in
+    let start = c .before .before .before .before .before .before .before .before .before .before .before .before .before .before .before .before .before .before .before .before .before .before .before .before .before .before .before .before .before .before .before .before .before .before .before .before .before .before in
+    let struct-told = c .before .before .before .before .before .before .before .before .before .before .before .before .before .before .struct-told in (
+      record {
+        xs-long = (add-one .kept .1 .0) ∙ (loop .inv .0 .xs-long);
+        ys-long = (add-one .kept .1 .1 .0) ∙ (loop .inv .0 .ys-long);
+        cs-long = (add-one .kept .1 .1 .1 .0) ∙ (loop .inv .0 .cs-long);
+        days-long = (add-one .kept .1 .1 .1 .1 .0) ∙ (loop .inv .0 .days-long);
+        heads-long = (add-one .kept .1 .1 .1 .1 .1 .0) ∙ (loop .inv .0 .heads-long);
+        nexts-long = (add-one .kept .1 .1 .1 .1 .1 .1 .0) ∙ (loop .inv .0 .nexts-long);
+      },
+      ((loop .inv .1 .0 .0, atom-held _ _ _ _ _ _ _ (next-atom .result) _ (find .result) (find2 .result) (next-atom .ensures) (not-false _ (if1 .left)) (loop .inv .1 .0 .1) (start .pre .1 .1 .1 .1 .0) (find .ensures) (find2 .ensures) _ _ (c .before .if2 .left) (rw (toZ-ofZ w32 (next-atom .result .amount) (record { sfits = struct-told .given .1 .1 .1 .1 .1 .0 .1 })) at (add-one .ensures .0 (loop .inv .1 .0 .0)))), add-one .ensures .1),
+    )
 
 pub add-rules-spec : {M : Type 1} → statement M
 add-rules-spec =

@@ -51,15 +51,6 @@ slice-aggregate-answer-13 c = search needs
 slice-aggregate-answer-14 : tie.Need-slice-aggregate-answer-14
 slice-aggregate-answer-14 c = search needs
 
-slice-aggregate-answer-15 : tie.Need-slice-aggregate-answer-15
-slice-aggregate-answer-15 c = search needs
-
-slice-aggregate-answer-16 : tie.Need-slice-aggregate-answer-16
-slice-aggregate-answer-16 c = search needs
-
-slice-aggregate-answer-17 : tie.Need-slice-aggregate-answer-17
-slice-aggregate-answer-17 c = search needs
-
 answer-requires : tie.Need-answer-requires
 unfolding TABLE
 answer-requires c κs = (refl, (fresh-tables (zeros 20480), omega (arith, length-replicate {A = ℕ} 20480 0)))
@@ -85,8 +76,5 @@ play-spec =
     slice-aggregate-answer-12
     slice-aggregate-answer-13
     slice-aggregate-answer-14
-    slice-aggregate-answer-15
-    slice-aggregate-answer-16
-    slice-aggregate-answer-17
     answer-requires
     returns)

@@ -1,50 +1,46 @@
--- `desk::consequences`: the lists, the room and the soundness of the tables decide the refusals; the rest is `split::consequences`.
-use Prim.Native.Nat.{ℕ, _≤_, _<_}
+-- `desk::consequences`: the first test decides the refusals; the rest is `split::consequences`.
+use Prim.Native.Nat.{ℕ}
 use mathlib.Core.Path.{_≡_, refl}
-use mathlib.Core.Logic.{inl, inr}
 use lib.ListN.{length-replicate}
-use borrow.Author.Tests.{not-true, not-false}
-use Rattle.meaning.specs.Bounds.{STEPS, RULES, SHORT, DAMAGED}
-use Rattle.meaning.proofs.Needs.{obeys-refused}
+use Rattle.meaning.specs.Bounds.{STEPS, RULES}
+use Rattle.desk.proofs.Entering.{entered, lists-entered, refused-with-two}
 use native.Mathlib.Omega.{arith}
 use borrow.Author.Needs.{needs}
 use Rattle.desk.proofs.consequences.Statement.{statement}
 use Rattle.desk.proofs.consequences.Tie as tie
 use Rattle.desk.proofs.consequences.Reads as reads
 use Rattle.desk.proofs.consequences.Lts as lts
-use Rattle.sound.proofs.has_room.Reads as has-room-reads
-use Rattle.sound.proofs.is_sound.Reads as is-sound-reads
+use Rattle.desk.proofs.both_have.Reads as both-have-reads
+use Rattle.desk.proofs.verdict.Reads as verdict-reads
+use Rattle.meaning.proofs.refused.Reads as refused-reads
 use Rattle.split.proofs.consequences.Reads as consequences-reads
 
-cast-if1 : tie.Need-cast-if1
-cast-if1 c = search needs
+cast-both-have : tie.Need-cast-both-have
+cast-both-have c = search needs
+
+both-have-requires : tie.Need-both-have-requires
+both-have-requires c κs = search needs
+
+slice-aggregate-verdict : tie.Need-slice-aggregate-verdict
+slice-aggregate-verdict c = search needs
+
+slice-aggregate-verdict-2 : tie.Need-slice-aggregate-verdict-2
+slice-aggregate-verdict-2 c = search needs
+
+verdict-requires : tie.Need-verdict-requires
+verdict-requires c κs = (omega (arith, length-replicate {A = ℕ} STEPS 0), omega (arith, length-replicate {A = ℕ} RULES 0))
+
+refused-requires : tie.Need-refused-requires
+refused-requires c κs = search needs
+
+same-length : tie.Need-same-length
+same-length c = search needs
+
+same-length-2 : tie.Need-same-length-2
+same-length-2 c = search needs
 
 returns : tie.Need-returns
-returns c = obeys-refused _ _ SHORT (λ e. omega arith) (λ e. omega arith) (inl (refl, λ h. omega (arith, h .1, c .if1 .taken)))
-
-cast-if2 : tie.Need-cast-if2
-cast-if2 c = search needs
-
-returns-2 : tie.Need-returns-2
-returns-2 c = obeys-refused _ _ SHORT (λ e. omega arith) (λ e. omega arith) (inl (refl, λ h. omega (arith, h .2, c .if2 .taken)))
-
-has-room-requires : tie.Need-has-room-requires
-has-room-requires c κs = search needs
-
-returns-3 : tie.Need-returns-3
-returns-3 c = obeys-refused _ _ SHORT (λ e. omega arith) (λ e. omega arith) (inl (refl, λ h. (c .before .has-room .ensures (c .before .before .before .before .before .before .before .before .before .before .before .before .before .before .args .counts) .not-so (not-true _ (c .if3 .taken)) (h .0))))
-
-slice-aggregate-is-sound : tie.Need-slice-aggregate-is-sound
-slice-aggregate-is-sound c = search needs
-
-slice-aggregate-is-sound-2 : tie.Need-slice-aggregate-is-sound-2
-slice-aggregate-is-sound-2 c = search needs
-
-is-sound-requires : tie.Need-is-sound-requires
-is-sound-requires c κs = record { room = (c .before .before .before .has-room .ensures (c .before .before .before .before .before .before .before .before .before .before .before .before .before .before .before .before .args .counts) .so (not-false _ (c .before .before .if3 .left))); heads-room = omega (arith, length-replicate {A = ℕ} STEPS 0); nexts-room = omega (arith, length-replicate {A = ℕ} RULES 0) }
-
-returns-4 : tie.Need-returns-4
-returns-4 c = obeys-refused _ _ DAMAGED (λ e. omega arith) (λ e. omega arith) (inr (((c .before .before .before .before .before .before .before .has-room .ensures (c .before .before .before .before .before .before .before .before .before .before .before .before .before .before .before .before .before .before .before .before .args .counts) .so (not-false _ (c .before .before .before .before .before .before .if3 .left))), omega (arith, c .before .before .before .before .before .before .before .before .before .before .if1 .left), omega (arith, c .before .before .before .before .before .before .before .before .if2 .left)), inl (refl, c .before .before .before .is-sound .ensures .decides .not-so (not-true _ (c .if4 .taken)))))
+returns c = rw (c .refused .ensures) (refused-with-two _ _ _ _ _ (c .before .before .before .before .verdict .ensures) _ _ (omega (arith, c .before .if1 .taken)) (c .before .before .before .before .before .before .before .both-have .ensures) (λ f. f))
 
 slice-aggregate-consequences : tie.Need-slice-aggregate-consequences
 slice-aggregate-consequences c = search needs
@@ -53,49 +49,36 @@ slice-aggregate-consequences-2 : tie.Need-slice-aggregate-consequences-2
 slice-aggregate-consequences-2 c = search needs
 
 consequences-requires : tie.Need-consequences-requires
-consequences-requires c κs = (
-  record { room = (c .before .before .before .before .before .before .before .before .before .before .before .has-room .ensures (c .before .before .before .before .before .before .before .before .before .before .before .before .before .before .before .before .before .before .before .before .before .before .before .before .args .counts) .so (not-false _ (c .before .before .before .before .before .before .before .before .before .before .if3 .left))); sound = c .before .before .before .before .before .before .before .is-sound .ensures .decides .so (not-false _ (c .before .before .before .before .if4 .left)) },
-  (
-    omega (arith, c .before .before .before .before .before .before .before .before .before .before .before .before .before .before .if1 .left),
-    (
-      omega (arith, c .before .before .before .before .before .before .before .before .before .before .before .before .if2 .left),
-      (
-        c .before .before .before .before .before .before .before .is-sound .ensures .chained (not-false _ (c .before .before .before .before .if4 .left)),
-        (
-          omega (arith, c .before .before .before .before .before .before .before .is-sound .kept .1 .1 .1 .1 .1 .1 .1 .1 .1 .0, length-replicate {A = ℕ} STEPS 0),
-          omega (arith, c .before .before .before .before .before .before .before .is-sound .kept .1 .1 .1 .1 .1 .1 .1 .1 .1 .1 .0, length-replicate {A = ℕ} RULES 0),
-        ),
-      ),
-    ),
-  ),
-)
+consequences-requires c κs =
+    let is : c .before .before .before .before .before .before .before .verdict .result ≡ 0 = omega (arith, c .before .before .before .before .if1 .left) in
+    let room = lists-entered _ _ _ _ _ (c .before .before .before .before .before .before .before .verdict .ensures) (c .before .before .before .before .before .before .before .before .before .before .both-have .ensures) is in
+    (entered _ _ _ _ _ (c .before .before .before .before .before .before .before .verdict .ensures) is, (room .0, (room .1, (c .before .before .before .before .before .before .before .verdict .ensures .chained is, (c .before .before .before .before .before .before .before .verdict .ensures .heads-room, c .before .before .before .before .before .before .before .verdict .ensures .nexts-room)))))
 
-same-length : tie.Need-same-length
-same-length c = search needs
+same-length-3 : tie.Need-same-length-3
+same-length-3 c = search needs
 
-same-length-2 : tie.Need-same-length-2
-same-length-2 c = search needs
+same-length-4 : tie.Need-same-length-4
+same-length-4 c = search needs
 
-returns-5 : tie.Need-returns-5
-returns-5 c = search needs
+returns-2 : tie.Need-returns-2
+returns-2 c = search needs
 
 pub consequences-spec : {M : Type 1} → statement M
 consequences-spec =
     tie.close
     (tie.spec
-    cast-if1
+    cast-both-have
+    both-have-requires
+    slice-aggregate-verdict
+    slice-aggregate-verdict-2
+    verdict-requires
+    refused-requires
+    same-length
+    same-length-2
     returns
-    cast-if2
-    returns-2
-    has-room-requires
-    returns-3
-    slice-aggregate-is-sound
-    slice-aggregate-is-sound-2
-    is-sound-requires
-    returns-4
     slice-aggregate-consequences
     slice-aggregate-consequences-2
     consequences-requires
-    same-length
-    same-length-2
-    returns-5)
+    same-length-3
+    same-length-4
+    returns-2)

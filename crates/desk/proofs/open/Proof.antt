@@ -1,9 +1,8 @@
 -- `desk::open`: the room and the count decide the refusals; else the days are cleared and the counts set.
-use Prim.Native.Nat.{ℕ, _≤_, _<_}
-use mathlib.Core.Path.{_≡_, refl}
+use mathlib.Core.Path.{refl}
 use mathlib.Core.Logic.{inl, inr}
 use borrow.Author.Tests.{not-true, not-false}
-use Rattle.meaning.specs.Bounds.{STEPS, RULES, SHORT, DAMAGED, STEP, AMOUNT}
+use Rattle.meaning.specs.Bounds.{SHORT, STEP}
 use Rattle.meaning.proofs.Needs.{obeys-done, obeys-refused}
 use native.Mathlib.Omega.{arith}
 use borrow.Author.Needs.{needs}
@@ -12,51 +11,75 @@ use Rattle.desk.proofs.open.Tie as tie
 use Rattle.desk.proofs.open.Reads as reads
 use Rattle.desk.proofs.open.Lts as lts
 use Rattle.inside.proofs.clear_days.Reads as clear-days-reads
+use Rattle.meaning.proofs.done.Reads as done-reads
+use Rattle.meaning.proofs.refused.Reads as refused-reads
+use Rattle.meaning.proofs.steps_alone.Reads as steps-alone-reads
 use Rattle.sound.proofs.has_room.Reads as has-room-reads
 
 has-room-requires : tie.Need-has-room-requires
 has-room-requires c κs = search needs
 
+refused-requires : tie.Need-refused-requires
+refused-requires c κs = search needs
+
 same-length : tie.Need-same-length
 same-length c = search needs
 
 returns : tie.Need-returns
-returns c = obeys-refused _ _ SHORT (λ e. omega arith) (λ e. omega arith) (inl (refl, λ h. (c .before .has-room .ensures (c .before .before .before .before .before .before .before .before .before .args .counts) .not-so (not-true _ (c .if1 .taken)) h)))
+returns c = rw (c .refused .ensures) (obeys-refused _ _ SHORT (λ e. omega arith) (λ e. omega arith) (inl (refl, c .before .before .has-room .ensures (c .before .before .before .before .before .before .before .before .before .before .args .counts) .not-so (not-true _ (c .before .if1 .taken)))))
+
+refused-requires-2 : tie.Need-refused-requires-2
+refused-requires-2 c κs = search needs
 
 same-length-2 : tie.Need-same-length-2
 same-length-2 c = search needs
 
 returns-2 : tie.Need-returns-2
-returns-2 c = obeys-refused _ _ STEP (λ e. omega arith) (λ e. omega arith) (inr ((c .before .before .has-room .ensures (c .before .before .before .before .before .before .before .before .before .before .args .counts) .so (not-false _ (c .before .if1 .left))), inl (refl, λ h. omega (arith, h .0))))
+returns-2 c = rw (c .refused2 .ensures) (obeys-refused _ _ STEP (λ e. omega arith) (λ e. omega arith) (inr (c .before .before .before .has-room .ensures (c .before .before .before .before .before .before .before .before .before .before .before .args .counts) .so (not-false _ (c .before .before .if1 .left)), inl (refl, λ h. omega (arith, h .0)))))
+
+refused-requires-3 : tie.Need-refused-requires-3
+refused-requires-3 c κs = search needs
 
 same-length-3 : tie.Need-same-length-3
 same-length-3 c = search needs
 
 returns-3 : tie.Need-returns-3
-returns-3 c = obeys-refused _ _ STEP (λ e. omega arith) (λ e. omega arith) (inr ((c .before .before .before .has-room .ensures (c .before .before .before .before .before .before .before .before .before .before .before .args .counts) .so (not-false _ (c .before .before .if1 .left))), inl (refl, λ h. omega (arith, h .1))))
+returns-3 c = rw (c .refused3 .ensures) (obeys-refused _ _ STEP (λ e. omega arith) (λ e. omega arith) (inr (c .before .before .before .before .has-room .ensures (c .before .before .before .before .before .before .before .before .before .before .before .before .args .counts) .so (not-false _ (c .before .before .before .if1 .left)), inl (refl, λ h. omega (arith, h .1)))))
 
 clear-days-requires : tie.Need-clear-days-requires
-clear-days-requires c κs = omega (arith, (c .before .before .before .before .has-room .ensures (c .before .before .before .before .before .before .before .before .before .before .before .before .args .counts) .so (not-false _ (c .before .before .before .if1 .left))) .days-room, c .before .if3 .left)
+clear-days-requires c κs = omega (arith, c .before .before .before .before .has-room .ensures (c .before .before .before .before .before .before .before .before .before .before .before .before .args .counts) .so (not-false _ (c .before .before .before .if1 .left)) .days-room, c .before .if3 .left)
+
+steps-alone-requires : tie.Need-steps-alone-requires
+steps-alone-requires c κs = search needs
+
+done-requires : tie.Need-done-requires
+done-requires c κs = search needs
 
 same-length-4 : tie.Need-same-length-4
 same-length-4 c = search needs
 
 returns-4 : tie.Need-returns-4
 returns-4 c =
-    obeys-done _ _ 0 0 _ ((c .before .before .before .before .before .before .before .has-room .ensures (c .before .before .before .before .before .before .before .before .before .before .before .before .before .before .before .args .counts) .so (not-false _ (c .before .before .before .before .before .before .if1 .left))), ((omega arith, omega arith), tt))
-    (record { no-values = (refl, refl); emptied = refl; day-0 = λ v h. c .before .before .clear-days .ensures .day-0 v (omega (arith, h, c .before .before .before .before .if3 .left)); past = c .before .before .clear-days .ensures .past })
+    rw (c .done .ensures, c .before .steps-alone .ensures)
+    (obeys-done _ _ 0 0 _ (c .before .before .before .before .before .before .before .before .before .has-room .ensures (c .before .before .before .before .before .before .before .before .before .before .before .before .before .before .before .before .before .args .counts) .so (not-false _ (c .before .before .before .before .before .before .before .before .if1 .left)), ((omega arith, omega arith), tt))
+    (record { no-values = (refl, refl); emptied = refl; day-0 = λ v h. c .before .before .before .before .clear-days .ensures .day-0 v (omega (arith, h, c .before .before .before .before .before .before .if3 .left)); past = c .before .before .before .before .clear-days .ensures .past }))
 
 pub open-spec : {M : Type 1} → statement M
 open-spec =
     tie.close
     (tie.spec
     has-room-requires
+    refused-requires
     same-length
     returns
+    refused-requires-2
     same-length-2
     returns-2
+    refused-requires-3
     same-length-3
     returns-3
     clear-days-requires
+    steps-alone-requires
+    done-requires
     same-length-4
     returns-4)

@@ -1,50 +1,57 @@
--- `desk::ring_check`: the room, the soundness of the tables and the rule's bounds decide the refusals; the verdict is `ringcheck::is_ring`'s.
-use Prim.Native.Nat.{ℕ, _≤_, _<_}
+-- `desk::ring_check`: the first test and the rule's own decide the refusals; the verdict is `ringcheck::is_ring`'s.
+use Prim.Native.Nat.{ℕ}
 use mathlib.Core.Path.{_≡_, refl}
+use mathlib.Core.List.{[]}
 use mathlib.Core.Logic.{inl, inr}
-use borrow.Author.Tests.{not-true, not-false}
-use Rattle.meaning.specs.Bounds.{STEPS, RULES, SHORT, DAMAGED, STEP, AMOUNT}
-use Rattle.meaning.proofs.Needs.{obeys-done, obeys-refused}
+use lib.ListN.{length-replicate}
 use mir.Syntax.{w32}
 use mir.ValLaws.{toZ-ofZ}
+use Rattle.meaning.specs.Bounds.{STEPS, RULES}
+use Rattle.meaning.proofs.Needs.{obeys-done, obeys-refused}
+use Rattle.leaf.specs.Promises.{rule}
+use Rattle.inside.proofs.Verdict.{rule-steps, rule-amount, rule-refused, rule-no-conflict}
+use Rattle.desk.proofs.Entering.{entered, refused-alone}
 use native.Mathlib.Omega.{arith}
 use borrow.Author.Needs.{needs}
 use Rattle.desk.proofs.ring_check.Statement.{statement}
 use Rattle.desk.proofs.ring_check.Tie as tie
 use Rattle.desk.proofs.ring_check.Reads as reads
 use Rattle.desk.proofs.ring_check.Lts as lts
-use Rattle.desk.proofs.stands.Reads as stands-reads
-use Rattle.inside.proofs.steps_fit.Reads as steps-fit-reads
-use Rattle.leaf.proofs.amount_fits.Reads as amount-fits-reads
+use Rattle.desk.proofs.verdict.Reads as verdict-reads
+use Rattle.inside.proofs.rule_verdict.Reads as rule-verdict-reads
+use Rattle.meaning.proofs.done.Reads as done-reads
+use Rattle.meaning.proofs.refused.Reads as refused-reads
 use Rattle.ringcheck.proofs.is_ring.Reads as is-ring-reads
-use Rattle.sound.proofs.has_room.Reads as has-room-reads
 
-has-room-requires : tie.Need-has-room-requires
-has-room-requires c κs = search needs
+slice-aggregate-verdict : tie.Need-slice-aggregate-verdict
+slice-aggregate-verdict c = search needs
+
+slice-aggregate-verdict-2 : tie.Need-slice-aggregate-verdict-2
+slice-aggregate-verdict-2 c = search needs
+
+verdict-requires : tie.Need-verdict-requires
+verdict-requires c κs = (omega (arith, length-replicate {A = ℕ} STEPS 0), omega (arith, length-replicate {A = ℕ} RULES 0))
+
+refused-requires : tie.Need-refused-requires
+refused-requires c κs = search needs
 
 returns : tie.Need-returns
-returns c = obeys-refused _ _ SHORT (λ e. omega arith) (λ e. omega arith) (inl (refl, λ h. (c .before .has-room .ensures (c .before .before .before .before .before .before .before .before .before .args .counts) .not-so (not-true _ (c .if1 .taken)) h)))
+returns c = rw (c .refused .ensures) (refused-alone _ _ _ _ _ (c .before .before .before .before .verdict .ensures) _ _ (omega (arith, c .before .if1 .taken)) refl (λ f. f))
 
-stands-requires : tie.Need-stands-requires
-stands-requires c κs = (c .before .has-room .ensures (c .before .before .before .before .before .before .before .before .before .args .counts) .so (not-false _ (c .if1 .left)))
+rule-verdict-requires : tie.Need-rule-verdict-requires
+rule-verdict-requires c κs = search needs
+
+refused-requires-2 : tie.Need-refused-requires-2
+refused-requires-2 c κs = search needs
 
 returns-2 : tie.Need-returns-2
-returns-2 c = obeys-refused _ _ DAMAGED (λ e. omega arith) (λ e. omega arith) (inr ((c .before .before .before .has-room .ensures (c .before .before .before .before .before .before .before .before .before .before .before .args .counts) .so (not-false _ (c .before .before .if1 .left))), inl (refl, c .before .stands .ensures .not-so (not-true _ (c .if2 .taken)))))
-
-cast-steps-fit : tie.Need-cast-steps-fit
-cast-steps-fit c = search needs
-
-steps-fit-requires : tie.Need-steps-fit-requires
-steps-fit-requires c κs = search needs
-
-returns-3 : tie.Need-returns-3
-returns-3 c = obeys-refused _ _ STEP (λ e. omega arith) (λ e. omega arith) (inr ((c .before .before .before .before .before .before .has-room .ensures (c .before .before .before .before .before .before .before .before .before .before .before .before .before .before .args .counts) .so (not-false _ (c .before .before .before .before .before .if1 .left))), inr (c .before .before .before .before .stands .ensures .so (not-false _ (c .before .before .before .if2 .left)), inl (refl, c .before .steps-fit .ensures (c .before .before .before .before .before .before .before .before .before .before .before .before .before .before .args .c) .not-so (not-true _ (c .if3 .taken))))))
-
-amount-fits-requires : tie.Need-amount-fits-requires
-amount-fits-requires c κs = search needs
-
-returns-4 : tie.Need-returns-4
-returns-4 c = obeys-refused _ _ AMOUNT (λ e. omega arith) (λ e. omega arith) (inr ((c .before .before .before .before .before .before .before .before .has-room .ensures (c .before .before .before .before .before .before .before .before .before .before .before .before .before .before .before .before .args .counts) .so (not-false _ (c .before .before .before .before .before .before .before .if1 .left))), inr (c .before .before .before .before .before .before .stands .ensures .so (not-false _ (c .before .before .before .before .before .if2 .left)), inr (c .before .before .before .steps-fit .ensures (c .before .before .before .before .before .before .before .before .before .before .before .before .before .before .before .before .args .c) .so (not-false _ (c .before .before .if3 .left)), inl (refl, (rw (toZ-ofZ w32 (c .before .before .before .before .before .before .before .before .before .before .before .before .before .before .before .before .args .c) (c .before .before .before .before .before .before .before .before .before .before .before .before .before .before .before .before .fits .c)) at (c .before .amount-fits .ensures)) .not-so (not-true _ (c .if4 .taken)))))))
+returns-2 c =
+    let n = c .before .before .before .before .before .before .before .before .before .before .before .before .before .before .before .before .args .counts .steps in
+    let r = rule (c .before .before .before .before .before .before .before .before .before .before .before .before .before .before .before .before .args .x) (c .before .before .before .before .before .before .before .before .before .before .before .before .before .before .before .before .args .y) (c .before .before .before .before .before .before .before .before .before .before .before .before .before .before .before .before .args .c) in
+    let g = c .before .before .rule-verdict .result in
+    let f = rw (toZ-ofZ w32 (c .before .before .before .before .before .before .before .before .before .before .before .before .before .before .before .before .args .c) (c .before .before .before .before .before .before .before .before .before .before .before .before .before .before .before .before .fits .c)) at (c .before .before .rule-verdict .ensures) in
+    let border = entered _ _ _ _ _ (c .before .before .before .before .before .before .verdict .ensures) (omega (arith, c .before .before .before .if1 .left)) in
+    rw (c .refused2 .ensures) (obeys-refused _ _ g (λ e. omega (arith, c .before .if2 .taken)) (rule-no-conflict n r g f) (inr (border .room, inr (border .sound, rule-refused n r g f [] (omega (arith, c .before .if2 .taken))))))
 
 cast-is-ring : tie.Need-cast-is-ring
 cast-is-ring c = search needs
@@ -52,43 +59,75 @@ cast-is-ring c = search needs
 cast-is-ring-2 : tie.Need-cast-is-ring-2
 cast-is-ring-2 c = search needs
 
+cast-is-ring-3 : tie.Need-cast-is-ring-3
+cast-is-ring-3 c =
+    let border = entered _ _ _ _ _ (c .before .before .before .before .before .before .before .verdict .ensures) (omega (arith, c .before .before .before .before .if1 .left)) in
+    omega (arith, rule-steps _ _ _ (c .before .before .before .rule-verdict .ensures) (omega (arith, c .before .before .if2 .left)) .first-in, border .sound .counts-in .steps-in)
+
+cast-is-ring-4 : tie.Need-cast-is-ring-4
+cast-is-ring-4 c =
+    let border = entered _ _ _ _ _ (c .before .before .before .before .before .before .before .verdict .ensures) (omega (arith, c .before .before .before .before .if1 .left)) in
+    omega (arith, rule-steps _ _ _ (c .before .before .before .rule-verdict .ensures) (omega (arith, c .before .before .if2 .left)) .second-in, border .sound .counts-in .steps-in)
+
 is-ring-requires : tie.Need-is-ring-requires
-is-ring-requires c κs = record {
-  steps-in = (c .before .before .before .before .before .before .before .before .stands .ensures .so (not-false _ (c .before .before .before .before .before .before .before .if2 .left))) .counts-in .steps-in;
-  placed = λ i h. record {
-    first-place = omega (arith, (c .before .before .before .before .before .before .before .before .before .before .has-room .ensures (c .before .before .before .before .before .before .before .before .before .before .before .before .before .before .before .before .before .before .args .counts) .so (not-false _ (c .before .before .before .before .before .before .before .before .before .if1 .left))) .rules-room .firsts-room, (c .before .before .before .before .before .before .before .before .stands .ensures .so (not-false _ (c .before .before .before .before .before .before .before .if2 .left))) .counts-in .rules-in);
-    second-place = omega (arith, (c .before .before .before .before .before .before .before .before .before .before .has-room .ensures (c .before .before .before .before .before .before .before .before .before .before .before .before .before .before .before .before .before .before .args .counts) .so (not-false _ (c .before .before .before .before .before .before .before .before .before .if1 .left))) .rules-room .seconds-room, (c .before .before .before .before .before .before .before .before .stands .ensures .so (not-false _ (c .before .before .before .before .before .before .before .if2 .left))) .counts-in .rules-in);
-    amount-place = omega (arith, (c .before .before .before .before .before .before .before .before .before .before .has-room .ensures (c .before .before .before .before .before .before .before .before .before .before .before .before .before .before .before .before .before .before .args .counts) .so (not-false _ (c .before .before .before .before .before .before .before .before .before .if1 .left))) .rules-room .amounts-room, (c .before .before .before .before .before .before .before .before .stands .ensures .so (not-false _ (c .before .before .before .before .before .before .before .if2 .left))) .counts-in .rules-in);
-  };
-  rules-in = λ i h. (c .before .before .before .before .before .before .before .before .stands .ensures .so (not-false _ (c .before .before .before .before .before .before .before .if2 .left))) .rules-good i h .steps-in;
-  rule-in = record { first-in = (c .before .before .before .before .before .steps-fit .ensures (c .before .before .before .before .before .before .before .before .before .before .before .before .before .before .before .before .before .before .args .c) .so (not-false _ (c .before .before .before .before .if3 .left))) .first-in; second-in = (c .before .before .before .before .before .steps-fit .ensures (c .before .before .before .before .before .before .before .before .before .before .before .before .before .before .before .before .before .before .args .c) .so (not-false _ (c .before .before .before .before .if3 .left))) .second-in };
-}
+is-ring-requires c κs =
+    let border = entered _ _ _ _ _ (c .before .before .before .before .before .before .before .verdict .ensures) (omega (arith, c .before .before .before .before .if1 .left)) in
+    let steps = rule-steps _ _ _ (c .before .before .before .rule-verdict .ensures) (omega (arith, c .before .before .if2 .left)) in
+    record {
+      steps-in = border .sound .counts-in .steps-in;
+      placed = λ i h. record {
+        first-place = omega (arith, border .room .rules-room .firsts-room, border .sound .counts-in .rules-in);
+        second-place = omega (arith, border .room .rules-room .seconds-room, border .sound .counts-in .rules-in);
+        amount-place = omega (arith, border .room .rules-room .amounts-room, border .sound .counts-in .rules-in);
+      };
+      rules-in = λ i h. border .sound .rules-good i h .steps-in;
+      rule-in = record { first-in = steps .first-in; second-in = steps .second-in };
+    }
 
-returns-5 : tie.Need-returns-5
-returns-5 c =
-    obeys-done _ _ 1 0 _ ((c .before .before .before .before .before .before .before .before .before .before .before .before .has-room .ensures (c .before .before .before .before .before .before .before .before .before .before .before .before .before .before .before .before .before .before .before .before .args .counts) .so (not-false _ (c .before .before .before .before .before .before .before .before .before .before .before .if1 .left))), (c .before .before .before .before .before .before .before .before .before .before .stands .ensures .so (not-false _ (c .before .before .before .before .before .before .before .before .before .if2 .left)), (c .before .before .before .before .before .before .before .steps-fit .ensures (c .before .before .before .before .before .before .before .before .before .before .before .before .before .before .before .before .before .before .before .before .args .c) .so (not-false _ (c .before .before .before .before .before .before .if3 .left)), ((rw (toZ-ofZ w32 (c .before .before .before .before .before .before .before .before .before .before .before .before .before .before .before .before .before .before .before .before .args .c) (c .before .before .before .before .before .before .before .before .before .before .before .before .before .before .before .before .before .before .before .before .fits .c)) at (c .before .before .before .before .before .amount-fits .ensures)) .so (not-false _ (c .before .before .before .before .if4 .left)), tt))))
-    (record { verdict = inl (refl, (rw (toZ-ofZ w32 (c .before .before .before .before .before .before .before .before .before .before .before .before .before .before .before .before .before .before .before .before .args .c) (c .before .before .before .before .before .before .before .before .before .before .before .before .before .before .before .before .before .before .before .before .fits .c)) at (c .before .is-ring .ensures)) .so (c .if5 .taken)); no-second = refl; all-stays = refl })
+done-requires : tie.Need-done-requires
+done-requires c κs = search needs
 
-returns-6 : tie.Need-returns-6
-returns-6 c =
-    obeys-done _ _ 0 0 _ ((c .before .before .before .before .before .before .before .before .before .before .before .before .has-room .ensures (c .before .before .before .before .before .before .before .before .before .before .before .before .before .before .before .before .before .before .before .before .args .counts) .so (not-false _ (c .before .before .before .before .before .before .before .before .before .before .before .if1 .left))), (c .before .before .before .before .before .before .before .before .before .before .stands .ensures .so (not-false _ (c .before .before .before .before .before .before .before .before .before .if2 .left)), (c .before .before .before .before .before .before .before .steps-fit .ensures (c .before .before .before .before .before .before .before .before .before .before .before .before .before .before .before .before .before .before .before .before .args .c) .so (not-false _ (c .before .before .before .before .before .before .if3 .left)), ((rw (toZ-ofZ w32 (c .before .before .before .before .before .before .before .before .before .before .before .before .before .before .before .before .before .before .before .before .args .c) (c .before .before .before .before .before .before .before .before .before .before .before .before .before .before .before .before .before .before .before .before .fits .c)) at (c .before .before .before .before .before .amount-fits .ensures)) .so (not-false _ (c .before .before .before .before .if4 .left)), tt))))
-    (record { verdict = inr (refl, (rw (toZ-ofZ w32 (c .before .before .before .before .before .before .before .before .before .before .before .before .before .before .before .before .before .before .before .before .args .c) (c .before .before .before .before .before .before .before .before .before .before .before .before .before .before .before .before .before .before .before .before .fits .c)) at (c .before .is-ring .ensures)) .not-so (c .if5 .left)); no-second = refl; all-stays = refl })
+returns-3 : tie.Need-returns-3
+returns-3 c =
+    let n = c .before .before .before .before .before .before .before .before .before .before .before .before .before .before .before .before .before .before .before .before .args .counts .steps in
+    let r = rule (c .before .before .before .before .before .before .before .before .before .before .before .before .before .before .before .before .before .before .before .before .args .x) (c .before .before .before .before .before .before .before .before .before .before .before .before .before .before .before .before .before .before .before .before .args .y) (c .before .before .before .before .before .before .before .before .before .before .before .before .before .before .before .before .before .before .before .before .args .c) in
+    let f = rw (toZ-ofZ w32 (c .before .before .before .before .before .before .before .before .before .before .before .before .before .before .before .before .before .before .before .before .args .c) (c .before .before .before .before .before .before .before .before .before .before .before .before .before .before .before .before .before .before .before .before .fits .c)) at (c .before .before .before .before .before .before .rule-verdict .ensures) in
+    let border = entered _ _ _ _ _ (c .before .before .before .before .before .before .before .before .before .before .verdict .ensures) (omega (arith, c .before .before .before .before .before .before .before .if1 .left)) in
+    rw (c .done .ensures)
+    (obeys-done _ _ 1 0 _ (border .room, (border .sound, (rule-steps n r _ f (omega (arith, c .before .before .before .before .before .if2 .left)), (rule-amount n r _ f (omega (arith, c .before .before .before .before .before .if2 .left)), tt))))
+    (record { verdict = inl (refl, (rw (toZ-ofZ w32 (c .before .before .before .before .before .before .before .before .before .before .before .before .before .before .before .before .before .before .before .before .args .c) (c .before .before .before .before .before .before .before .before .before .before .before .before .before .before .before .before .before .before .before .before .fits .c)) at (c .before .before .is-ring .ensures)) .so (c .before .if3 .taken)); no-second = refl; all-stays = refl }))
+
+done-requires-2 : tie.Need-done-requires-2
+done-requires-2 c κs = search needs
+
+returns-4 : tie.Need-returns-4
+returns-4 c =
+    let n = c .before .before .before .before .before .before .before .before .before .before .before .before .before .before .before .before .before .before .before .before .args .counts .steps in
+    let r = rule (c .before .before .before .before .before .before .before .before .before .before .before .before .before .before .before .before .before .before .before .before .args .x) (c .before .before .before .before .before .before .before .before .before .before .before .before .before .before .before .before .before .before .before .before .args .y) (c .before .before .before .before .before .before .before .before .before .before .before .before .before .before .before .before .before .before .before .before .args .c) in
+    let f = rw (toZ-ofZ w32 (c .before .before .before .before .before .before .before .before .before .before .before .before .before .before .before .before .before .before .before .before .args .c) (c .before .before .before .before .before .before .before .before .before .before .before .before .before .before .before .before .before .before .before .before .fits .c)) at (c .before .before .before .before .before .before .rule-verdict .ensures) in
+    let border = entered _ _ _ _ _ (c .before .before .before .before .before .before .before .before .before .before .verdict .ensures) (omega (arith, c .before .before .before .before .before .before .before .if1 .left)) in
+    rw (c .done2 .ensures)
+    (obeys-done _ _ 0 0 _ (border .room, (border .sound, (rule-steps n r _ f (omega (arith, c .before .before .before .before .before .if2 .left)), (rule-amount n r _ f (omega (arith, c .before .before .before .before .before .if2 .left)), tt))))
+    (record { verdict = inr (refl, (rw (toZ-ofZ w32 (c .before .before .before .before .before .before .before .before .before .before .before .before .before .before .before .before .before .before .before .before .args .c) (c .before .before .before .before .before .before .before .before .before .before .before .before .before .before .before .before .before .before .before .before .fits .c)) at (c .before .before .is-ring .ensures)) .not-so (c .before .if3 .left)); no-second = refl; all-stays = refl }))
 
 pub ring-check-spec : {M : Type 1} → statement M
 ring-check-spec =
     tie.close
     (tie.spec
-    has-room-requires
+    slice-aggregate-verdict
+    slice-aggregate-verdict-2
+    verdict-requires
+    refused-requires
     returns
-    stands-requires
+    rule-verdict-requires
+    refused-requires-2
     returns-2
-    cast-steps-fit
-    steps-fit-requires
-    returns-3
-    amount-fits-requires
-    returns-4
     cast-is-ring
     cast-is-ring-2
+    cast-is-ring-3
+    cast-is-ring-4
     is-ring-requires
-    returns-5
-    returns-6)
+    done-requires
+    returns-3
+    done-requires-2
+    returns-4)

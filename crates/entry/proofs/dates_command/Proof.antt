@@ -45,8 +45,7 @@ use Rattle.flat.proofs.Record.Laws as R′
 use Rattle.flat.specs.declared.ScriptTold.{ScriptTold}
 use Rattle.flat.proofs.ScriptTold as O
 use Rattle.flat.proofs.ScriptTold.Laws as O′
-use Rattle.meaning.specs.Promise.{Obeys}
-use Rattle.scripts.specs.Testing.{gave}
+use Rattle.meaning.specs.Promise.{Obeys, gave}
 use Rattle.flat.specs.Records.{lent-by-c, command-by-c}
 use Rattle.flat.proofs.command as core
 use Rattle.flat.proofs.command.Symbol as core-def

@@ -1,4 +1,4 @@
--- `entry::dates_mark` meets its contract: a walk of its MIR, by hand. The record is read behind its borrow, `flat::mark` is called on it and on what else is lent, and the record is stored again.
+-- `entry::dates_mark` meets its contract: a walk of its MIR, by hand. The record is read behind its borrow, `desk::mark` is called on it and on what else is lent, and the record is stored again.
 -- Assumes nothing. Written by tools/walks.
 use mathlib.Core.Path.{refl, ap}
 use mathlib.Core.List.{[], _∷_, List}
@@ -39,15 +39,15 @@ use denote.Triple.Walked.{says, Stays, stay-ref, walkOf, goes-ref, Walks, ends-a
 use Rattle.handing.proofs.Lasts.{past, stay-lasts, fit-lasts, go-lasts, asked}
 use Rattle.meaning.proofs.Counts as T
 use Rattle.meaning.proofs.Counts.Laws as T′
-use Rattle.flat.specs.declared.Told.{Told}
-use Rattle.flat.proofs.Told as O
-use Rattle.flat.proofs.Told.Laws as O′
-use Rattle.meaning.specs.Promise.{bare}
-use Rattle.leaf.specs.Promises.{MarksTo}
-use Rattle.flat.proofs.mark as core
-use Rattle.flat.proofs.mark.Symbol as core-def
-use Rattle.flat.proofs.mark.Symbol.{name as #core}
-use Rattle.flat.proofs.mark.Met as core-thm
+use Rattle.meaning.specs.declared.Reply.{Reply}
+use Rattle.meaning.proofs.Reply as O
+use Rattle.meaning.proofs.Reply.Laws as O′
+use Rattle.flat.proofs.Telling.{tell-none}
+use Rattle.leaf.specs.Promises.{Marks}
+use Rattle.desk.proofs.mark as core
+use Rattle.desk.proofs.mark.Symbol as core-def
+use Rattle.desk.proofs.mark.Symbol.{name as #core}
+use Rattle.desk.proofs.mark.Met as core-thm
 use Rattle.entry.proofs.dates_mark.Key.{name as #f}
 use Rattle.entry.proofs.dates_mark as f
 use Rattle.entry.proofs.dates_mark.Statement as stated
@@ -84,8 +84,8 @@ module _ {M : Type 1} (𝓤 : URA M) (H : Heap 𝓤) (A : Atoms 𝓤) (W : Given
   to-core = ((κs′, qs′, tt, handed, ((LL.vals T.the-type T′.the-laws) (a .0 .now), vals .1)), tt)
 
   -- what the callee promises
-  abbrev Says : Told → Lasts core.ended κs′ handed → Type 0
-  Says r zs = MarksTo (handed .0) (handed .1 .0 .now) (handed .1 .1 .0 .now) (handed .1 .1 .1 .0 .now) (handed .1 .1 .1 .1 .0 .now) (handed .1 .1 .1 .1 .1 .0 .now) (handed .1 .1 .1 .1 .1 .1 .0 .now) (handed .1 .1 .1 .1 .1 .1 .1 .0 .now) (handed .1 .1 .1 .1 .1 .1 .1 .1 .0 .now) (bare (r .number)) (r .counts) (zs .1 .1 .1 .1 .1 .0)
+  abbrev Says : Reply → Lasts core.ended κs′ handed → Type 0
+  Says r zs = Marks (handed .0) (handed .1 .0 .now) (handed .1 .1 .0 .now) (handed .1 .1 .1 .0 .now) (handed .1 .1 .1 .1 .0 .now) (handed .1 .1 .1 .1 .1 .0 .now) (handed .1 .1 .1 .1 .1 .1 .0 .now) (handed .1 .1 .1 .1 .1 .1 .1 .0 .now) (handed .1 .1 .1 .1 .1 .1 .1 .1 .0 .now) r (zs .1 .1 .1 .1 .1 .0)
 
   module _ (C : Calls 𝓤 H) (Λ : Loops 𝓤 H) (fm : FmC 𝓤 H (W .laws) C) (known : Triple 𝓤 (C #core) (Core 𝓤 H A at-mem run)) where
     walk : ent 𝓤 (onEntry 𝓤 H A f.signature κs qs a vals) (WpFn 𝓤 H C Λ code.function (flat (typesAt (f.signature .params) κs) vals) Post)
@@ -104,7 +104,7 @@ module _ {M : Type 1} (𝓤 : URA M) (H : Heap 𝓤) (A : Atoms 𝓤) (W : Given
         -- the call
         move ! (0 ∷ 6 ∷ []) $ fjoin ! $ move ! (5 ∷ 0 ∷ []) $ join ! $ use1 W (raw (Core 𝓤 H A at-mem run .pre to-core)) (asked 𝓤 H A W _) $
         calls-at ! fm (Core 𝓤 H A at-mem run) known to-core (and-then ! (load ! (from ! (stop !)) (look ! 9 refl)) (and-then ! (load ! (from ! (stop !)) (look ! 27 refl)) (and-then ! (load ! (from ! (stop !)) (look ! 25 refl)) (and-then ! (load ! (from ! (stop !)) (look ! 23 refl)) (and-then ! (load ! (from ! (stop !)) (look ! 21 refl)) (and-then ! (load ! (from ! (stop !)) (look ! 5 refl)) (and-then ! (load ! (from ! (stop !)) (look ! 17 refl)) (and-then ! (load ! (from ! (stop !)) (look ! 15 refl)) (and-then ! (load ! (from ! (stop !)) (look ! 13 refl)) (no-more !)))))))))) (λ w.
-        use1 W (later (some (λ (r : Told). (raw (alive 𝓤 H A core.signature κs′ qs′) ⊛ ‵ (O.the-row .own r (w ∷ []))) ⊛ raw (ensured 𝓤 H A core.ended (core.clauses 𝓤 H A at-mem run) κs′ handed tt r)))) (id⊢ 𝓤 _) $ await ! tt $ pick ! (λ r.
+        use1 W (later (some (λ (r : Reply). (raw (alive 𝓤 H A core.signature κs′ qs′) ⊛ ‵ (O.the-row .own r (w ∷ []))) ⊛ raw (ensured 𝓤 H A core.ended (core.clauses 𝓤 H A at-mem run) κs′ handed tt r)))) (id⊢ 𝓤 _) $ await ! tt $ pick ! (λ r.
         split ! $ move ! (1 ∷ []) $ use1 W (some (λ (zs : Lasts core.ended κs′ handed). ‵ (lasts core.ended κs′ handed zs) ⊛ raw (fact 𝓤 (Says r zs)))) (id⊢ 𝓤 _) $ pick ! (λ zs.
         split ! $ move ! (1 ∷ []) $ heard ! (Says r zs) (λ e. move ! (1 ∷ []) $ split ! $ move ! (1 ∷ []) $ peeks ! O.the-row (Is O.the-row) (shows 𝓤 H A O.the-row) r (w ∷ []) (λ is.
         land ! (from ! (stop !)) (init ! 13 refl (LL.lawful O.the-type O′.the-laws 𝓤 H A W .typed r _ is .0)) $ rewrite ! 13 (λ (u : Val). ‵ (fat fullShare O′.mir m10 0 u)) (ap only (LL.tells O.the-type O′.the-laws r _ is)) refl $
@@ -115,7 +115,7 @@ module _ {M : Type 1} (𝓤 : URA M) (H : Heap 𝓤) (A : Atoms 𝓤) (W : Given
         returns ! (look ! 32 refl) $ forget ! 6 refl $ forget ! 8 refl $ forget ! 10 refl $ forget ! 12 refl $ forget ! 14 refl $ forget ! 16 refl $ forget ! 18 refl $ forget ! 20 refl $ forget ! 22 refl $ forget ! 24 refl $ forget ! 26 refl $ forget ! 28 refl $ forget ! 30 refl $ forget ! 32 refl $
         move ! (32 ∷ 33 ∷ []) $ free1 ! $ move ! (30 ∷ 31 ∷ []) $ free1 ! $ move ! (28 ∷ 29 ∷ []) $ free1 ! $ move ! (26 ∷ 27 ∷ []) $ free1 ! $ move ! (24 ∷ 25 ∷ []) $ free1 ! $ move ! (22 ∷ 23 ∷ []) $ free1 ! $ move ! (20 ∷ 21 ∷ []) $ free1 ! $ move ! (18 ∷ 19 ∷ []) $ free1 ! $ move ! (16 ∷ 17 ∷ []) $ free1 ! $ move ! (14 ∷ 15 ∷ []) $ free1 ! $ move ! (12 ∷ 13 ∷ []) $ free1 ! $ move ! (10 ∷ 11 ∷ []) $ free1 ! $ move ! (8 ∷ 9 ∷ []) $ free1 ! $ move ! (6 ∷ 7 ∷ []) $ free1 ! $ free0 ! $
         -- the exit
-        keep ! (4 ∷ 5 ∷ 2 ∷ 0 ∷ 1 ∷ []) $ suffices ! _ (ends-at 𝓤 H A f.ended stayed (f.clauses 𝓤 H A at-mem run) W ((κs, qs, bounds, a, vals), tt) (vint w32 (r .number)) (r .number) (r .counts, zs .1) (tt, (fit-lasts κs (past 1 (f.signature .params)) (f.ended .kept .1) (a .1) (zs .1)))) $ says ! e $
+        keep ! (4 ∷ 5 ∷ 2 ∷ 0 ∷ 1 ∷ []) $ suffices ! _ (ends-at 𝓤 H A f.ended stayed (f.clauses 𝓤 H A at-mem run) W ((κs, qs, bounds, a, vals), tt) (vint w32 (r .number)) (r .number) (r .counts, zs .1) (tt, (fit-lasts κs (past 1 (f.signature .params)) (f.ended .kept .1) (a .1) (zs .1)))) $ says ! (tell-none _ _ _ _ e (λ a b s d. d .no-values) (λ a s never. never) _ refl) $
         move ! (2 ∷ 0 ∷ []) $ join ! $ frame ! $ fsplit ! $ drop ! $ move ! (1 ∷ 2 ∷ []) $ feqI ! (List Val) (ptr-vals (a .0)) (ptr-vals (a .0)) refl $ fjoin3 ! $ fjoin ! $
         owned ! u32 (Is u32) (uint-makes 𝓤 H A W w32) (r .number) _ (LL.owed O.the-type O′.the-laws r _ is .1 .0) $ move ! (1 ∷ 0 ∷ []) $ done !)))))))))))))))))))))
 
@@ -135,4 +135,4 @@ dates-mark-spec 𝓤 H 𝓜 𝓖 𝓡 =
     entered 𝓤 H (tripleOf 𝓤 H (𝓖 .A) f.signature (f.spec 𝓤 H (𝓖 .A) (𝓜 .mem) (𝓡 .run)))
     (tables 𝓤 H 𝓜 𝓡 code.env .C) (tables 𝓤 H 𝓜 𝓡 code.env .Λ) #f code.function (code.unfolded 𝓤 H 𝓜 𝓡)
     (meets 𝓤 H (𝓖 .A) (givenOf 𝓤 H 𝓜 𝓖) (𝓜 .mem) (𝓡 .run) (tablesOf 𝓤 H 𝓜 (tables 𝓤 H 𝓜 𝓡 code.env))
-    (cited 𝓤 H (Core 𝓤 H (𝓖 .A) (𝓜 .mem) (𝓡 .run)) 𝓜 𝓡 code.env #core core-def.routine code.calls-flat·mark (core-thm.met 𝓤 H 𝓜 𝓖 𝓡)))
+    (cited 𝓤 H (Core 𝓤 H (𝓖 .A) (𝓜 .mem) (𝓡 .run)) 𝓜 𝓡 code.env #core core-def.routine code.calls-desk·mark (core-thm.met 𝓤 H 𝓜 𝓖 𝓡)))

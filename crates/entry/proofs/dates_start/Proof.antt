@@ -45,7 +45,7 @@ use Rattle.flat.proofs.Record.Laws as R′
 use Rattle.flat.specs.declared.ScriptTold.{ScriptTold}
 use Rattle.flat.proofs.ScriptTold as O
 use Rattle.flat.proofs.ScriptTold.Laws as O′
-use Rattle.meaning.specs.Promise.{bare, Obeys}
+use Rattle.meaning.specs.Promise.{Obeys, bare}
 use Rattle.flat.specs.Records.{lent-by-c, start-by-c}
 use Rattle.flat.proofs.start as core
 use Rattle.flat.proofs.start.Symbol as core-def

@@ -1,54 +1,73 @@
--- `inside::watch`: the rule's bounds and the count decide the refusals; else the rule is written and one count raised, as the promise says.
-use mathlib.Core.Path.{_≡_, refl}
+-- `inside::watch`: the rule and the count decide the refusals; else the rule is written and one count raised, as the promise says.
+use Prim.Native.Nat.{_<_}
+use mathlib.Core.Path.{refl}
+use mathlib.Core.List.{[], _∷_}
 use mathlib.Core.Logic.{inl, inr}
 use mir.Syntax.{w32}
 use mir.ValLaws.{toZ-ofZ}
-use borrow.Author.Tests.{not-true, not-false}
-use Rattle.meaning.specs.Bounds.{STEP, AMOUNT, FULL}
-use Rattle.inside.proofs.Equal.{tables-equal}
+use Rattle.meaning.specs.Bounds.{WATCHED, FULL}
+use Rattle.meaning.specs.Promise.{needs as needing}
 use Rattle.meaning.proofs.Needs.{obeys-done, obeys-refused}
+use Rattle.leaf.specs.Promises.{rule}
+use Rattle.inside.proofs.Equal.{tables-equal}
+use Rattle.inside.proofs.Verdict.{rule-steps, rule-amount, rule-refused, rule-no-conflict}
 use native.Mathlib.Omega.{arith}
 use borrow.Author.Needs.{needs}
 use Rattle.inside.proofs.watch.Statement.{statement}
 use Rattle.inside.proofs.watch.Tie as tie
 use Rattle.inside.proofs.watch.Reads as reads
 use Rattle.inside.proofs.watch.Lts as lts
-use Rattle.inside.proofs.steps_fit.Reads as steps-fit-reads
+use Rattle.inside.proofs.rule_verdict.Reads as rule-verdict-reads
 use Rattle.inside.proofs.write_rule.Reads as write-rule-reads
-use Rattle.leaf.proofs.amount_fits.Reads as amount-fits-reads
+use Rattle.meaning.proofs.done.Reads as done-reads
+use Rattle.meaning.proofs.refused.Reads as refused-reads
+use Rattle.meaning.proofs.watched_now.Reads as watched-now-reads
 
-cast-steps-fit : tie.Need-cast-steps-fit
-cast-steps-fit c = search needs
+rule-verdict-requires : tie.Need-rule-verdict-requires
+rule-verdict-requires c κs = search needs
 
-steps-fit-requires : tie.Need-steps-fit-requires
-steps-fit-requires c κs = search needs
+refused-requires : tie.Need-refused-requires
+refused-requires c κs = search needs
 
 returns : tie.Need-returns
 returns c =
-    obeys-refused _ _ STEP (λ e. omega arith) (λ e. omega arith)
-    (inr (c .before .before .before .before .before .before .before .before .before .pre .room, inr (c .before .before .before .before .before .before .before .before .before .pre .sound, inl (refl, c .before .steps-fit .ensures (c .before .before .before .before .before .before .before .before .before .args .c) .not-so (not-true _ (c .if1 .taken))))))
-
-amount-fits-requires : tie.Need-amount-fits-requires
-amount-fits-requires c κs = search needs
-
-returns-2 : tie.Need-returns-2
-returns-2 c =
-    obeys-refused _ _ AMOUNT (λ e. omega arith) (λ e. omega arith)
-    (inr (c .before .before .before .before .before .before .before .before .before .before .before .pre .room, inr (c .before .before .before .before .before .before .before .before .before .before .before .pre .sound, inr (c .before .before .before .steps-fit .ensures (c .before .before .before .before .before .before .before .before .before .before .before .args .c) .so (not-false _ (c .before .before .if1 .left)), inl (refl, (rw (toZ-ofZ w32 (c .before .before .before .before .before .before .before .before .before .before .before .args .c) (c .before .before .before .before .before .before .before .before .before .before .before .fits .c)) at (c .before .amount-fits .ensures)) .not-so (not-true _ (c .if2 .taken)))))))
+    let n = c .before .before .before .before .before .before .before .before .before .args .counts .steps in
+    let r = rule (c .before .before .before .before .before .before .before .before .before .args .x) (c .before .before .before .before .before .before .before .before .before .args .y) (c .before .before .before .before .before .before .before .before .before .args .c) in
+    let g = c .before .before .rule-verdict .result in
+    let f = rw (toZ-ofZ w32 (c .before .before .before .before .before .before .before .before .before .args .c) (c .before .before .before .before .before .before .before .before .before .fits .c)) at (c .before .before .rule-verdict .ensures) in
+    rw (c .refused .ensures) (obeys-refused _ _ g (λ e. omega arith) (rule-no-conflict n r g f) (inr (c .before .before .before .before .before .before .before .before .before .pre .room, inr (c .before .before .before .before .before .before .before .before .before .pre .sound, rule-refused n r g f (needing FULL (c .before .before .before .before .before .before .before .before .before .args .counts .watched < WATCHED) ∷ []) (omega arith)))))
 
 cast-at : tie.Need-cast-at
 cast-at c = search needs
 
-returns-3 : tie.Need-returns-3
-returns-3 c =
-    obeys-refused _ _ FULL (λ e. omega arith) (λ e. omega arith)
-    (inr (c .before .before .before .before .before .before .before .before .before .before .before .before .before .pre .room, inr (c .before .before .before .before .before .before .before .before .before .before .before .before .before .pre .sound, inr (c .before .before .before .before .before .steps-fit .ensures (c .before .before .before .before .before .before .before .before .before .before .before .before .before .args .c) .so (not-false _ (c .before .before .before .before .if1 .left)), inr ((rw (toZ-ofZ w32 (c .before .before .before .before .before .before .before .before .before .before .before .before .before .args .c) (c .before .before .before .before .before .before .before .before .before .before .before .before .before .fits .c)) at (c .before .before .before .amount-fits .ensures)) .so (not-false _ (c .before .before .if2 .left)), inl (refl, λ h. omega arith))))))
+refused-requires-2 : tie.Need-refused-requires-2
+refused-requires-2 c κs = search needs
+
+returns-2 : tie.Need-returns-2
+returns-2 c =
+    let n = c .before .before .before .before .before .before .before .before .before .before .before .args .counts .steps in
+    let r = rule (c .before .before .before .before .before .before .before .before .before .before .before .args .x) (c .before .before .before .before .before .before .before .before .before .before .before .args .y) (c .before .before .before .before .before .before .before .before .before .before .before .args .c) in
+    let g = c .before .before .before .before .rule-verdict .result in
+    let f = rw (toZ-ofZ w32 (c .before .before .before .before .before .before .before .before .before .before .before .args .c) (c .before .before .before .before .before .before .before .before .before .before .before .fits .c)) at (c .before .before .before .before .rule-verdict .ensures) in
+    rw (c .refused2 .ensures) (obeys-refused _ _ FULL (λ e. omega arith) (λ e. omega arith) (inr (c .before .before .before .before .before .before .before .before .before .before .before .pre .room, inr (c .before .before .before .before .before .before .before .before .before .before .before .pre .sound, inr (rule-steps n r g f (omega arith), inr (rule-amount n r g f (omega arith), inl (refl, λ h. omega arith)))))))
+
+cast-write-rule : tie.Need-cast-write-rule
+cast-write-rule c = omega (arith, rule-steps _ _ _ (c .before .before .before .before .before .before .rule-verdict .ensures) (omega arith) .first-in, c .before .before .before .before .before .before .before .before .before .before .before .before .before .pre .sound .counts-in .steps-in)
+
+cast-write-rule-2 : tie.Need-cast-write-rule-2
+cast-write-rule-2 c = omega (arith, rule-steps _ _ _ (c .before .before .before .before .before .before .rule-verdict .ensures) (omega arith) .second-in, c .before .before .before .before .before .before .before .before .before .before .before .before .before .pre .sound .counts-in .steps-in)
 
 write-rule-requires : tie.Need-write-rule-requires
 write-rule-requires c κs = search needs
 
-add-t27 : tie.Need-add-t27
-add-t27 c = search needs
+add-watched-now : tie.Need-add-watched-now
+add-watched-now c = search needs
+
+watched-now-requires : tie.Need-watched-now-requires
+watched-now-requires c κs = search needs
+
+done-requires : tie.Need-done-requires
+done-requires c κs = search needs
 
 same-length : tie.Need-same-length
 same-length c = search needs
@@ -59,26 +78,32 @@ same-length-2 c = search needs
 same-length-3 : tie.Need-same-length-3
 same-length-3 c = search needs
 
-returns-4 : tie.Need-returns-4
-returns-4 c =
-    obeys-done _ _ 0 0 _
-    (c .before .before .before .before .before .before .before .before .before .before .before .before .before .before .before .before .before .before .before .before .before .before .before .pre .room, (c .before .before .before .before .before .before .before .before .before .before .before .before .before .before .before .before .before .before .before .before .before .before .before .pre .sound, (c .before .before .before .before .before .before .before .before .before .before .before .before .before .before .before .steps-fit .ensures (c .before .before .before .before .before .before .before .before .before .before .before .before .before .before .before .before .before .before .before .before .before .before .before .args .c) .so (not-false _ (c .before .before .before .before .before .before .before .before .before .before .before .before .before .before .if1 .left)), ((rw (toZ-ofZ w32 (c .before .before .before .before .before .before .before .before .before .before .before .before .before .before .before .before .before .before .before .before .before .before .before .args .c) (c .before .before .before .before .before .before .before .before .before .before .before .before .before .before .before .before .before .before .before .before .before .before .before .fits .c)) at (c .before .before .before .before .before .before .before .before .before .before .before .before .before .amount-fits .ensures)) .so (not-false _ (c .before .before .before .before .before .before .before .before .before .before .before .before .if2 .left)), (omega arith, tt)))))
-    (record { no-values = (refl, refl); watched = tables-equal _ _ refl refl refl refl (rw (toZ-ofZ w32 (c .before .before .before .before .before .before .before .before .before .before .before .before .before .before .before .before .before .before .before .before .before .before .before .args .c) (c .before .before .before .before .before .before .before .before .before .before .before .before .before .before .before .before .before .before .before .before .before .before .before .fits .c)) at (c .before .before .before .before .before .before .write-rule .ensures)) })
+returns-3 : tie.Need-returns-3
+returns-3 c =
+    let n = c .before .before .before .before .before .before .before .before .before .before .before .before .before .before .before .before .before .before .before .before .before .before .args .counts .steps in
+    let r = rule (c .before .before .before .before .before .before .before .before .before .before .before .before .before .before .before .before .before .before .before .before .before .before .args .x) (c .before .before .before .before .before .before .before .before .before .before .before .before .before .before .before .before .before .before .before .before .before .before .args .y) (c .before .before .before .before .before .before .before .before .before .before .before .before .before .before .before .before .before .before .before .before .before .before .args .c) in
+    let g = c .before .before .before .before .before .before .before .before .before .before .before .before .before .before .before .rule-verdict .result in
+    let f = rw (toZ-ofZ w32 (c .before .before .before .before .before .before .before .before .before .before .before .before .before .before .before .before .before .before .before .before .before .before .args .c) (c .before .before .before .before .before .before .before .before .before .before .before .before .before .before .before .before .before .before .before .before .before .before .fits .c)) at (c .before .before .before .before .before .before .before .before .before .before .before .before .before .before .before .rule-verdict .ensures) in
+    rw (c .done .ensures, c .before .watched-now .ensures) (obeys-done _ _ 0 0 _ (c .before .before .before .before .before .before .before .before .before .before .before .before .before .before .before .before .before .before .before .before .before .before .pre .room, (c .before .before .before .before .before .before .before .before .before .before .before .before .before .before .before .before .before .before .before .before .before .before .pre .sound, (rule-steps n r g f (omega arith), (rule-amount n r g f (omega arith), (omega arith, tt)))))
+    (record { no-values = (refl, refl); watched = tables-equal _ _ refl refl refl refl (rw (toZ-ofZ w32 (c .before .before .before .before .before .before .before .before .before .before .before .before .before .before .before .before .before .before .before .before .before .before .args .c) (c .before .before .before .before .before .before .before .before .before .before .before .before .before .before .before .before .before .before .before .before .before .before .fits .c)) at (c .before .before .before .before .before .before .before .before .write-rule .ensures)) }))
 
 pub watch-spec : {M : Type 1} → statement M
 watch-spec =
     tie.close
     (tie.spec
-    cast-steps-fit
-    steps-fit-requires
+    rule-verdict-requires
+    refused-requires
     returns
-    amount-fits-requires
-    returns-2
     cast-at
-    returns-3
+    refused-requires-2
+    returns-2
+    cast-write-rule
+    cast-write-rule-2
     write-rule-requires
-    add-t27
+    add-watched-now
+    watched-now-requires
+    done-requires
     same-length
     same-length-2
     same-length-3
-    returns-4)
+    returns-3)

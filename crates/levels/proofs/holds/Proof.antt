@@ -23,7 +23,7 @@ mul-result : tie.Need-mul-result
 mul-result c = search needs
 
 shared-slice-read-result : tie.Need-shared-slice-read-result
-shared-slice-read-result c = omega (arith, c .before .before .before .has-row .ensures .so (c .before .before .if1 .taken) .row-room, c .before .row-of .ensures)
+shared-slice-read-result c = omega (arith, c .before .before .before .has-row .ensures .so (c .before .before .if1 .taken), c .before .row-of .ensures)
 
 add-result-2 : tie.Need-add-result-2
 add-result-2 c = search needs

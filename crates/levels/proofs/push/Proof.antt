@@ -12,13 +12,13 @@ use Rattle.levels.proofs.push.Statement.{statement}
 use Rattle.levels.proofs.push.Tie as tie
 
 abbrev Inv-loop : tie.InvT-loop
-Inv-loop counts days marks₀ kept₀ base n first steps k₀ k-end marks kept k =
+Inv-loop counts days marks₀ kept₀ n first steps k₀ k-end marks kept k =
     (counts .marks ≤ k) × (k ≤ counts .marks + n) × (length marks ≡ length marks₀)
     × (marked (counts .marks + n - k) (counts .rules) k marks ≡ marked n (counts .rules) (counts .marks) marks₀)
-    × KeptFrom (counts .steps) base (counts .marks) k days kept₀ kept
+    × KeptFrom (counts .steps) (counts .marks) k days kept₀ kept
 
 abbrev μ-loop : tie.MeasureT-loop
-μ-loop counts days marks₀ kept₀ base n first steps k₀ k-end marks kept k = counts .marks + n - k
+μ-loop counts days marks₀ kept₀ n first steps k₀ k-end marks kept k = counts .marks + n - k
 
 cast-first : tie.Need-cast-first Inv-loop μ-loop
 cast-first c = search needs
@@ -32,7 +32,7 @@ add-k-end c = search needs
 loop-holds : tie.Need-loop-holds Inv-loop μ-loop
 loop-holds c =
     let start = c .before .before .before .before .before in
-    (omega arith, omega arith, refl, marked-start (start .args .n) (start .args .counts .rules) (start .args .counts .marks) (start .args .marks .now), kept-none (start .args .counts .steps) (start .args .base) (start .args .counts .marks) (start .args .days .now) (start .args .kept .now))
+    (omega arith, omega arith, refl, marked-start (start .args .n) (start .args .counts .rules) (start .args .counts .marks) (start .args .marks .now), kept-none (start .args .counts .steps) (start .args .counts .marks) (start .args .days .now) (start .args .kept .now))
 
 mul-marks : tie.Need-mul-marks Inv-loop μ-loop
 mul-marks c = search needs
@@ -46,7 +46,7 @@ has-row-requires c κs = search needs
 keep-days-requires : tie.Need-keep-days-requires Inv-loop μ-loop
 keep-days-requires c κs =
     let start = c .before .before .before .before .before .before .before .before .before .before in
-    (start .pre .0, (start .pre .1 .0, (omega (arith, start .pre .1 .1 .1, c .before .before .before .loop-test .taken), c .before .before .has-row .ensures .so (c .before .if1 .taken) .row-room)))
+    (start .pre .0, (start .pre .1 .0, (omega (arith, start .pre .1 .1 .1, c .before .before .before .loop-test .taken), c .before .before .has-row .ensures .so (c .before .if1 .taken))))
 
 add-k : tie.Need-add-k Inv-loop μ-loop
 add-k c = search needs
@@ -66,11 +66,11 @@ loop-again c =
       ⊎-elim (λ w. rw (w .5) (kept-more (turn .inv .4) (turn .inv .0) (start .pre .0) (w .2 .ensures))) (λ w. rw (w .1) (kept-skip (turn .inv .4) (c .before .has-row .ensures .not-so (w .0 .left)))) (c .if1 .came),
     )
 
-add-t18 : tie.Need-add-t18 Inv-loop μ-loop
-add-t18 c = search needs
+add-t17 : tie.Need-add-t17 Inv-loop μ-loop
+add-t17 c = search needs
 
-cast-t19 : tie.Need-cast-t19 Inv-loop μ-loop
-cast-t19 c = search needs
+cast-t18 : tie.Need-cast-t18 Inv-loop μ-loop
+cast-t18 c = search needs
 
 same-length : tie.Need-same-length Inv-loop μ-loop
 same-length c = c .before .loop .inv .2
@@ -102,8 +102,8 @@ push-spec =
     add-k
     loop-less
     loop-again
-    add-t18
-    cast-t19
+    add-t17
+    cast-t18
     same-length
     same-length-2
     returns)

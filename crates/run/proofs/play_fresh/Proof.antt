@@ -1,8 +1,10 @@
 -- `run::play_fresh` meets its contract: what it lends is fresh.
-use mathlib.Core.Path.{refl}
+use mathlib.Core.Path.{refl, subst}
 use borrow.Author.Needs.{needs}
 use Rattle.text.specs.Table.{TABLE}
-use Rattle.run.proofs.Fresh.{fresh-tables}
+use Rattle.script.specs.Record.{Lent}
+use Rattle.script.specs.Whole.{Plays}
+use Rattle.run.proofs.Fresh.{fresh-tables, first-is}
 use Rattle.run.proofs.play_fresh.Statement.{statement}
 use Rattle.run.proofs.play_fresh.Tie as tie
 
@@ -45,24 +47,22 @@ slice-aggregate-advance-12 c = search needs
 slice-aggregate-advance-13 : tie.Need-slice-aggregate-advance-13
 slice-aggregate-advance-13 c = search needs
 
-slice-aggregate-advance-14 : tie.Need-slice-aggregate-advance-14
-slice-aggregate-advance-14 c = search needs
-
-slice-aggregate-advance-15 : tie.Need-slice-aggregate-advance-15
-slice-aggregate-advance-15 c = search needs
-
-slice-aggregate-advance-16 : tie.Need-slice-aggregate-advance-16
-slice-aggregate-advance-16 c = search needs
-
 advance-requires : tie.Need-advance-requires
 unfolding TABLE
-advance-requires c κs = (refl, fresh-tables (c .before .before .before .before .before .before .before .before .before .before .before .before .before .before .before .before .before .before .before .before .args .out .now))
+advance-requires c κs =
+    let start = c .before .before .before .before .before .before .before .before .before .before .before .before .before .before .before .before .before in
+    (refl, fresh-tables (start .args .out .now))
 
 same-length : tie.Need-same-length
-same-length c = c .before .before .before .before .before .before .before .before .before .before .before .before .before .before .before .advance .kept .1 .1 .1 .1 .1 .1 .1 .1 .1 .1 .1 .1 .1 .1 .1 .1 .1 .1 .1 .1 .1 .0
+same-length c =
+    let advance = c .before .before .before .before .before .before .before .before .before .before .before .before .before .before .before .advance in
+    advance .kept .1 .1 .1 .1 .1 .1 .1 .1 .1 .1 .1 .1 .1 .1 .1 .1 .1 .1 .0
 
 returns : tie.Need-returns
-returns c = c .before .before .before .before .before .before .before .before .before .before .before .before .before .before .before .advance .ensures .0 .plays
+returns c =
+    let start = c .before .before .before .before .before .before .before .before .before .before .before .before .before .before .before .before .before .before .before .before .before .before .before .before .before .before .before .before .before .before .before .before .before in
+    let advance = c .before .before .before .before .before .before .before .before .before .before .before .before .before .before .before .advance in
+    subst (λ (l : Lent). Plays (start .args .s .now) 0 l 0 (advance .result .number) (advance .result .written) (advance .last .1 .1 .1 .1 .1 .1 .1 .1 .1 .1 .1 .1 .1 .1 .1 .1 .1 .1 .0)) (first-is (start .args .out .now)) (advance .ensures .0 .plays)
 
 pub play-fresh-spec : {M : Type 1} → statement M
 play-fresh-spec =
@@ -81,9 +81,6 @@ play-fresh-spec =
     slice-aggregate-advance-11
     slice-aggregate-advance-12
     slice-aggregate-advance-13
-    slice-aggregate-advance-14
-    slice-aggregate-advance-15
-    slice-aggregate-advance-16
     advance-requires
     same-length
     returns)

@@ -7,6 +7,12 @@ use native.Mathlib.Omega.{arith}
 use borrow.Author.Needs.{needs}
 use Rattle.split.proofs.consequences.Statement.{statement}
 use Rattle.split.proofs.consequences.Tie as tie
+use Rattle.split.proofs.consequences.Reads as reads
+use Rattle.split.proofs.consequences.Lts as lts
+use Rattle.chains.proofs.build.Reads as build-reads
+use Rattle.meaning.proofs.done.Reads as done-reads
+use Rattle.split.proofs.judge_all.Reads as judge-all-reads
+use Rattle.split.proofs.pick.Reads as pick-reads
 
 cast-n : tie.Need-cast-n
 cast-n c = search needs
@@ -25,9 +31,8 @@ slice-aggregate-build-2 c = search needs
 
 build-requires : tie.Need-build-requires
 build-requires c κs =
-    let start = c .before .before .before .before .before .before .before .before .before .before .before .before .before .before .before in
-    let a = start .args in
-    let border = start .pre .0 in
+    let a = c .before .before .before .before .before .before .before .before .before .before .before .before .before .before .before .args in
+    let border = c .before .before .before .before .before .before .before .before .before .before .before .before .before .before .before .pre .0 in
     buildable (a .counts) (a .xs .now) (a .ys .now) (a .cs .now) (a .days .now) (a .marks .now) (a .wxs .now) (a .wys .now) (a .wcs .now) border (a .wxs .now) _ _ (border .room .watched-room .firsts-room) (λ j j-in. border .sound .watched-good j j-in .steps-in .first-in) (omega arith) (omega arith)
 
 slice-aggregate-build-3 : tie.Need-slice-aggregate-build-3
@@ -38,9 +43,8 @@ slice-aggregate-build-4 c = search needs
 
 build-requires-2 : tie.Need-build-requires-2
 build-requires-2 c κs =
-    let start = c .before .before .before .before .before .before .before .before .before .before .before .before .before .before .before .before .before .before .before .before in
-    let a = start .args in
-    let border = start .pre .0 in
+    let a = c .before .before .before .before .before .before .before .before .before .before .before .before .before .before .before .before .before .before .before .before .args in
+    let border = c .before .before .before .before .before .before .before .before .before .before .before .before .before .before .before .before .before .before .before .before .pre .0 in
     buildable (a .counts) (a .xs .now) (a .ys .now) (a .cs .now) (a .days .now) (a .marks .now) (a .wxs .now) (a .wys .now) (a .wcs .now) border (a .wys .now) _ _ (border .room .watched-room .seconds-room) (λ j j-in. border .sound .watched-good j j-in .steps-in .second-in) (omega arith) (omega arith)
 
 slice-aggregate-judge-all : tie.Need-slice-aggregate-judge-all
@@ -69,18 +73,15 @@ slice-aggregate-judge-all-8 c = search needs
 
 judge-all-requires : tie.Need-judge-all-requires
 judge-all-requires c κs =
-    let start = c .before .before .before .before .before .before .before .before .before .before .before .before .before .before .before .before .before .before .before .before .before .before .before .before .before .before .before .before .before .before .before in
-    let build = c .before .before .before .before .before .before .before .before .before .before .before .before .before .before .before .build in
-    let build2 = c .before .before .before .before .before .before .before .before .before .before .build2 in
-    let a = start .args in
-    let border = start .pre .0 in (
-      ground (a .counts) (a .xs .now) (a .ys .now) (a .cs .now) (a .days .now) (a .marks .now) (a .wxs .now) (a .wys .now) (a .wcs .now) border (a .heads .now) (a .nexts .now) (start .pre .1 .1 .1 .0) (start .pre .1 .1 .1 .1 .0) (start .pre .1 .1 .1 .1 .1),
+    let a = c .before .before .before .before .before .before .before .before .before .before .before .before .before .before .before .before .before .before .before .before .before .before .before .before .before .before .before .before .before .before .before .args in
+    let border = c .before .before .before .before .before .before .before .before .before .before .before .before .before .before .before .before .before .before .before .before .before .before .before .before .before .before .before .before .before .before .before .pre .0 in (
+      ground (a .counts) (a .xs .now) (a .ys .now) (a .cs .now) (a .days .now) (a .marks .now) (a .wxs .now) (a .wys .now) (a .wcs .now) border (a .heads .now) (a .nexts .now) (c .before .before .before .before .before .before .before .before .before .before .before .before .before .before .before .before .before .before .before .before .before .before .before .before .before .before .before .before .before .before .before .pre .1 .1 .1 .0) (c .before .before .before .before .before .before .before .before .before .before .before .before .before .before .before .before .before .before .before .before .before .before .before .before .before .before .before .before .before .before .before .pre .1 .1 .1 .1 .0) (c .before .before .before .before .before .before .before .before .before .before .before .before .before .before .before .before .before .before .before .before .before .before .before .before .before .before .before .before .before .before .before .pre .1 .1 .1 .1 .1),
       (
         near (a .counts) (a .xs .now) (a .ys .now) (a .cs .now) (a .days .now) (a .marks .now) (a .wxs .now) (a .wys .now) (a .wcs .now) border,
         (
-          watching (a .counts) (a .xs .now) (a .ys .now) (a .cs .now) (a .days .now) (a .marks .now) (a .wxs .now) (a .wys .now) (a .wcs .now) border (build .last .1 .1 .1 .0) (build .last .1 .1 .1 .1 .0) (build2 .last .1 .1 .1 .0) (build2 .last .1 .1 .1 .1 .0)
-              (chains-by (a .counts) (a .xs .now) (a .ys .now) (a .cs .now) (a .days .now) (a .marks .now) (a .wxs .now) (a .wys .now) (a .wcs .now) border (a .wxs .now) (build .last .1 .1 .1 .0) (build .last .1 .1 .1 .1 .0) (build .ensures) (omega (arith, build .kept .1 .1 .1 .0)) (omega (arith, build .kept .1 .1 .1 .1 .0)))
-              (chains-by (a .counts) (a .xs .now) (a .ys .now) (a .cs .now) (a .days .now) (a .marks .now) (a .wxs .now) (a .wys .now) (a .wcs .now) border (a .wys .now) (build2 .last .1 .1 .1 .0) (build2 .last .1 .1 .1 .1 .0) (build2 .ensures) (omega (arith, build2 .kept .1 .1 .1 .0)) (omega (arith, build2 .kept .1 .1 .1 .1 .0))),
+          watching (a .counts) (a .xs .now) (a .ys .now) (a .cs .now) (a .days .now) (a .marks .now) (a .wxs .now) (a .wys .now) (a .wcs .now) border (c .before .before .before .before .before .before .before .before .before .before .before .before .before .before .before .build .last .1 .1 .1 .0) (c .before .before .before .before .before .before .before .before .before .before .before .before .before .before .before .build .last .1 .1 .1 .1 .0) (c .before .before .before .before .before .before .before .before .before .before .build2 .last .1 .1 .1 .0) (c .before .before .before .before .before .before .before .before .before .before .build2 .last .1 .1 .1 .1 .0)
+              (chains-by (a .counts) (a .xs .now) (a .ys .now) (a .cs .now) (a .days .now) (a .marks .now) (a .wxs .now) (a .wys .now) (a .wcs .now) border (a .wxs .now) (c .before .before .before .before .before .before .before .before .before .before .before .before .before .before .before .build .last .1 .1 .1 .0) (c .before .before .before .before .before .before .before .before .before .before .before .before .before .before .before .build .last .1 .1 .1 .1 .0) (c .before .before .before .before .before .before .before .before .before .before .before .before .before .before .before .build .ensures) (omega (arith, c .before .before .before .before .before .before .before .before .before .before .before .before .before .before .before .build .kept .1 .1 .1 .0)) (omega (arith, c .before .before .before .before .before .before .before .before .before .before .before .before .before .before .before .build .kept .1 .1 .1 .1 .0)))
+              (chains-by (a .counts) (a .xs .now) (a .ys .now) (a .cs .now) (a .days .now) (a .marks .now) (a .wxs .now) (a .wys .now) (a .wcs .now) border (a .wys .now) (c .before .before .before .before .before .before .before .before .before .before .build2 .last .1 .1 .1 .0) (c .before .before .before .before .before .before .before .before .before .before .build2 .last .1 .1 .1 .1 .0) (c .before .before .before .before .before .before .before .before .before .before .build2 .ensures) (omega (arith, c .before .before .before .before .before .before .before .before .before .before .build2 .kept .1 .1 .1 .0)) (omega (arith, c .before .before .before .before .before .before .before .before .before .before .build2 .kept .1 .1 .1 .1 .0))),
           record {
             gains-room = omega (arith, border .sound .counts-in .steps-in);
             by-room = omega (arith, border .sound .counts-in .steps-in);
@@ -96,54 +97,47 @@ slice-aggregate-pick c = search needs
 
 pick-requires : tie.Need-pick-requires
 pick-requires c κs =
-    let start = c .before .before .before .before .before .before .before .before .before .before .before .before .before .before .before .before .before .before .before .before .before .before .before .before .before .before .before .before .before .before .before .before .before .before .before .before .before .before in
-    let judge-all = c .before .before .before .before .before .before .judge-all in
-    let watched-in = start .pre .0 .sound .counts-in .watched-in in
-    (watched-in, (omega (arith, watched-in, judge-all .kept .1 .1 .1 .1 .1 .1 .1 .1 .1 .1 .1 .1 .1 .1 .1 .1 .1 .1 .0), start .pre .1 .0))
+    let watched-in = c .before .before .before .before .before .before .before .before .before .before .before .before .before .before .before .before .before .before .before .before .before .before .before .before .before .before .before .before .before .before .before .before .before .before .before .before .before .before .pre .0 .sound .counts-in .watched-in in
+    (watched-in, (omega (arith, watched-in, c .before .before .before .before .before .before .judge-all .kept .1 .1 .1 .1 .1 .1 .1 .1 .1 .1 .1 .1 .1 .1 .1 .1 .1 .1 .0), c .before .before .before .before .before .before .before .before .before .before .before .before .before .before .before .before .before .before .before .before .before .before .before .before .before .before .before .before .before .before .before .before .before .before .before .before .before .before .pre .1 .0))
 
 slice-aggregate-pick-2 : tie.Need-slice-aggregate-pick-2
 slice-aggregate-pick-2 c = search needs
 
 pick-requires-2 : tie.Need-pick-requires-2
 pick-requires-2 c κs =
-    let start = c .before .before .before .before .before .before .before .before .before .before .before .before .before .before .before .before .before .before .before .before .before .before .before .before .before .before .before .before .before .before .before .before .before .before .before .before .before .before .before .before .before .before .before in
-    let judge-all = c .before .before .before .before .before .before .before .before .before .before .before .judge-all in
-    let watched-in = start .pre .0 .sound .counts-in .watched-in in
-    (watched-in, (omega (arith, watched-in, judge-all .kept .1 .1 .1 .1 .1 .1 .1 .1 .1 .1 .1 .1 .1 .1 .1 .1 .1 .1 .1 .0), start .pre .1 .1 .0))
+    let watched-in = c .before .before .before .before .before .before .before .before .before .before .before .before .before .before .before .before .before .before .before .before .before .before .before .before .before .before .before .before .before .before .before .before .before .before .before .before .before .before .before .before .before .before .before .pre .0 .sound .counts-in .watched-in in
+    (watched-in, (omega (arith, watched-in, c .before .before .before .before .before .before .before .before .before .before .before .judge-all .kept .1 .1 .1 .1 .1 .1 .1 .1 .1 .1 .1 .1 .1 .1 .1 .1 .1 .1 .1 .0), c .before .before .before .before .before .before .before .before .before .before .before .before .before .before .before .before .before .before .before .before .before .before .before .before .before .before .before .before .before .before .before .before .before .before .before .before .before .before .before .before .before .before .before .pre .1 .1 .0))
 
-cast-t60 : tie.Need-cast-t60
-cast-t60 c =
-    let pick = c .before .before .before .before .before .before .before .pick in
-    let start = c .before .before .before .before .before .before .before .before .before .before .before .before .before .before .before .before .before .before .before .before .before .before .before .before .before .before .before .before .before .before .before .before .before .before .before .before .before .before .before .before .before .before .before .before .before .before in
-    omega (arith, pick .ensures .at-most, start .pre .0 .sound .counts-in .watched-in)
+cast-done : tie.Need-cast-done
+cast-done c =
+    omega (arith, c .before .before .before .before .before .before .before .pick .ensures .at-most, c .before .before .before .before .before .before .before .before .before .before .before .before .before .before .before .before .before .before .before .before .before .before .before .before .before .before .before .before .before .before .before .before .before .before .before .before .before .before .before .before .before .before .before .before .before .before .pre .0 .sound .counts-in .watched-in)
 
-cast-t61 : tie.Need-cast-t61
-cast-t61 c =
-    let start = c .before .before .before .before .before .before .before .before .before .before .before .before .before .before .before .before .before .before .before .before .before .before .before .before .before .before .before .before .before .before .before .before .before .before .before .before .before .before .before .before .before .before .before .before .before .before in
-    omega (arith, c .before .before .pick2 .ensures .at-most, start .pre .0 .sound .counts-in .watched-in)
+cast-done-2 : tie.Need-cast-done-2
+cast-done-2 c =
+    omega (arith, c .before .before .pick2 .ensures .at-most, c .before .before .before .before .before .before .before .before .before .before .before .before .before .before .before .before .before .before .before .before .before .before .before .before .before .before .before .before .before .before .before .before .before .before .before .before .before .before .before .before .before .before .before .before .before .before .pre .0 .sound .counts-in .watched-in)
+
+done-requires : tie.Need-done-requires
+done-requires c κs = search needs
 
 same-length : tie.Need-same-length
 same-length c =
-    let pick = c .before .before .before .before .before .before .before .pick in
-    pick .kept .1 .1 .0
+    c .before .before .before .before .before .before .before .before .pick .kept .1 .1 .0
 
 same-length-2 : tie.Need-same-length-2
-same-length-2 c = c .before .before .pick2 .kept .1 .1 .0
+same-length-2 c = c .before .before .before .pick2 .kept .1 .1 .0
 
 returns : tie.Need-returns
 returns c =
-    let start = c .before .before .before .before .before .before .before .before .before .before .before .before .before .before .before .before .before .before .before .before .before .before .before .before .before .before .before .before .before .before .before .before .before .before .before .before .before .before .before .before .before .before .before .before .before .before in
-    let pick = c .before .before .before .before .before .before .before .pick in
-    let judge-all = c .before .before .before .before .before .before .before .before .before .before .before .before .before .before .judge-all in
-    let a = start .args in
-    let border = start .pre .0 in
-    obeys-done _ _ (pick .result) (c .before .before .pick2 .result) _
-    ((border .room, start .pre .1 .0, start .pre .1 .1 .0), (border .sound, tt))
+    let a = c .before .before .before .before .before .before .before .before .before .before .before .before .before .before .before .before .before .before .before .before .before .before .before .before .before .before .before .before .before .before .before .before .before .before .before .before .before .before .before .before .before .before .before .before .before .before .before .args in
+    let border = c .before .before .before .before .before .before .before .before .before .before .before .before .before .before .before .before .before .before .before .before .before .before .before .before .before .before .before .before .before .before .before .before .before .before .before .before .before .before .before .before .before .before .before .before .before .before .before .pre .0 in
+    rw (c .done .ensures)
+    (obeys-done _ _ (c .before .before .before .before .before .before .before .before .pick .result) (c .before .before .before .pick2 .result) _
+    ((border .room, c .before .before .before .before .before .before .before .before .before .before .before .before .before .before .before .before .before .before .before .before .before .before .before .before .before .before .before .before .before .before .before .before .before .before .before .before .before .before .before .before .before .before .before .before .before .before .before .pre .1 .0, c .before .before .before .before .before .before .before .before .before .before .before .before .before .before .before .before .before .before .before .before .before .before .before .before .before .before .before .before .before .before .before .before .before .before .before .before .before .before .before .before .before .before .before .before .before .before .before .pre .1 .1 .0), (border .sound, tt))
     (record {
       tables-stay = refl;
-      in-all = picked-decided _ (a .counts .watched) (judge-all .last .1 .1 .1 .1 .1 .1 .1 .1 .1 .1 .1 .1 .1 .1 .1 .1 .1 .1 .0) (a .one .now) (pick .last .1 .1 .0) (pick .result) (judge-all .ensures .in-all) (pick .ensures);
-      in-none = picked-decided _ (a .counts .watched) (judge-all .last .1 .1 .1 .1 .1 .1 .1 .1 .1 .1 .1 .1 .1 .1 .1 .1 .1 .1 .1 .0) (a .two .now) (c .before .before .pick2 .last .1 .1 .0) (c .before .before .pick2 .result) (judge-all .ensures .in-none) (c .before .before .pick2 .ensures);
-    })
+      in-all = picked-decided _ (a .counts .watched) (c .before .before .before .before .before .before .before .before .before .before .before .before .before .before .before .judge-all .last .1 .1 .1 .1 .1 .1 .1 .1 .1 .1 .1 .1 .1 .1 .1 .1 .1 .1 .0) (a .one .now) (c .before .before .before .before .before .before .before .before .pick .last .1 .1 .0) (c .before .before .before .before .before .before .before .before .pick .result) (c .before .before .before .before .before .before .before .before .before .before .before .before .before .before .before .judge-all .ensures .in-all) (c .before .before .before .before .before .before .before .before .pick .ensures);
+      in-none = picked-decided _ (a .counts .watched) (c .before .before .before .before .before .before .before .before .before .before .before .before .before .before .before .judge-all .last .1 .1 .1 .1 .1 .1 .1 .1 .1 .1 .1 .1 .1 .1 .1 .1 .1 .1 .1 .0) (a .two .now) (c .before .before .before .pick2 .last .1 .1 .0) (c .before .before .before .pick2 .result) (c .before .before .before .before .before .before .before .before .before .before .before .before .before .before .before .judge-all .ensures .in-none) (c .before .before .before .pick2 .ensures);
+    }))
 
 pub consequences-spec : {M : Type 1} → statement M
 consequences-spec =
@@ -171,8 +165,9 @@ consequences-spec =
     pick-requires
     slice-aggregate-pick-2
     pick-requires-2
-    cast-t60
-    cast-t61
+    cast-done
+    cast-done-2
+    done-requires
     same-length
     same-length-2
     returns)

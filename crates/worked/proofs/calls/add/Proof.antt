@@ -1,4 +1,5 @@
 -- `worked::calls::add` is safe: an array that is lent has its places.
+use borrow.Author.Needs.{needs}
 use Rattle.worked.proofs.Long.{long}
 use Rattle.worked.proofs.calls.add.Statement.{statement}
 use Rattle.worked.proofs.calls.add.Tie as tie
@@ -33,6 +34,12 @@ slice-aggregate-lend-numbers-2 c = long (c .before .before .before .before .befo
 lend-numbers-requires-2 : tie.Need-lend-numbers-requires-2
 lend-numbers-requires-2 c κs = tt
 
+cast-add : tie.Need-cast-add
+cast-add c = search needs
+
+cast-add-2 : tie.Need-cast-add-2
+cast-add-2 c = search needs
+
 add-requires : tie.Need-add-requires
 add-requires c κs = tt
 
@@ -56,6 +63,8 @@ add-spec =
     lend-numbers-requires
     slice-aggregate-lend-numbers-2
     lend-numbers-requires-2
+    cast-add
+    cast-add-2
     add-requires
     after-requires
     returns)

@@ -1,4 +1,5 @@
 -- `worked::calls::ring_check` is safe: an array that is lent has its places.
+use borrow.Author.Needs.{needs}
 use Rattle.worked.proofs.Long.{long-ask}
 use Rattle.worked.proofs.calls.ring_check.Statement.{statement}
 use Rattle.worked.proofs.calls.ring_check.Tie as tie
@@ -8,6 +9,12 @@ slice-aggregate-ring-of c = long-ask (c .before .before .before .before .before 
 
 ring-of-requires : tie.Need-ring-of-requires
 ring-of-requires c κs = tt
+
+cast-ring-check : tie.Need-cast-ring-check
+cast-ring-check c = search needs
+
+cast-ring-check-2 : tie.Need-cast-ring-check-2
+cast-ring-check-2 c = search needs
 
 ring-check-requires : tie.Need-ring-check-requires
 ring-check-requires c κs = tt
@@ -21,4 +28,4 @@ returns c = tt
 pub ring-check-spec : {M : Type 1} → statement M
 ring-check-spec =
     tie.close
-    (tie.spec slice-aggregate-ring-of ring-of-requires ring-check-requires after-requires returns)
+    (tie.spec slice-aggregate-ring-of ring-of-requires cast-ring-check cast-ring-check-2 ring-check-requires after-requires returns)

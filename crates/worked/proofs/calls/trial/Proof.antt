@@ -1,4 +1,5 @@
 -- `worked::calls::trial` is safe: an array that is lent has its places.
+use borrow.Author.Needs.{needs}
 use Rattle.worked.proofs.Long.{long}
 use Rattle.worked.proofs.calls.trial.Statement.{statement}
 use Rattle.worked.proofs.calls.trial.Tie as tie
@@ -14,6 +15,12 @@ slice-aggregate-lend-numbers-2 c = long (c .before .before .before .before .befo
 
 lend-numbers-requires-2 : tie.Need-lend-numbers-requires-2
 lend-numbers-requires-2 c κs = tt
+
+cast-trial : tie.Need-cast-trial
+cast-trial c = search needs
+
+cast-trial-2 : tie.Need-cast-trial-2
+cast-trial-2 c = search needs
 
 trial-requires : tie.Need-trial-requires
 trial-requires c κs = tt
@@ -32,6 +39,8 @@ trial-spec =
     lend-numbers-requires
     slice-aggregate-lend-numbers-2
     lend-numbers-requires-2
+    cast-trial
+    cast-trial-2
     trial-requires
     after-requires
     returns)

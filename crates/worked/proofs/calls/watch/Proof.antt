@@ -1,4 +1,5 @@
 -- `worked::calls::watch` is safe: an array that is lent has its places.
+use borrow.Author.Needs.{needs}
 use Rattle.worked.proofs.Long.{long}
 use Rattle.worked.proofs.calls.watch.Statement.{statement}
 use Rattle.worked.proofs.calls.watch.Tie as tie
@@ -21,6 +22,12 @@ slice-aggregate-lend-amounts c = long (c .before .before .before .before .before
 lend-amounts-requires : tie.Need-lend-amounts-requires
 lend-amounts-requires c κs = tt
 
+cast-watch : tie.Need-cast-watch
+cast-watch c = search needs
+
+cast-watch-2 : tie.Need-cast-watch-2
+cast-watch-2 c = search needs
+
 watch-requires : tie.Need-watch-requires
 watch-requires c κs = tt
 
@@ -40,6 +47,8 @@ watch-spec =
     lend-steps-requires-2
     slice-aggregate-lend-amounts
     lend-amounts-requires
+    cast-watch
+    cast-watch-2
     watch-requires
     after-requires
     returns)

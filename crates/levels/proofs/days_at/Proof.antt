@@ -1,0 +1,53 @@
+-- `levels::days_at` meets its contract: where the days are kept the copy is the earliest plan, and else the rules that stay are planned.
+use Rattle.levels.proofs.Popping.{kept-places, plan-kept}
+use native.Mathlib.Omega.{arith}
+use borrow.Author.Needs.{needs}
+use Rattle.levels.proofs.days_at.Statement.{statement}
+use Rattle.levels.proofs.days_at.Tie as tie
+use Rattle.levels.proofs.days_at.Reads as reads
+use Rattle.levels.proofs.days_at.Lts as lts
+use Rattle.goback.proofs.keep_first.Reads as keep-first-reads
+use Rattle.levels.proofs.copy_days.Reads as copy-days-reads
+use Rattle.levels.proofs.holds.Reads as holds-reads
+use Rattle.levels.proofs.row_of.Reads as row-of-reads
+
+holds-requires : tie.Need-holds-requires
+holds-requires c κs = search needs
+
+row-of-requires : tie.Need-row-of-requires
+row-of-requires c κs = search needs
+
+copy-days-requires : tie.Need-copy-days-requires
+copy-days-requires c κs =
+    let start = c .before .before .before .before .before .before .before .before in
+    (kept-places (start .pre .0) (c .before .before .before .holds .ensures .so (c .before .before .if1 .taken)) (c .before .row-of .ensures), omega (arith, start .pre .0 .plannable .days-room))
+
+same-length : tie.Need-same-length
+same-length c = search needs
+
+returns : tie.Need-returns
+returns c =
+    let start = c .before .before .before .before .before .before .before .before .before .before .before in
+    plan-kept (start .pre .0) (c .before .before .before .before .before .before .holds .ensures .so (c .before .before .before .before .before .if1 .taken)) (c .before .before .before .before .row-of .ensures) (start .pre .1 .1) (c .before .before .copy-days .ensures)
+
+keep-first-requires : tie.Need-keep-first-requires
+keep-first-requires c κs = search needs
+
+same-length-2 : tie.Need-same-length-2
+same-length-2 c = search needs
+
+returns-2 : tie.Need-returns-2
+returns-2 c = search needs
+
+pub days-at-spec : {M : Type 1} → statement M
+days-at-spec =
+    tie.close
+    (tie.spec
+    holds-requires
+    row-of-requires
+    copy-days-requires
+    same-length
+    returns
+    keep-first-requires
+    same-length-2
+    returns-2)

@@ -1,0 +1,2 @@
+-- What is known of the tables after a command.
+pub mod Laws

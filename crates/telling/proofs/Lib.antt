@@ -1,0 +1,2 @@
+-- What follows from what a command tells.
+pub mod Indexing

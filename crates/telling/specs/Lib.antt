@@ -1,0 +1,2 @@
+-- What the contracts of what a command tells cite.
+pub mod Telling
