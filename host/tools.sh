@@ -6,6 +6,10 @@ ENTRY=entry
 PROGRAM=dates
 ARCHIVE=target/staticlib/lib$ENTRY.a
 
+# The stamps that tools/build writes when the program, or the archive, is built.
+PROGRAM_STAMP=target/built
+LIBRARY_STAMP=target/built-library
+
 machine=$(uname -m)
 left_out=''
 
@@ -45,7 +49,10 @@ fresh() { # FILE
 }
 
 # Makes the library's archive ready. Not 0 where it is not proved.
-need_archive() { fresh "$ARCHIVE" || rt staticlib "$ENTRY"; }
+need_archive() { tools/build library; }
+
+# Prints the version, which stands in the header alone.
+version_of_header() { sed -n 's/^#define DATES_VERSION "\(.*\)"$/\1/p' include/dates.h; }
 
 # Makes a peer ready. Not 0 where it cannot be had.
 need_peer() { # z3 or cvc5
@@ -116,8 +123,10 @@ build_x86_64() { # MEMBER WORDS..
     cargo_x86_64 build "${WORKSPACE[@]}" -p "$@"
 }
 
-# Runs the examples in the comments of a library among the members, which is built, as x86-64 programs. On Arm cargo would leave them out.
+# Runs the examples in the comments of a library among the members, which is built, as x86-64 programs. On Arm cargo would leave them out. The version is what build.rs says.
 test_docs_x86_64() { # MEMBER
+    local -x DATES_VERSION
+    DATES_VERSION=$(version_of_header)
     local words=(--edition 2021 --test --crate-name "$1" --extern "$1=$BUILT_X86_64/lib$1.rlib" "host/$1/src/lib.rs") rustc
     if [ "$machine" = x86_64 ]; then
         rustc=$(native_rustc)

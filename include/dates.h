@@ -1,5 +1,10 @@
+#ifndef DATES_H
+#define DATES_H
+#define DATES_VERSION "1.0.0"
+
 /*
- * The date engine's calls, for C (C99 and later) and C++ (C++11 and later). The library is target/staticlib/libentry.a, for x86-64 System V; `rt staticlib entry` makes it.
+ * The date engine's calls, for C (C99 and later) and C++ (C++11 and later). The library is libdates where it is installed (./install), in the
+ * tree target/staticlib/libentry.a (tools/build library), for x86-64 System V.
  *
  * A rule is three numbers: first step x, second step y, amount c. It says day(x) - day(y) <= c. "Drying (1) at least two days after cutting (0)" is the rule 0, 1, -2.
  * An arrangement gives every step a whole number so that every rule held holds; a plan is one with no day below 0; the earliest plan is the plan in which no
@@ -18,8 +23,6 @@
  * nothing else that is lent to it, and no other thread touches any of it during the call. Beyond that there is no condition: any lengths, counts and cells may be
  * lent, and every call returns. Nothing is kept after the call.
  */
-#ifndef DATES_H
-#define DATES_H
 
 #include <stddef.h>
 #include <stdint.h>

@@ -1,13 +1,15 @@
 //! Measures programs over the same script files, as processes, in turn within one run, and prints how many times longer each takes than the first.
 //!
-//!     measure-scripts FOLDER FILE..
+//!     measure-scripts FOLDER FILE.. [--ways FILE..]
 //!
 //! A FILE names a program: its name on the first line, then the words of its command line, one to a line; where one word is @, the script's path stands
-//! for it, else the script is standard input.
+//! for it, else the script is standard input. After `--ways` stand other ways to the first program, and what bounds them: they are measured on small scripts,
+//! with how many times as long the fastest of the others takes.
 //!
 //! Scripts are written into FOLDER. Processes are started by posix_spawn, which is what the standard library uses here.
 #![forbid(unsafe_code)]
 
+use std::borrow::Borrow;
 use std::fs::File;
 use std::path::{Path, PathBuf};
 use std::process::{Command, Stdio};
@@ -19,13 +21,16 @@ const FAMILIES: [(&str, fn(usize) -> String); 3] = [("sat", sat_heavy), ("confli
 fn main() {
     let mut words = std::env::args().skip(1);
     let folder = PathBuf::from(words.next().expect("a folder"));
-    let programs: Vec<Program> = words.map(|file| Program::read(Path::new(&file))).collect();
+    let read = |file: String| Program::read(Path::new(&file));
+    let programs: Vec<Program> = words.by_ref().take_while(|word| word != "--ways").map(read).collect();
+    let ways: Vec<Program> = words.map(read).collect();
     let empty = folder.join("empty.smt2");
     std::fs::write(&empty, "").expect("a script is written");
     println!("an empty script: {}", row(&programs, &measure(&programs, &empty)));
     println!("{:<12}{:>8}  times as long as {} (the shortest of several runs, in turn)", "script", "bytes", programs[0].name);
 
     let mut least: Vec<(usize, f64)> = Vec::new();
+    let mut small: Vec<PathBuf> = Vec::new();
     for (family, write) in FAMILIES {
         let mut paths = vec![(0, empty.clone())];
         for size in SIZES {
@@ -38,6 +43,9 @@ fn main() {
             println!("{:<12}{:>8}  {}", family, text.len(), row(&programs, &times));
             let faster = times[1..].iter().min().map_or(0.0, |peer| ratio(*peer, times[0]));
             least.push((size, faster));
+            if size == SIZES[0] {
+                small.push(path.clone());
+            }
             paths.push((text.len(), path));
         }
         println!("{:<12}          {}", "", growth(&programs[0], &paths));
@@ -45,6 +53,18 @@ fn main() {
     for size in SIZES {
         let worst = least.iter().filter(|(of, _)| *of == size).map(|(_, by)| *by).fold(f64::INFINITY, f64::min);
         println!("about {} bytes: the faster peer takes at least {:.1} times as long", size, worst);
+    }
+    compare_ways(&programs, &ways, &small);
+}
+
+/// The ways to the first program, on the small scripts: the shortest time of each over all of them, and at least how many times as long the fastest other program takes.
+fn compare_ways(programs: &[Program], ways: &[Program], scripts: &[PathBuf]) {
+    let all: Vec<&Program> = ways.iter().chain(programs).collect();
+    let times: Vec<Vec<Duration>> = scripts.iter().map(|script| measure(&all, script)).collect();
+    for (at, way) in ways.iter().enumerate() {
+        let shortest = times.iter().map(|of| of[at]).min().unwrap_or_default();
+        let by = times.iter().map(|of| of[ways.len() + 1..].iter().min().map_or(0.0, |peer| ratio(*peer, of[at]))).fold(f64::INFINITY, f64::min);
+        println!("about {} bytes by {}: {:.2} ms; the faster peer takes at least {:.1} times as long", SIZES[0], way.name, shortest.as_secs_f64() * 1e3, by);
     }
 }
 
@@ -136,7 +156,7 @@ fn agree(programs: &[Program], script: &Path) {
 
 /// The shortest time of each program: other work on the machine only lengthens one. In every round each program in turn runs five times, or
 /// until 50 ms have passed; fewer rounds where they take long.
-fn measure(programs: &[Program], script: &Path) -> Vec<Duration> {
+fn measure<P: Borrow<Program>>(programs: &[P], script: &Path) -> Vec<Duration> {
     let mut times = vec![Duration::MAX; programs.len()];
     let began = Instant::now();
     for round in 0..10 {
@@ -147,7 +167,7 @@ fn measure(programs: &[Program], script: &Path) -> Vec<Duration> {
             let turn = Instant::now();
             for run in 0..5 {
                 if run == 0 || turn.elapsed() < Duration::from_millis(50) {
-                    *shortest = program.time(script).min(*shortest);
+                    *shortest = program.borrow().time(script).min(*shortest);
                 }
             }
         }

@@ -36,6 +36,9 @@ mod tables;
 #[cfg(test)]
 mod tests;
 
+/// The version of the library, as `include/dates.h` has it. `CHANGES.md` says what a caller changes from one to the next.
+pub const VERSION: &str = env!("DATES_VERSION");
+
 pub use crate::calls::{Counts, Record};
 pub use crate::planner::{Consequences, Moved, Planner, Trial};
 pub use crate::refusal::Refusal;

@@ -26,6 +26,11 @@ fn ring_of(refused: Result<Moved, Refusal>) -> Ring {
 const CASE_3: [Rule; 2] = [Rule { first: 0, second: 1, amount: -2 }, Rule { first: 1, second: 2, amount: -3 }];
 
 #[test]
+fn the_version_of_the_header_is_that_of_the_manifest() {
+    assert_eq!(crate::VERSION, env!("CARGO_PKG_VERSION"));
+}
+
+#[test]
 fn cases_1_to_4_and_7() {
     let mut planner = holding(&[]);
     assert_eq!(planner.days(), [0, 0, 0, 0]);
