@@ -67,7 +67,7 @@ fn bit(flag: bool) -> u32
 fn brought(number: u32, notes: Notes, kept: Record) -> Record
     ensures { λ r. ⌜ Brought number notes kept r ⌝ }
 {
-    if number != 0 {
+    if 0 < number {
         return kept;
     }
     Record {
@@ -115,12 +115,12 @@ pub fn start(
         names,
         lens,
     );
-    let counted = reply.counts;
+    let opened = reply.counts;
     let noted = reply.notes;
     let number = reply.number;
     let after = brought(number, noted, kept);
     ScriptTold {
-        counts: counted,
+        counts: opened,
         kept: after,
         number: number,
     }
