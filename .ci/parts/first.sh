@@ -169,12 +169,13 @@ one "a build after one that failed works" says_each_crate
 after_failed() { ! DO=fail "$tree/dates" --build 2>"$work/err" && not_proved; }
 one "after a --build that failed, the program from before is not run" after_failed
 
-# Sends a signal to a build and its group, as a terminal does, and looks at what it leaves.
+# Sends a signal to a build and its group, as a terminal does, and looks at what it leaves. The gate itself may run where an interrupt is ignored, so the build begins with the signals as they
+# are by default.
 interrupt() { # SIGNAL STATUS
     local build status
     unbuild
     set -m
-    PAUSE=1 "$tree/tools/build" program library 2>"$work/err" </dev/null &
+    PAUSE=1 env --default-signal=INT,TERM,HUP "$tree/tools/build" program library 2>"$work/err" </dev/null &
     build=$!
     set +m
     for _ in {1..50}; do
