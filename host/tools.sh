@@ -2,7 +2,7 @@
 # this machine. It is read by `.` from the top of the repository and runs nothing by itself.
 
 # The crate whose archive holds the exported entry, and the program's crate.
-ENTRY=entry
+ENTRY=exports
 PROGRAM=dates
 ARCHIVE=target/staticlib/lib$ENTRY.a
 

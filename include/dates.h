@@ -4,7 +4,7 @@
 
 /*
  * The date engine's calls, for C (C99 and later) and C++ (C++11 and later). The library is libdates where it is installed (./install), in the
- * tree target/staticlib/libentry.a (tools/build library), for x86-64 System V.
+ * tree target/staticlib/libexports.a (tools/build library), for x86-64 System V.
  *
  * A rule is three numbers: first step x, second step y, amount c. It says day(x) - day(y) <= c. "Drying (1) at least two days after cutting (0)" is the rule 0, 1, -2.
  * An arrangement gives every step a whole number so that every rule held holds; a plan is one with no day below 0; the earliest plan is the plan in which no

@@ -16,7 +16,7 @@ kit=$(dirname -- "$(dirname -- "$(rt doc)")") || stop "rt does not answer"
 tree=$work/tree
 mkdir -p "$tree/tools" "$tree/host" "$tree/crates" "$work/bin"
 cp dates "$tree/" && cp tools/build "$tree/tools/" && cp host/tools.sh "$tree/host/" && cp -r include examples "$tree/" || stop "no copy of the command"
-printf '%s\n' '# Words.' 'meaning:' 'leaf: meaning # here too' 'text:' 'flat: leaf' 'entry: flat' 'dates: leaf text io' >"$tree/crates.txt"
+printf '%s\n' '# Words.' 'meaning:' 'lent: meaning # here too' 'text:' 'export_record: lent' 'exports: export_record' 'dates: lent text io' >"$tree/crates.txt"
 cat >"$work/bin/rt" <<STANDIN
 #!/usr/bin/env bash
 [ "\$1" != doc ] || { echo '$kit/docs/START-HERE.md'; exit; }
@@ -25,26 +25,26 @@ mkdir -p target/log target/bin target/staticlib
 [ "\${DO:-}" != break ] || { echo 'rt: cannot make a temporary folder'; exit 2; }
 case "\$*" in
 staticlib*) crates='' ;;
-*dates*flat*) crates='meaning leaf text flat' ;;
-*dates*) crates='meaning leaf text' ;;
-*) crates='meaning leaf flat' ;;
+*dates*export_record*) crates='meaning lent text export_record' ;;
+*dates*) crates='meaning lent text' ;;
+*) crates='meaning lent export_record' ;;
 esac
 for crate in \$crates; do
     : >target/log/\$crate.out
     sleep "\${PAUSE:-0}"
     echo "fn \$crate::one: proved"
-    if [ "\${DO:-}" = fail ] && [ \$crate = leaf ]; then
-        echo "crates/leaf/proofs/one/Proof.antt:42:6: error: the two types differ"
-        echo "crates/leaf/proofs/one/Proof.antt:49:6: error: another one"
-        echo 'rt: leaf NOT PROVED (exit 1, 5 s)'
-        echo 'rt: FAILED: leaf'
+    if [ "\${DO:-}" = fail ] && [ \$crate = lent ]; then
+        echo "crates/lent/proofs/one/Proof.antt:42:6: error: the two types differ"
+        echo "crates/lent/proofs/one/Proof.antt:49:6: error: another one"
+        echo 'rt: lent NOT PROVED (exit 1, 5 s)'
+        echo 'rt: FAILED: lent'
         exit 1
     fi
     echo "rt: \$crate proved (1 s)"
 done
 if [ "\$1" = staticlib ]; then
-    echo archive >target/staticlib/libentry.a
-    echo 'rt: target/staticlib/libentry.a has the functions of entry that are marked #[no_mangle] pub extern "C"'
+    echo archive >target/staticlib/libexports.a
+    echo 'rt: target/staticlib/libexports.a has the functions of exports that are marked #[no_mangle] pub extern "C"'
 elif [[ " \$* " = *' dates '* ]]; then
     cp '$PWD/target/bin/dates' target/bin/dates
     echo 'rt: dates proved (4 s)'
@@ -108,7 +108,7 @@ says_each_crate() {
     "$tree/dates" "$season" >"$work/out" 2>"$work/err" && diff "$work/out" "$right" && sed 's/built in [0-9]* s/built in N s/' "$work/err" | diff - <(
         echo 'dates: proving and building, 4 crates; this takes minutes the first time'
         echo 'dates: 1 of 4: meaning proved (1 s)'
-        echo 'dates: 2 of 4: leaf proved (1 s)'
+        echo 'dates: 2 of 4: lent proved (1 s)'
         echo 'dates: 3 of 4: text proved (1 s)'
         echo 'dates: 4 of 4: dates proved (4 s)'
         echo 'dates: proved and built in N s'
@@ -126,9 +126,9 @@ builds_library() {
     "$tree/tools/build" library 2>"$work/err" && sed 's/built in [0-9]* s/built in N s/' "$work/err" | diff - <(
         echo 'dates: proving and building, 4 crates; this takes minutes the first time'
         echo 'dates: 1 of 4: meaning proved (1 s)'
-        echo 'dates: 2 of 4: leaf proved (1 s)'
-        echo 'dates: 3 of 4: flat proved (1 s)'
-        echo 'dates: 4 of 4: entry proved, and its archive written'
+        echo 'dates: 2 of 4: lent proved (1 s)'
+        echo 'dates: 3 of 4: export_record proved (1 s)'
+        echo 'dates: 4 of 4: exports proved, and its archive written'
         echo 'dates: proved and built in N s'
     ) && called 4 && answers "$tree/dates" "$season"
 }
@@ -143,7 +143,7 @@ in_terminal() { # COMMAND..
 }
 drawn() {
     PAUSE=0.6 in_terminal "$tree/dates" "$season" >"$work/out"
-    grep -qx 'dates: 1 of 4 crates, 0:0[0-9] gone; now leaf' "$work/out" && [ "$(grep -c '^dates: proved and built in' "$work/out")" = 1 ] &&
+    grep -qx 'dates: 1 of 4 crates, 0:0[0-9] gone; now lent' "$work/out" && [ "$(grep -c '^dates: proved and built in' "$work/out")" = 1 ] &&
         ! grep -q 'proved (' "$work/out" && tail -n "$(wc -l <"$right")" "$work/out" | diff - "$right" || { cat "$work/out"; return 1; }
 }
 unbuild
@@ -158,7 +158,7 @@ fails() { # DO STATUS LINE LINE
         printf '%s\n' "$3" "$4" "dates: after N s nothing is built; $tree/target/build.log has all that was said"
     ) || { echo "status $status"; return 1; }
 }
-not_proved() { fails fail 1 'dates: leaf is not proved' 'dates: its first error: crates/leaf/proofs/one/Proof.antt:42:6: error: the two types differ'; }
+not_proved() { fails fail 1 'dates: lent is not proved' 'dates: its first error: crates/lent/proofs/one/Proof.antt:42:6: error: the two types differ'; }
 unbuild
 one "a crate that is not proved: its name, its first error, where the log is, status 1, no answer" not_proved
 one "a program that writes something else: what rt says of it" \

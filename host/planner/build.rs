@@ -1,4 +1,4 @@
-//! Tells the linker where the library's archive is: in the folder that the environment variable DATES_LIB names by its full path, as `libentry.a` or as an
+//! Tells the linker where the library's archive is: in the folder that the environment variable DATES_LIB names by its full path, as `libexports.a` or as an
 //! installed `libdates.a`; else in the repository's `target/staticlib`. Tells the crate its version, which stands in `include/dates.h` alone.
 
 use std::path::{Path, PathBuf};
@@ -9,7 +9,7 @@ fn main() {
     let folder = env::var_os("DATES_LIB").map_or_else(|| top.join("target/staticlib"), PathBuf::from);
     println!("cargo:rerun-if-env-changed=DATES_LIB");
     println!("cargo:rerun-if-changed={}", folder.display());
-    match ["entry", "dates"].iter().find(|name| folder.join(format!("lib{}.a", name)).is_file()) {
+    match ["exports", "dates"].iter().find(|name| folder.join(format!("lib{}.a", name)).is_file()) {
         Some(name) => {
             println!("cargo:rerun-if-changed={}", folder.join(format!("lib{}.a", name)).display());
             println!("cargo:rustc-link-search=native={}", folder.display());

@@ -13,14 +13,14 @@ use Rattle.meaning.specs.Tables.{Tables, at}
 use Rattle.meaning.specs.Calls.{rules-of, held-in}
 use Rattle.meaning.proofs.Theory.{more-fits}
 use Rattle.chains.specs.Chains.{number, Linkable, Pushed}
-use Rattle.leaf.specs.Lent.{columns, first}
-use Rattle.leaf.specs.Idle.{idle, unwatched}
-use Rattle.leaf.specs.Promises.{rule}
-use Rattle.inside.proofs.Equal.{tables-equal}
-use Rattle.newrule.specs.Lending.{Ready, LentChains}
-use Rattle.newrule.specs.Fit.{Tells, one-more}
-use Rattle.newrule.proofs.Answers.{base}
-use Rattle.script.specs.Effect.{Holds}
+use Rattle.lent.specs.Lent.{columns, first}
+use Rattle.lent.specs.Idle.{idle, unwatched}
+use Rattle.lent.specs.Promises.{rule}
+use Rattle.inner_watch.proofs.Equal.{tables-equal}
+use Rattle.inner_add.specs.Lending.{Ready, LentChains}
+use Rattle.inner_add.specs.Fit.{Tells, one-more}
+use Rattle.inner_add.proofs.Answers.{base}
+use Rattle.script_meaning.specs.Effect.{Holds}
 use Rattle.asserts.specs.One.{WithMarks, AddsOne}
 use Rattle.asserts.proofs.Linking.{linkable, chains-pushed}
 

@@ -12,18 +12,18 @@ use Rattle.meaning.specs.Rules.{Rule, InBounds, InAmount}
 use Rattle.meaning.specs.Tables.{Tables}
 use Rattle.meaning.specs.Promise.{First}
 use Rattle.meaning.proofs.Sequences.{Kept}
-use Rattle.leaf.specs.Idle.{idle}
-use Rattle.leaf.specs.Promises.{Border, rule}
+use Rattle.lent.specs.Idle.{idle}
+use Rattle.lent.specs.Promises.{Border, rule}
 use Rattle.text.specs.Lexicon.{bytes}
 use Rattle.names.specs.Names.{Found, AllDifferent}
 use Rattle.atoms.specs.declared.Atom.{Atom}
 use Rattle.atoms.specs.Atoms.{Named, rules-at, atom-rule, Next}
-use Rattle.script.specs.Record.{KnownIn, step-in}
-use Rattle.script.specs.Effect.{resolved, Holds, AddsAll}
-use Rattle.script.specs.Commands.{rule-needs}
-use Rattle.script.proofs.Adding.{holds-kept}
-use Rattle.script.proofs.Beside.{beside, adds-beside}
-use Rattle.script.proofs.Seeking.{step-is}
+use Rattle.script_meaning.specs.Record.{KnownIn, step-in}
+use Rattle.script_meaning.specs.Effect.{resolved, Holds, AddsAll}
+use Rattle.script_meaning.specs.Commands.{rule-needs}
+use Rattle.script_meaning.proofs.Adding.{holds-kept}
+use Rattle.script_meaning.proofs.Beside.{beside, adds-beside}
+use Rattle.script_meaning.proofs.Seeking.{step-is}
 use Rattle.asserts.specs.One.{AddsOne}
 
 -- The lists that are lent are as long as at start.

@@ -10,9 +10,9 @@ use Rattle.meaning.specs.Rules.{Rule, InBounds}
 use Rattle.meaning.specs.Tables.{Tables, at}
 use Rattle.chains.specs.Chains.{Chained, Linkable, Pushed}
 use Rattle.chains.proofs.Laws.{chained-agree, chained-more}
-use Rattle.leaf.specs.Promises.{Border}
-use Rattle.newrule.specs.Lending.{LentChains}
-use Rattle.script.specs.Effect.{Holds}
+use Rattle.lent.specs.Promises.{Border}
+use Rattle.inner_add.specs.Lending.{LentChains}
+use Rattle.script_meaning.specs.Effect.{Holds}
 
 -- The tables t before the rule r was added, and u after it.
 module _ (r : Rule) (t u : Tables) (held : Holds r t u) where

@@ -8,9 +8,9 @@ use Rattle.meaning.specs.declared.Counts.{Counts}
 use Rattle.meaning.specs.Rules.{Rule, Fits}
 use Rattle.meaning.specs.Tables.{Tables}
 use Rattle.meaning.specs.Calls.{rules-of, held-in}
-use Rattle.leaf.specs.Idle.{unwatched}
-use Rattle.leaf.specs.Promises.{Border}
-use Rattle.script.specs.Effect.{Holds}
+use Rattle.lent.specs.Idle.{unwatched}
+use Rattle.lent.specs.Promises.{Border}
+use Rattle.script_meaning.specs.Effect.{Holds}
 
 -- The counts, the rules held and the days are those of sound tables with room, whatever their marks are.
 abbrev pub WithMarks : Counts → List ℕ → List ℕ → List ℤ → List ℕ → Type 0

@@ -7,14 +7,14 @@ ghost use Rattle.meaning.specs.Bounds.{RULES, DONE};
 ghost use Rattle.meaning.specs.Rules.{InBounds};
 ghost use Rattle.meaning.specs.Promise.{First};
 ghost use Rattle.text.specs.Table.{TABLE};
-ghost use Rattle.leaf.specs.Idle.{unwatched};
-ghost use Rattle.leaf.specs.Promises.{rule};
-ghost use Rattle.newrule.specs.Lending.{LentChains};
+ghost use Rattle.lent.specs.Idle.{unwatched};
+ghost use Rattle.lent.specs.Promises.{rule};
+ghost use Rattle.inner_add.specs.Lending.{LentChains};
 ghost use Rattle.names.specs.Names.{Shelved, Indexed, AllDifferent};
 ghost use Rattle.atoms.specs.Atoms.{rules-at};
-ghost use Rattle.script.specs.Record.{KnownIn, step-in};
-ghost use Rattle.script.specs.Effect.{resolved, AddsAll};
-ghost use Rattle.script.specs.Commands.{rule-needs};
+ghost use Rattle.script_meaning.specs.Record.{KnownIn, step-in};
+ghost use Rattle.script_meaning.specs.Effect.{resolved, AddsAll};
+ghost use Rattle.script_meaning.specs.Commands.{rule-needs};
 ghost use Rattle.asserts.specs.One.{WithMarks, AddsOne};
 use meaning::Counts;
 
@@ -49,11 +49,11 @@ fn add_one(
 {
     let n = counts.steps as usize;
     let m = counts.rules as usize;
-    let fitted = newrule::fit(n, m, xs, ys, cs, days, heads, nexts, x, y, c);
+    let fitted = inner_add::fit(n, m, xs, ys, cs, days, heads, nexts, x, y, c);
     if fitted.fits {
         chains::push(xs, heads, nexts, m);
         return Added {
-            counts: newrule::one_more(counts),
+            counts: inner_add::one_more(counts),
             clash: false,
         };
     }

@@ -9,7 +9,7 @@ use lib.ListN.{length, set}
 use lib.Seq.{getD-set-same, getD-set-other}
 use Rattle.meaning.specs.Rules.{plus}
 use Rattle.meaning.specs.Tables.{at}
-use Rattle.leaf.specs.Lent.{first}
+use Rattle.lent.specs.Lent.{first}
 use Rattle.chains.specs.Chains.{top, ChainsOf, number, Chained, Empty, Pushed, Dropped}
 
 -- Where every chain is empty, they are the chains of no rules.

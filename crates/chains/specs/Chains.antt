@@ -5,7 +5,7 @@ use mathlib.Core.Path.{_≡_}
 use mathlib.Core.List.{List}
 use lib.ListN.{length, set}
 use Rattle.meaning.specs.Tables.{at}
-use Rattle.leaf.specs.Lent.{first}
+use Rattle.lent.specs.Lent.{first}
 
 -- How far up a link reaches: above the rank of the rule that it leads to, and above none at the chain's end.
 abbrev pub top : (ℕ → ℕ) → ℕ → ℕ

@@ -8,7 +8,7 @@ pub fn push(xs: &[u16], heads: &mut [u16], nexts: &mut [u16], m: usize)
     requires { ⌜ Linkable m (now xs) (now heads) (now nexts) ⌝ }
     ensures { λ _. ⌜ Pushed m (now (xs .entry)) (now (heads .entry)) (now (nexts .entry)) (now (heads .exit)) (now (nexts .exit)) ⌝ }
 {
-    let a = leaf::number_at(xs, m);
+    let a = lent::number_at(xs, m);
     nexts[m] = heads[a];
     heads[a] = (m + 1) as u16;
 }
@@ -18,7 +18,7 @@ pub fn drop_last(xs: &[u16], heads: &mut [u16], nexts: &[u16], m: usize)
     requires { ⌜ Linkable m (now xs) (now heads) (now nexts) ⌝ }
     ensures { λ _. ⌜ Dropped m (now (xs .entry)) (now (heads .entry)) (now (nexts .entry)) (now (heads .exit)) ⌝ }
 {
-    let a = leaf::number_at(xs, m);
+    let a = lent::number_at(xs, m);
     heads[a] = nexts[m];
 }
 

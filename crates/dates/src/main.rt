@@ -5,9 +5,9 @@ ghost use Prim.Native.Nat.{_≤_, _<_};
 ghost use lib.ListN.{length};
 ghost use Rattle.meaning.specs.Bounds.{ROOM, TEXT};
 ghost use Rattle.text.specs.Table.{TABLE};
-ghost use Rattle.carry.specs.Carrying.{in-hand, Maintained};
+ghost use Rattle.script_command.specs.Carrying.{in-hand, Maintained};
 use meaning::Counts;
-use script::Notes;
+use script_meaning::Notes;
 
 // One byte more than a script may have, so that a longer one is told.
 const READ: usize = meaning::TEXT + 1;
@@ -51,7 +51,7 @@ fn answer(
     let mut held = counts;
     let mut noted = notes;
     loop {
-        let part = run::advance(
+        let part = script_run::advance(
             s,
             tab,
             at,
@@ -103,7 +103,7 @@ fn play(s: &[u8]) {
         s,
         &tab,
         Counts {
-            steps: script::STEPS,
+            steps: script_meaning::STEPS,
             rules: 0,
             marks: 0,
             watched: 0,
@@ -136,7 +136,7 @@ fn refuse(s: &[u8])
     requires { ⌜ TEXT < length (now s) ⌝ }
 {
     let mut out = [0u8; meaning::ROOM];
-    let ran = run::run_script(s, &mut out);
+    let ran = script_run::run_script(s, &mut out);
     show(&out, ran.written);
 }
 

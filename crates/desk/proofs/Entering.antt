@@ -9,9 +9,9 @@ use Rattle.meaning.specs.Bounds.{DONE, SHORT, DAMAGED, CONFLICT}
 use Rattle.meaning.specs.Tables.{Tables, Room, Sound}
 use Rattle.meaning.specs.Promise.{Need, needs, First, Meaning, Obeys, bare}
 use Rattle.meaning.proofs.Needs.{AllMet, done-met, not-given, obeys-refused}
-use Rattle.leaf.specs.Decides.{Decides, yes-or-no}
-use Rattle.leaf.specs.Promises.{Border}
-use Rattle.newrule.specs.Lending.{LentChains}
+use Rattle.lent.specs.Decides.{Decides, yes-or-no}
+use Rattle.lent.specs.Promises.{Border}
+use Rattle.inner_add.specs.Lending.{LentChains}
 use Rattle.desk.specs.Entry.{entry-needs, Entered}
 
 -- What decides a thing that holds says yes.

@@ -18,8 +18,8 @@ use Rattle.meaning.proofs.Needs.{done-met, trial-rises}
 use Rattle.meaning.proofs.More.{more-all}
 use Rattle.meaning.proofs.Lists.{filled-length}
 use Rattle.meaning.proofs.Theory.{earliest-ext}
-use Rattle.leaf.specs.Lent.{tables}
-use Rattle.leaf.specs.Promises.{rule, Tries}
+use Rattle.lent.specs.Lent.{tables}
+use Rattle.lent.specs.Promises.{rule, Tries}
 use Rattle.desk.specs.Part.{PartOf, TrialPart, Handed}
 
 module _

@@ -3,11 +3,11 @@
 ghost use Prim.Native.Nat.{_≤_};
 ghost use lib.ListN.{length};
 ghost use Rattle.meaning.specs.Bounds.{STEPS, RULES};
-ghost use Rattle.leaf.specs.Decides.{Decides};
+ghost use Rattle.lent.specs.Decides.{Decides};
 ghost use Rattle.desk.specs.Entry.{Entered};
 ghost use Rattle.desk.specs.Part.{PartOf, TrialPart};
-ghost use Rattle.leaf.specs.Lent.{tables};
-ghost use Rattle.leaf.specs.Promises.{Opens, Watches, Adds, Marks, GoesBack, Tries, Splits, ChecksRing};
+ghost use Rattle.lent.specs.Lent.{tables};
+ghost use Rattle.lent.specs.Promises.{Opens, Watches, Adds, Marks, GoesBack, Tries, Splits, ChecksRing};
 use meaning::Counts;
 use meaning::Reply;
 
@@ -84,7 +84,7 @@ pub fn open(
     if meaning::STEPS < steps as usize {
         return meaning::refused(counts, meaning::STEP);
     }
-    inside::clear_days(steps as usize, days);
+    inner_watch::clear_days(steps as usize, days);
     meaning::done(meaning::steps_alone(steps), 0, 0)
 }
 
@@ -124,7 +124,7 @@ pub fn watch(
     if 0 < number {
         return meaning::refused(counts, number);
     }
-    inside::watch(counts, xs, ys, cs, days, marks, wxs, wys, wcs, x, y, c)
+    inner_watch::watch(counts, xs, ys, cs, days, marks, wxs, wys, wcs, x, y, c)
 }
 
 // Mark: SHORT, DAMAGED, FULL; else the rule count is the newest mark.
@@ -160,7 +160,7 @@ pub fn mark(
     if 0 < number {
         return meaning::refused(counts, number);
     }
-    inside::mark(counts, xs, ys, cs, days, marks, wxs, wys, wcs)
+    inner_watch::mark(counts, xs, ys, cs, days, marks, wxs, wys, wcs)
 }
 
 // Back: SHORT, DAMAGED, NOMARK; else the newest mark and the rules after it are dropped, and the days are the earliest plan of the rest.
@@ -196,7 +196,7 @@ pub fn back(
     if 0 < number {
         return meaning::refused(counts, number);
     }
-    goback::back(counts, xs, ys, cs, days, marks, wxs, wys, wcs)
+    inner_back::back(counts, xs, ys, cs, days, marks, wxs, wys, wcs)
 }
 
 // Add: SHORT, DAMAGED, STEP, AMOUNT, FULL, CONFLICT with the ring in the list; else the rule is held and the days are the earliest plan.
@@ -236,7 +236,7 @@ pub fn add(
     if 0 < number {
         return meaning::refused(counts, number);
     }
-    newrule::add(counts, xs, ys, cs, days, &heads, &nexts, list, x, y, c)
+    inner_add::add(counts, xs, ys, cs, days, &heads, &nexts, list, x, y, c)
 }
 
 // Trial: answers as Add would and writes to no table. List one gets the days where the rule fits, list two the ring on CONFLICT.
@@ -277,7 +277,7 @@ pub fn trial(
     if 0 < number {
         return meaning::refused(counts, number);
     }
-    newrule::trial(counts, xs, ys, cs, days, &heads, &nexts, one, two, x, y, c)
+    inner_add::trial(counts, xs, ys, cs, days, &heads, &nexts, one, two, x, y, c)
 }
 
 // Consequences: SHORT, DAMAGED; else list one gets the watched rules that hold in every arrangement, list two those that hold in none.
@@ -315,7 +315,7 @@ pub fn consequences(
     if 0 < number {
         return meaning::refused(counts, number);
     }
-    split::consequences(
+    inner_split::consequences(
         counts,
         xs,
         ys,
@@ -369,7 +369,7 @@ pub fn ring_check(
     if 0 < number {
         return meaning::refused(counts, number);
     }
-    let unfit = inside::rule_verdict(counts.steps, x, y, c);
+    let unfit = inner_watch::rule_verdict(counts.steps, x, y, c);
     if 0 < unfit {
         return meaning::refused(counts, unfit);
     }

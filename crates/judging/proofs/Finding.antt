@@ -4,8 +4,8 @@ use native.Mathlib.Omega.{arith}
 use mathlib.Core.List.{List}
 use mathlib.Core.Logic.{inl, inr}
 use Rattle.names.specs.Names.{Found}
-use Rattle.script.specs.Record.{KnownIn}
-use Rattle.script.proofs.Seeking.{numbered-known, unknown-not}
+use Rattle.script_meaning.specs.Record.{KnownIn}
+use Rattle.script_meaning.proofs.Seeking.{numbered-known, unknown-not}
 
 pub found-known : (n r : ℕ) (names lens w : List ℕ) → Found n names lens w r → r < n → KnownIn n names lens w
 found-known n r names lens w (inl found) h = numbered-known names lens w n r (found .0) (found .1)

@@ -12,11 +12,11 @@ use Rattle.meaning.specs.Promise.{Need, needs, First}
 use Rattle.text.specs.Lexicon.{bytes}
 use Rattle.form.specs.declared.Command.the-variants.{SetLogic, Declare, Assert, Push, Pop, CheckSat, GetValue}
 use Rattle.atoms.specs.Atoms.{Named, rules-at}
-use Rattle.script.specs.declared.Notes.{Notes}
-use Rattle.script.specs.Record.{Lent, KnownIn}
-use Rattle.script.specs.Effect.{asked}
-use Rattle.script.specs.Commands.{rule-needs, name-needs}
-use Rattle.script.proofs.Needed.{rules-met, rules-passed}
+use Rattle.script_meaning.specs.declared.Notes.{Notes}
+use Rattle.script_meaning.specs.Record.{Lent, KnownIn}
+use Rattle.script_meaning.specs.Effect.{asked}
+use Rattle.script_meaning.specs.Commands.{rule-needs, name-needs}
+use Rattle.script_meaning.proofs.Needed.{rules-met, rules-passed}
 use Rattle.judging.specs.declared.Judged.{Judged}
 use Rattle.judging.specs.Judged.{JudgedName, JudgedRules, Judges}
 

@@ -9,7 +9,7 @@ use Rattle.meaning.specs.Bounds.{DONE, AMOUNT, NAME}
 use Rattle.meaning.specs.Rules.{InAmount}
 use Rattle.meaning.specs.Promise.{Need, needs, First}
 use Rattle.atoms.specs.Atoms.{Named}
-use Rattle.script.specs.Commands.{rule-needs, name-needs}
+use Rattle.script_meaning.specs.Commands.{rule-needs, name-needs}
 use Rattle.judging.specs.declared.Judged.{Judged}
 use Rattle.judging.specs.Judged.{JudgedRules}
 

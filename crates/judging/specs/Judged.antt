@@ -8,9 +8,9 @@ use Rattle.meaning.specs.Bounds.{STEPS, DONE, FULL, NAME}
 use Rattle.meaning.specs.Promise.{First, needs}
 use Rattle.form.specs.declared.Command.{Command}
 use Rattle.atoms.specs.Atoms.{Named}
-use Rattle.script.specs.declared.Notes.{Notes}
-use Rattle.script.specs.Record.{Lent, KnownIn}
-use Rattle.script.specs.Commands.{rule-needs, command-needs}
+use Rattle.script_meaning.specs.declared.Notes.{Notes}
+use Rattle.script_meaning.specs.Record.{Lent, KnownIn}
+use Rattle.script_meaning.specs.Commands.{rule-needs, command-needs}
 use Rattle.judging.specs.declared.Judged.{Judged}
 
 -- The name w to be declared as number n was judged: it is not declared yet, and there is a place for it.

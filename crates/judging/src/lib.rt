@@ -9,13 +9,13 @@ ghost use Rattle.text.specs.Lexicon.{bytes};
 ghost use Rattle.names.specs.Names.{Shelved, Indexed};
 ghost use Rattle.form.specs.Form.{form};
 ghost use Rattle.atoms.specs.Atoms.{rules-at};
-ghost use Rattle.script.specs.Record.{KnownIn};
-ghost use Rattle.script.specs.Effect.{asked};
-ghost use Rattle.script.specs.Commands.{name-needs};
+ghost use Rattle.script_meaning.specs.Record.{KnownIn};
+ghost use Rattle.script_meaning.specs.Effect.{asked};
+ghost use Rattle.script_meaning.specs.Commands.{name-needs};
 ghost use Rattle.judging.specs.Judged.{JudgedName, JudgedRules, Judges};
 use form::Command;
 use meaning::Counts;
-use script::Notes;
+use script_meaning::Notes;
 
 // What a term's rules came to: the refusal's number, 0 where there is none, and how many rules there are.
 pub struct Judged {
@@ -66,7 +66,7 @@ fn judge_rules(
                 rules: 0,
             };
         }
-        if !leaf::amount_fits(a.amount) {
+        if !lent::amount_fits(a.amount) {
             return Judged {
                 number: meaning::AMOUNT,
                 rules: 0,

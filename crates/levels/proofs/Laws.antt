@@ -15,7 +15,7 @@ use Rattle.meaning.proofs.Needs.{obeys-done}
 use Rattle.meaning.proofs.Lists.{past-same, past-refl}
 use Rattle.meaning.proofs.Put.{put-old}
 use Rattle.meaning.proofs.Sequences.{Kept, call-keeps}
-use Rattle.leaf.specs.Promises.{Border}
+use Rattle.lent.specs.Promises.{Border}
 use Rattle.levels.specs.Levels.{with-marks, marked, more-marks, fewer-marks, without-marks, row-of, Popped, KeptDays}
 
 -- ---- marks set

@@ -8,11 +8,11 @@ use lib.IntN.{ℤ}
 use Rattle.meaning.specs.Tables.{Tables, at, rule-at}
 use Rattle.meaning.specs.Promise.{Planned}
 use Rattle.meaning.specs.Calls.{rules-of}
-use Rattle.leaf.specs.Promises.{Border}
-use Rattle.leaf.specs.Lent.{first}
+use Rattle.lent.specs.Promises.{Border}
+use Rattle.lent.specs.Lent.{first}
 use Rattle.spread.specs.Ground.{rules}
-use Rattle.goback.specs.Replan.{Droppable}
-use Rattle.goback.proofs.Dropping.{plannable}
+use Rattle.inner_back.specs.Replan.{Droppable}
+use Rattle.inner_back.proofs.Dropping.{plannable}
 use Rattle.levels.specs.Levels.{row-of, Holds, KeptFor, Copied}
 use Rattle.levels.proofs.Copying.{planned-copy}
 

@@ -6,13 +6,13 @@ ghost use lib.ListN.{length};
 ghost use Rattle.meaning.specs.Bounds.{STEPS, MARKS};
 ghost use Rattle.meaning.specs.Tables.{at, rule-at};
 ghost use Rattle.meaning.specs.Promise.{Planned};
-ghost use Rattle.leaf.specs.Lent.{columns, first};
-ghost use Rattle.leaf.specs.Idle.{unwatched};
-ghost use Rattle.leaf.specs.Promises.{Border};
-ghost use Rattle.leaf.specs.Decides.{Decides};
+ghost use Rattle.lent.specs.Lent.{columns, first};
+ghost use Rattle.lent.specs.Idle.{unwatched};
+ghost use Rattle.lent.specs.Promises.{Border};
+ghost use Rattle.lent.specs.Decides.{Decides};
 ghost use Rattle.spread.specs.Ground.{rules};
-ghost use Rattle.newrule.specs.Lending.{LentChains};
-ghost use Rattle.goback.specs.Replan.{Droppable};
+ghost use Rattle.inner_add.specs.Lending.{LentChains};
+ghost use Rattle.inner_back.specs.Replan.{Droppable};
 ghost use Rattle.levels.specs.Levels.{marked, more-marks, row-of, Popped, HasRow, Holds, KeptFor, KeptDays, KeepsDays, Copied, Filed};
 use meaning::Counts;
 
@@ -177,5 +177,5 @@ fn days_at(
         copy_days(n, kept, row_of(k), days, 0);
         return;
     }
-    goback::keep_first(n, m, l, xs, ys, cs, days);
+    inner_back::keep_first(n, m, l, xs, ys, cs, days);
 }

@@ -3,7 +3,7 @@ use Prim.Native.Nat.{ℕ}
 use mathlib.Core.Path.{_≡_, sym, ap, _∙_}
 use mathlib.Core.Bool.{Bool, true≢false}
 use mathlib.Core.List.{List}
-use Rattle.leaf.specs.Decides.{Decides}
+use Rattle.lent.specs.Decides.{Decides}
 use Rattle.text.specs.Lexicon.{same-bytes}
 use Rattle.text.proofs.Equal.{same-equal, equal-same}
 

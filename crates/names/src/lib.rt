@@ -3,7 +3,7 @@ ghost use mathlib.Core.Path.{_≡_};
 ghost use Prim.Native.Nat.{_+_, _-_, _<_, _≤_};
 ghost use lib.ListN.{length};
 ghost use Rattle.meaning.specs.Bounds.{STEPS, NAME-BYTES};
-ghost use Rattle.leaf.specs.Decides.{Decides};
+ghost use Rattle.lent.specs.Decides.{Decides};
 ghost use Rattle.text.specs.Lexicon.{bytes};
 ghost use Rattle.names.specs.Names.{name-at, hash, Shelved, IndexRoom, Indexed, Linked, LinkOf, Found, FoundBelow, AllDifferent, Declared};
 
@@ -62,7 +62,7 @@ fn follow(
         if is_name(names, lens, k, s, a, b) {
             return k;
         }
-        l = leaf::number_at(nexts, k);
+        l = lent::number_at(nexts, k);
     }
     n
 }
@@ -86,7 +86,7 @@ pub fn find(
     ensures { λ r. ⌜ Found n (now (names .entry)) (now (lens .entry)) (bytes (now (s .entry)) a b) r ⌝ }
 {
     let h = hash_of(s, a, b) as usize;
-    let link = leaf::number_at(heads, h);
+    let link = lent::number_at(heads, h);
     follow(names, lens, nexts, n, link, s, a, b)
 }
 
@@ -154,7 +154,7 @@ pub fn different(
     for k in 0..n {
         let from = meaning::NAME_BYTES * k;
         let to = from + lens[k] as usize;
-        let link = leaf::number_at(nexts, k);
+        let link = lent::number_at(nexts, k);
         let j = follow(names, lens, nexts, n, link, names, from, to);
         if j < n {
             return false;

@@ -9,7 +9,7 @@ use Rattle.meaning.specs.Rules.{Rule, All, total}
 use Rattle.meaning.specs.Tables.{at}
 use Rattle.meaning.proofs.Whole.{add-is}
 use Rattle.meaning.proofs.Theory.{all-implies}
-use Rattle.leaf.specs.Lent.{Biased}
+use Rattle.lent.specs.Lent.{Biased}
 use Rattle.ringcheck.specs.Closing.{firsts, Closes, GoesOn}
 
 -- What follows from P and Q, every number of a list has where every number has both.

@@ -13,8 +13,8 @@ use Rattle.meaning.proofs.Whole.{lt→, →lt, add-is}
 use Rattle.meaning.proofs.More.{more-new, more-old}
 use Rattle.meaning.proofs.Theory.{all-implies}
 use Rattle.meaning.proofs.Rings.{leads-same, total-same, firsts-same}
-use Rattle.leaf.specs.Decides.{Decides, decides-same}
-use Rattle.leaf.specs.Lent.{Biased}
+use Rattle.lent.specs.Decides.{Decides, decides-same}
+use Rattle.lent.specs.Lent.{Biased}
 use Rattle.ringcheck.specs.Closing.{firsts, Closes}
 use Rattle.ringcheck.proofs.Closing.{flag-other, flagged-apart}
 

@@ -12,8 +12,8 @@ use lib.Seq.{drop-cons}
 use borrow.Author.Tests.{ltb-true, ltb-false}
 use Rattle.meaning.specs.Rules.{Rule}
 use Rattle.meaning.specs.Tables.{at}
-use Rattle.leaf.specs.Decides.{Decides}
-use Rattle.leaf.specs.Lent.{Biased}
+use Rattle.lent.specs.Decides.{Decides}
+use Rattle.lent.specs.Lent.{Biased}
 use Rattle.ringcheck.specs.Closing.{Closes, GoesOn}
 use Rattle.ringcheck.proofs.Closing.{end→, →end, next-goes-on, next→, →next}
 

@@ -9,7 +9,7 @@ use Rattle.meaning.specs.Bounds.{STEPS}
 use Rattle.meaning.specs.Rules.{Rule, InSteps, Leads, All, Different, total}
 use Rattle.meaning.specs.Tables.{rule-at, at}
 use Rattle.meaning.proofs.Whole.{up, dn}
-use Rattle.leaf.specs.Lent.{columns, Placed}
+use Rattle.lent.specs.Lent.{columns, Placed}
 
 -- The first steps of the rules in the list.
 abbrev pub firsts : (ℕ → Rule) → List ℕ → List ℕ

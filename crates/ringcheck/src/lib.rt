@@ -4,8 +4,8 @@ ghost use mathlib.Core.Path.{_≡_};
 ghost use lib.ListN.{length, drop};
 ghost use Rattle.meaning.specs.Rules.{Refutes};
 ghost use Rattle.meaning.specs.Tables.{rule-at, at};
-ghost use Rattle.leaf.specs.Decides.{Decides};
-ghost use Rattle.leaf.specs.Lent.{columns, first};
+ghost use Rattle.lent.specs.Decides.{Decides};
+ghost use Rattle.lent.specs.Lent.{columns, first};
 ghost use Rattle.ringcheck.specs.Closing.{Closes, GoesOn, Walkable, Checkable};
 
 // The number at place k of the list.
@@ -13,7 +13,7 @@ fn entry_at(list: &[u32], k: usize) -> usize
     requires { ⌜ k < length (now list) ⌝ }
     ensures { λ r. ⌜ r ≡ at (now (list .entry)) k ⌝ }
 {
-    leaf::day_at(list, k) as usize
+    lent::day_at(list, k) as usize
 }
 
 // Whether number i is below m, its rule's first step is the step reached, and that step was not met before.
@@ -24,7 +24,7 @@ fn goes_on(m: usize, xs: &[u16], met: &[u8], reached: usize, i: usize) -> bool
     if m <= i {
         return false;
     }
-    if leaf::number_at(xs, i) != reached {
+    if lent::number_at(xs, i) != reached {
         return false;
     }
     met[reached] == 0
@@ -55,8 +55,8 @@ fn closes(
             return false;
         }
         met[reached] = 1;
-        sum += leaf::amount_at(cs, i);
-        reached = leaf::number_at(ys, i);
+        sum += lent::amount_at(cs, i);
+        reached = lent::number_at(ys, i);
         k += 1;
     }
     reached == x && sum < (k as u64) * 2147483648
@@ -98,7 +98,7 @@ pub fn is_ring(
         cs,
         first,
         y as usize,
-        leaf::biased(c),
+        lent::biased(c),
         list,
         &mut met,
     )

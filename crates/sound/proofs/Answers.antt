@@ -7,10 +7,10 @@ use mathlib.Core.List.{List}
 use lib.ListN.{length}
 use Rattle.meaning.specs.Rules.{Earliest}
 use Rattle.meaning.specs.Tables.{Columns, Tables, ColumnsRoom, InCounts, Sound, rule-at, at}
-use Rattle.leaf.specs.Decides.{Decides, decides-no}
+use Rattle.lent.specs.Decides.{Decides, decides-no}
 use Rattle.chains.specs.Chains.{Chained}
 use Rattle.sound.specs.Parts.{AllIn, MarksIn, ChainsRoom, Testable, Tested}
-use Rattle.leaf.specs.Lent.{first}
+use Rattle.lent.specs.Lent.{first}
 use Rattle.chains.specs.Chains.{number}
 use Rattle.sound.specs.Ground.{Ready}
 

@@ -13,8 +13,8 @@ use Rattle.meaning.specs.Tables.{rule-at, at}
 use Rattle.meaning.proofs.Whole.{tight→, →tight}
 use Rattle.meaning.proofs.Counting.{count-all}
 use Rattle.meaning.proofs.Lowering.{grounded-earliest, grounded-all}
-use Rattle.leaf.specs.Decides.{Decides}
-use Rattle.leaf.specs.Lent.{columns, KeptAt, Dated, Spare}
+use Rattle.lent.specs.Decides.{Decides}
+use Rattle.lent.specs.Lent.{columns, KeptAt, Dated, Spare}
 use Rattle.chains.specs.Chains.{ChainsOf}
 use Rattle.chains.proofs.Walk.{Link, Met, link-head, met-head, link-next, met-next}
 use Rattle.sound.specs.Ground.{entered, Grown, Seeded, Ready, Underway, Followed, StepFollowed}

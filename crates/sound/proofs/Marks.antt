@@ -8,7 +8,7 @@ use mathlib.Core.Logic.{_⊎_, inl, inr}
 use lib.Dec.{leb}
 use borrow.Author.Tests.{leb-true, leb-false}
 use Rattle.meaning.specs.Tables.{at}
-use Rattle.leaf.specs.Decides.{Decides}
+use Rattle.lent.specs.Decides.{Decides}
 use Rattle.sound.specs.Parts.{MarksIn}
 
 -- The first i marks never fall, and newest is the last of them, or 0 where there is none: so it is one of them, and none is above it.

@@ -11,7 +11,7 @@ use Rattle.meaning.specs.Bounds.{STEPS}
 use Rattle.meaning.specs.Rules.{InSteps, Plan, Tight, Grounded}
 use Rattle.meaning.specs.Tables.{rule-at, at}
 use Rattle.meaning.proofs.Counting.{count}
-use Rattle.leaf.specs.Lent.{columns, KeptAt, Placed}
+use Rattle.lent.specs.Lent.{columns, KeptAt, Placed}
 use Rattle.chains.specs.Chains.{ChainsOf}
 
 -- Whether step v is entered.

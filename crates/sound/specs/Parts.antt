@@ -8,8 +8,8 @@ use lib.IntN.{ℤ}
 use Rattle.meaning.specs.Bounds.{STEPS, RULES}
 use Rattle.meaning.specs.Rules.{InBounds}
 use Rattle.meaning.specs.Tables.{Tables, ColumnsRoom, rule-at, at, Room, Sound}
-use Rattle.leaf.specs.Decides.{Decides}
-use Rattle.leaf.specs.Lent.{columns}
+use Rattle.lent.specs.Decides.{Decides}
+use Rattle.lent.specs.Lent.{columns}
 use Rattle.chains.specs.Chains.{Chained}
 
 -- Every rule of the columns below number m is within bounds, over n steps.

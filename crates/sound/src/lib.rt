@@ -8,8 +8,8 @@ ghost use Rattle.meaning.specs.declared.Counts.{Counts};
 ghost use Rattle.meaning.specs.Bounds.{STEPS};
 ghost use Rattle.meaning.specs.Rules.{Earliest};
 ghost use Rattle.meaning.specs.Tables.{ColumnsRoom, InCounts, Room, rule-at, at};
-ghost use Rattle.leaf.specs.Decides.{Decides};
-ghost use Rattle.leaf.specs.Lent.{columns, tables, first};
+ghost use Rattle.lent.specs.Decides.{Decides};
+ghost use Rattle.lent.specs.Lent.{columns, tables, first};
 ghost use Rattle.chains.specs.Chains.{number};
 ghost use Rattle.sound.specs.Parts.{AllIn, MarksIn, ChainsRoom, RulesTested, Testable, Tested};
 ghost use Rattle.sound.specs.Ground.{Worklist, Enterable, Stays, Comes, ListsRoom, Seeded, Ready, Underway, AfterStep};
@@ -78,7 +78,7 @@ fn all_in(n: usize, m: usize, xs: &[u16], ys: &[u16], cs: &[i32]) -> bool
     ensures { λ r. ⌜ Decides r (AllIn n m (now (xs .entry)) (now (ys .entry)) (now (cs .entry))) ⌝ }
 {
     for i in 0..m {
-        if !leaf::rule_in(n, xs, ys, cs, i) {
+        if !lent::rule_in(n, xs, ys, cs, i) {
             return false;
         }
     }
@@ -100,7 +100,7 @@ fn rules_in(
 {
     chains::clear(n, heads);
     for i in 0..m {
-        if !leaf::rule_in(n, xs, ys, cs, i) {
+        if !lent::rule_in(n, xs, ys, cs, i) {
             return false;
         }
         chains::push(xs, heads, nexts, i);
@@ -115,7 +115,7 @@ fn marks_in(m: usize, k: usize, marks: &[u32]) -> bool
 {
     let mut newest: u64 = 0;
     for i in 0..k {
-        let mark = leaf::day_at(marks, i);
+        let mark = lent::day_at(marks, i);
         if mark < newest {
             return false;
         }
@@ -147,7 +147,7 @@ fn seed(n: usize, days: &[u32], places: &mut [u16], work: &mut [u16]) -> usize
 {
     let mut k = 0;
     for v in 0..n {
-        if leaf::day_at(days, v) == 0 {
+        if lent::day_at(days, v) == 0 {
             k = enter(v, k, places, work);
         }
     }
@@ -183,19 +183,19 @@ fn follow(
     ensures { λ r. ⌜ AfterStep n (first m) (now (xs .entry)) (now (ys .entry)) (now (cs .entry)) (now (days .entry)) a (now (places .entry)) (r .kept) (r .entered) (now (places .exit)) (now (work .exit)) ⌝ }
 {
     let mut k = entered;
-    let mut link = leaf::number_at(heads, a);
+    let mut link = lent::number_at(heads, a);
     while link != 0 {
         let i = link - 1;
-        if !leaf::kept(xs, ys, cs, days, i) {
+        if !lent::kept(xs, ys, cs, days, i) {
             return Walked {
                 kept: false,
                 entered: k,
             };
         }
-        if leaf::slack(xs, ys, cs, days, i) == 0 {
-            k = enter(leaf::number_at(ys, i), k, places, work);
+        if lent::slack(xs, ys, cs, days, i) == 0 {
+            k = enter(lent::number_at(ys, i), k, places, work);
         }
-        link = leaf::number_at(nexts, i);
+        link = lent::number_at(nexts, i);
     }
     Walked {
         kept: true,
@@ -222,7 +222,7 @@ fn is_earliest(
     let mut entered = seed(n, days, &mut places, &mut work);
     let mut done = 0;
     while done < entered {
-        let a = leaf::number_at(&work, done);
+        let a = lent::number_at(&work, done);
         let walked = follow(
             n,
             m,

@@ -7,7 +7,7 @@ use mathlib.Core.List.{List}
 use lib.ListN.{length, set, length-set}
 use lib.IntN.{ℤ}
 use Rattle.meaning.specs.Tables.{at}
-use Rattle.leaf.specs.Lent.{Biased}
+use Rattle.lent.specs.Lent.{Biased}
 use Rattle.waiting.specs.Waiting.{Room, Led, LedBut}
 use Rattle.waiting.proofs.Places.{put-set}
 use Rattle.waiting.proofs.Leading.{led-but}

@@ -6,7 +6,7 @@ use lib.IntN.{ℤ}
 use Rattle.meaning.specs.Bounds.{STEPS, RULES}
 use Rattle.meaning.specs.Rules.{Rule, InSteps, Plan}
 use Rattle.meaning.specs.Tables.{rule-at, at}
-use Rattle.leaf.specs.Lent.{columns, Placed}
+use Rattle.lent.specs.Lent.{columns, Placed}
 use Rattle.chains.specs.Chains.{ChainsOf}
 
 -- The rules by number, of the columns that are lent.

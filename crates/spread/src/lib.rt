@@ -7,8 +7,8 @@ ghost use Prim.Native.Nat.{_+_, _<_, _≤_};
 ghost use lib.ListN.{length};
 ghost use Rattle.meaning.specs.Bounds.{STEPS};
 ghost use Rattle.meaning.specs.Tables.{at};
-ghost use Rattle.leaf.specs.Decides.{Decides};
-ghost use Rattle.leaf.specs.Lent.{first};
+ghost use Rattle.lent.specs.Decides.{Decides};
+ghost use Rattle.lent.specs.Lent.{first};
 ghost use Rattle.chains.specs.Chains.{number};
 ghost use Rattle.spread.specs.Ground.{Ground};
 ghost use Rattle.spread.specs.State.{Ready};
@@ -68,8 +68,8 @@ fn relax(
         (now (gains .exit)) (now (by .exit)) (now (list .exit)) r ⌝ }
     ensures { λ r. ⌜ Led n (at (now (gains .exit))) (at (now (list .exit))) (at (now (places .exit))) (at (now (leaders .exit))) r ⌝ }
 {
-    let y = leaf::number_at(ys, i);
-    let far = leaf::day_at(days, y) + leaf::amount_at(cs, i);
+    let y = lent::number_at(ys, i);
+    let far = lent::day_at(days, y) + lent::amount_at(cs, i);
     let have = gains[y];
     if reach <= far + have {
         return k;
@@ -112,9 +112,9 @@ fn relax_all(
         (now (gains .exit)) (now (by .exit)) (now (list .exit)) r ⌝ }
     ensures { λ r. ⌜ Led n (at (now (gains .exit))) (at (now (list .exit))) (at (now (places .exit))) (at (now (leaders .exit))) r ⌝ }
 {
-    let reach = leaf::day_at(days, x) + waiting::gain_at(gains, x) + 2147483648;
+    let reach = lent::day_at(days, x) + waiting::gain_at(gains, x) + 2147483648;
     let mut count = k;
-    let mut link = leaf::number_at(heads, x);
+    let mut link = lent::number_at(heads, x);
     while 0 < link {
         let i = link - 1;
         count = relax(
@@ -131,7 +131,7 @@ fn relax_all(
             leaders,
             count,
         );
-        link = leaf::number_at(nexts, i);
+        link = lent::number_at(nexts, i);
     }
     count
 }
@@ -375,7 +375,7 @@ fn hops(
     let mut v = x;
     let mut k = 0;
     while v != y {
-        v = leaf::number_at(xs, leaf::number_at(by, v) - 1);
+        v = lent::number_at(xs, lent::number_at(by, v) - 1);
         k += 1;
     }
     k
@@ -406,10 +406,10 @@ pub fn ring(
     let mut v = x;
     let mut j = k;
     while v != y {
-        let i = leaf::number_at(by, v) - 1;
+        let i = lent::number_at(by, v) - 1;
         j -= 1;
         list[j] = i as u32;
-        v = leaf::number_at(xs, i);
+        v = lent::number_at(xs, i);
     }
     list[0] = m as u32;
     k

@@ -16,13 +16,13 @@ use Rattle.text.specs.Lexicon.{SYMBOL, token-at, bytes}
 use Rattle.text.proofs.Tokens.{token-placed}
 use Rattle.names.specs.Names.{Shelved, Found, AllDifferent}
 use Rattle.write.specs.Written.{over}
-use Rattle.script.specs.Record.{step-in, KnownIn}
-use Rattle.script.specs.Effect.{asked, pair, pairs, values}
-use Rattle.script.specs.Commands.{name-needs}
-use Rattle.script.proofs.Asking.{asked-token, asked-other}
-use Rattle.script.proofs.Lengths.{pair-short}
-use Rattle.script.proofs.Needed.{EachName, names-met}
-use Rattle.script.proofs.Seeking.{known-short, step-is}
+use Rattle.script_meaning.specs.Record.{step-in, KnownIn}
+use Rattle.script_meaning.specs.Effect.{asked, pair, pairs, values}
+use Rattle.script_meaning.specs.Commands.{name-needs}
+use Rattle.script_meaning.proofs.Asking.{asked-token, asked-other}
+use Rattle.script_meaning.proofs.Lengths.{pair-short}
+use Rattle.script_meaning.proofs.Needed.{EachName, names-met}
+use Rattle.script_meaning.proofs.Seeking.{known-short, step-is}
 use Rattle.values.specs.Pair.{gap, paired}
 use Rattle.values.proofs.Wrote.{Wrote, wrote-both, wrote-rest}
 

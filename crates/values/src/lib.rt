@@ -8,9 +8,9 @@ ghost use Rattle.text.specs.Lexicon.{bytes};
 ghost use Rattle.text.specs.Table.{TABLE};
 ghost use Rattle.names.specs.Names.{Shelved, Indexed, AllDifferent};
 ghost use Rattle.write.specs.Written.{over};
-ghost use Rattle.script.specs.Record.{KnownIn, step-in};
-ghost use Rattle.script.specs.Effect.{asked, values};
-ghost use Rattle.script.specs.Commands.{name-needs};
+ghost use Rattle.script_meaning.specs.Record.{KnownIn, step-in};
+ghost use Rattle.script_meaning.specs.Effect.{asked, values};
+ghost use Rattle.script_meaning.specs.Commands.{name-needs};
 ghost use Rattle.values.specs.Pair.{gap, paired};
 
 // Writes a space where it is later than the first pair, and nothing before the first; gives back the place past what was written.

@@ -24,10 +24,10 @@ fn largest(list: &[u16], from: usize, to: usize, gains: &[u64]) -> usize
     ensures { λ r. ⌜ LargestIn (at (now (gains .entry))) (at (now (list .entry))) from to r ⌝ }
 {
     let mut best = from;
-    let mut top = gain_at(gains, leaf::number_at(list, from));
+    let mut top = gain_at(gains, lent::number_at(list, from));
     let mut j = from + 1;
     while j < to {
-        let gain = gain_at(gains, leaf::number_at(list, j));
+        let gain = gain_at(gains, lent::number_at(list, j));
         if top < gain {
             top = gain;
             best = j;
@@ -42,7 +42,7 @@ fn lead(y: usize, b: usize, gains: &[u64], leaders: &mut [u16])
     requires { ⌜ Leadable (now gains) (now leaders) y b ⌝ }
     ensures { λ _. ⌜ Promoted (at (now (gains .entry))) y b (now (leaders .entry)) (now (leaders .exit)) ⌝ }
 {
-    if gain_at(gains, leaf::number_at(leaders, b)) < gain_at(gains, y) {
+    if gain_at(gains, lent::number_at(leaders, b)) < gain_at(gains, y) {
         leaders[b] = y as u16;
     }
 }
@@ -88,8 +88,8 @@ pub fn rise(
     requires { ⌜ y < n ⌝ }
     ensures { λ _. ⌜ Led n (at (now (gains .entry))) (at (now (list .entry))) (at (now (places .entry))) (at (now (leaders .exit))) k ⌝ }
 {
-    let j = leaf::number_at(places, y);
-    if j < k && leaf::number_at(list, j) == y {
+    let j = lent::number_at(places, y);
+    if j < k && lent::number_at(list, j) == y {
         lead(y, j / 16, gains, leaders);
     }
 }
@@ -127,10 +127,10 @@ pub fn take(
 {
     let end = (k - 1) / 16;
     let b = largest(leaders, 0, end + 1, gains);
-    let x = leaf::number_at(leaders, b);
-    let j = leaf::number_at(places, x);
-    let last = leaf::number_at(list, k - 1);
-    let ended = leaf::number_at(leaders, end);
+    let x = lent::number_at(leaders, b);
+    let j = lent::number_at(places, x);
+    let last = lent::number_at(list, k - 1);
+    let ended = lent::number_at(leaders, end);
     list[j] = last as u16;
     places[last] = j as u16;
     regroup(b, gains, list, leaders, k - 1);

@@ -36,7 +36,7 @@ const PART: u32 = 19;
 
 pub const UNKNOWN: u32 = 20;
 
-// What `leaf::biased` makes of the amount 0.
+// What `lent::biased` makes of the amount 0.
 const ZERO: u64 = 2147483648;
 
 // How many days a line shows at most.
@@ -102,7 +102,7 @@ fn number(n: u32) {
 
 // Writes a space and the amount, with its sign where it is below 0.
 fn amount(c: i32) {
-    let raised = leaf::biased(c);
+    let raised = lent::biased(c);
     if raised < ZERO {
         text(b" -");
         io::print_decimal(1, ZERO - raised);

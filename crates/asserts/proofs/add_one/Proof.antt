@@ -2,10 +2,10 @@
 use mathlib.Core.Path.{_≡_, refl}
 use mir.Syntax.{w32}
 use mir.ValLaws.{toZ-ofZ}
-use Rattle.leaf.specs.Lent.{first}
-use Rattle.leaf.specs.Lent.{columns}
-use Rattle.leaf.specs.Promises.{rule}
-use Rattle.newrule.specs.Fit.{Tells}
+use Rattle.lent.specs.Lent.{first}
+use Rattle.lent.specs.Lent.{columns}
+use Rattle.lent.specs.Promises.{rule}
+use Rattle.inner_add.specs.Fit.{Tells}
 use Rattle.asserts.proofs.Answering.{ready, new-linkable, one-held, one-clash}
 use native.Mathlib.Omega.{arith}
 use borrow.Author.Needs.{needs}
@@ -14,8 +14,8 @@ use Rattle.asserts.proofs.add_one.Tie as tie
 use Rattle.asserts.proofs.add_one.Reads as reads
 use Rattle.asserts.proofs.add_one.Lts as lts
 use Rattle.chains.proofs.push.Reads as push-reads
-use Rattle.newrule.proofs.fit.Reads as fit-reads
-use Rattle.newrule.proofs.one_more.Reads as one-more-reads
+use Rattle.inner_add.proofs.fit.Reads as fit-reads
+use Rattle.inner_add.proofs.one_more.Reads as one-more-reads
 
 cast-n : tie.Need-cast-n
 cast-n c = search needs

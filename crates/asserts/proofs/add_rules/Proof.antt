@@ -8,8 +8,8 @@ use Rattle.asserts.proofs.Going.{left-start, left-none, found-within, a
 use Prim.Native.Nat.{ℕ, _-_}
 use lib.ListN.{length}
 use mathlib.Core.List.{List}
-use Rattle.leaf.specs.Idle.{unwatched}
-use Rattle.newrule.specs.Lending.{LentChains}
+use Rattle.lent.specs.Idle.{unwatched}
+use Rattle.inner_add.specs.Lending.{LentChains}
 use Rattle.atoms.specs.Atoms.{rules-at}
 use Rattle.asserts.proofs.Going.{AsLong, Left}
 use borrow.Author.Needs.{needs}

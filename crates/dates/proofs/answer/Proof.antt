@@ -5,7 +5,7 @@ use mathlib.Core.Path.{_≡_, refl, _∙_}
 use lib.ListN.{length}
 use borrow.Author.Tests.{not-false}
 use borrow.Author.Needs.{needs}
-use Rattle.carry.specs.Carrying.{in-hand, Maintained}
+use Rattle.script_command.specs.Carrying.{in-hand, Maintained}
 use Rattle.dates.proofs.answer.Statement.{statement}
 use Rattle.dates.proofs.answer.Tie as tie
 

@@ -5,7 +5,7 @@ use mathlib.Core.Path.{refl}
 use lib.ListN.{length-replicate}
 use borrow.Author.Needs.{needs}
 use Rattle.text.specs.Table.{TABLE}
-use Rattle.run.proofs.Fresh.{zeros, fresh-tables}
+use Rattle.script_run.proofs.Fresh.{zeros, fresh-tables}
 use Rattle.dates.proofs.play.Statement.{statement}
 use Rattle.dates.proofs.play.Tie as tie
 

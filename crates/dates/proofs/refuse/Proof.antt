@@ -4,10 +4,10 @@ use Prim.Native.Nat.{ℕ}
 use lib.ListN.{length-replicate}
 use borrow.Author.Needs.{needs}
 use Rattle.meaning.specs.Bounds.{SIZE}
-use Rattle.run.proofs.Room.{error-short}
+use Rattle.script_run.proofs.Room.{error-short}
 use Rattle.dates.proofs.refuse.Statement.{statement}
 use Rattle.dates.proofs.refuse.Tie as tie
-use Rattle.run.proofs.run_script.Reads as run-script-reads
+use Rattle.script_run.proofs.run_script.Reads as run-script-reads
 
 slice-aggregate-run-script : tie.Need-slice-aggregate-run-script
 slice-aggregate-run-script c = search needs

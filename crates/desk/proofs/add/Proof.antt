@@ -1,11 +1,11 @@
--- `desk::add`: the first test decides the refusals that all calls share; the rest is `newrule::add`.
+-- `desk::add`: the first test decides the refusals that all calls share; the rest is `inner_add::add`.
 use Prim.Native.Nat.{ℕ}
 use mathlib.Core.Path.{refl}
 use lib.ListN.{length-replicate}
 use Rattle.meaning.specs.Bounds.{STEPS, RULES}
 use mir.Syntax.{w32}
 use mir.ValLaws.{toZ-ofZ}
-use Rattle.newrule.proofs.Answers.{base}
+use Rattle.inner_add.proofs.Answers.{base}
 use Rattle.desk.proofs.Entering.{entered, lists-entered, chains-entered, refused-with}
 use native.Mathlib.Omega.{arith}
 use borrow.Author.Needs.{needs}
@@ -16,7 +16,7 @@ use Rattle.desk.proofs.add.Lts as lts
 use Rattle.desk.proofs.has.Reads as has-reads
 use Rattle.desk.proofs.verdict.Reads as verdict-reads
 use Rattle.meaning.proofs.refused.Reads as refused-reads
-use Rattle.newrule.proofs.add.Reads as add-reads
+use Rattle.inner_add.proofs.add.Reads as add-reads
 
 has-requires : tie.Need-has-requires
 has-requires c κs = search needs

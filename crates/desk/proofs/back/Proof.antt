@@ -11,7 +11,7 @@ use Rattle.desk.proofs.back.Tie as tie
 use Rattle.desk.proofs.back.Reads as reads
 use Rattle.desk.proofs.back.Lts as lts
 use Rattle.desk.proofs.verdict.Reads as verdict-reads
-use Rattle.goback.proofs.back.Reads as back-reads
+use Rattle.inner_back.proofs.back.Reads as back-reads
 use Rattle.meaning.proofs.refused.Reads as refused-reads
 
 slice-aggregate-verdict : tie.Need-slice-aggregate-verdict

@@ -1,7 +1,7 @@
 -- `desk::both_have` meets its contract: the one list, and then the other.
 use mathlib.Core.Path.{refl}
 use borrow.Author.Tests.{not-true, not-false}
-use Rattle.leaf.specs.Decides.{decides-no, decides-same}
+use Rattle.lent.specs.Decides.{decides-no, decides-same}
 use native.Mathlib.Omega.{arith}
 use borrow.Author.Needs.{needs}
 use Rattle.desk.proofs.both_have.Statement.{statement}

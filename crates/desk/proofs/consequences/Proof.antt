@@ -1,4 +1,4 @@
--- `desk::consequences`: the first test decides the refusals; the rest is `split::consequences`.
+-- `desk::consequences`: the first test decides the refusals; the rest is `inner_split::consequences`.
 use Prim.Native.Nat.{ℕ}
 use mathlib.Core.Path.{_≡_, refl}
 use lib.ListN.{length-replicate}
@@ -13,7 +13,7 @@ use Rattle.desk.proofs.consequences.Lts as lts
 use Rattle.desk.proofs.both_have.Reads as both-have-reads
 use Rattle.desk.proofs.verdict.Reads as verdict-reads
 use Rattle.meaning.proofs.refused.Reads as refused-reads
-use Rattle.split.proofs.consequences.Reads as consequences-reads
+use Rattle.inner_split.proofs.consequences.Reads as consequences-reads
 
 cast-both-have : tie.Need-cast-both-have
 cast-both-have c = search needs

@@ -11,7 +11,7 @@ use Rattle.desk.proofs.mark.Tie as tie
 use Rattle.desk.proofs.mark.Reads as reads
 use Rattle.desk.proofs.mark.Lts as lts
 use Rattle.desk.proofs.verdict.Reads as verdict-reads
-use Rattle.inside.proofs.mark.Reads as mark-reads
+use Rattle.inner_watch.proofs.mark.Reads as mark-reads
 use Rattle.meaning.proofs.refused.Reads as refused-reads
 
 slice-aggregate-verdict : tie.Need-slice-aggregate-verdict

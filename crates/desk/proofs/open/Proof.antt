@@ -10,7 +10,7 @@ use Rattle.desk.proofs.open.Statement.{statement}
 use Rattle.desk.proofs.open.Tie as tie
 use Rattle.desk.proofs.open.Reads as reads
 use Rattle.desk.proofs.open.Lts as lts
-use Rattle.inside.proofs.clear_days.Reads as clear-days-reads
+use Rattle.inner_watch.proofs.clear_days.Reads as clear-days-reads
 use Rattle.meaning.proofs.done.Reads as done-reads
 use Rattle.meaning.proofs.refused.Reads as refused-reads
 use Rattle.meaning.proofs.steps_alone.Reads as steps-alone-reads

@@ -8,8 +8,8 @@ use mir.Syntax.{w32}
 use mir.ValLaws.{toZ-ofZ}
 use Rattle.meaning.specs.Bounds.{STEPS, RULES}
 use Rattle.meaning.proofs.Needs.{obeys-done, obeys-refused}
-use Rattle.leaf.specs.Promises.{rule}
-use Rattle.inside.proofs.Verdict.{rule-steps, rule-amount, rule-refused, rule-no-conflict}
+use Rattle.lent.specs.Promises.{rule}
+use Rattle.inner_watch.proofs.Verdict.{rule-steps, rule-amount, rule-refused, rule-no-conflict}
 use Rattle.desk.proofs.Entering.{entered, refused-alone}
 use native.Mathlib.Omega.{arith}
 use borrow.Author.Needs.{needs}
@@ -18,7 +18,7 @@ use Rattle.desk.proofs.ring_check.Tie as tie
 use Rattle.desk.proofs.ring_check.Reads as reads
 use Rattle.desk.proofs.ring_check.Lts as lts
 use Rattle.desk.proofs.verdict.Reads as verdict-reads
-use Rattle.inside.proofs.rule_verdict.Reads as rule-verdict-reads
+use Rattle.inner_watch.proofs.rule_verdict.Reads as rule-verdict-reads
 use Rattle.meaning.proofs.done.Reads as done-reads
 use Rattle.meaning.proofs.refused.Reads as refused-reads
 use Rattle.ringcheck.proofs.is_ring.Reads as is-ring-reads

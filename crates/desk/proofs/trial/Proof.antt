@@ -1,11 +1,11 @@
--- `desk::trial`: the first test decides the refusals that all calls share; the rest is `newrule::trial`.
+-- `desk::trial`: the first test decides the refusals that all calls share; the rest is `inner_add::trial`.
 use Prim.Native.Nat.{ℕ}
 use mathlib.Core.Path.{refl}
 use lib.ListN.{length-replicate}
 use Rattle.meaning.specs.Bounds.{STEPS, RULES}
 use mir.Syntax.{w32}
 use mir.ValLaws.{toZ-ofZ}
-use Rattle.newrule.proofs.Answers.{base}
+use Rattle.inner_add.proofs.Answers.{base}
 use Rattle.desk.proofs.Entering.{entered, lists-entered, chains-entered, refused-with-two}
 use native.Mathlib.Omega.{arith}
 use borrow.Author.Needs.{needs}
@@ -16,7 +16,7 @@ use Rattle.desk.proofs.trial.Lts as lts
 use Rattle.desk.proofs.both_have.Reads as both-have-reads
 use Rattle.desk.proofs.verdict.Reads as verdict-reads
 use Rattle.meaning.proofs.refused.Reads as refused-reads
-use Rattle.newrule.proofs.trial.Reads as trial-reads
+use Rattle.inner_add.proofs.trial.Reads as trial-reads
 
 both-have-requires : tie.Need-both-have-requires
 both-have-requires c κs = search needs

@@ -13,7 +13,7 @@ use Rattle.desk.proofs.watch.Tie as tie
 use Rattle.desk.proofs.watch.Reads as reads
 use Rattle.desk.proofs.watch.Lts as lts
 use Rattle.desk.proofs.verdict.Reads as verdict-reads
-use Rattle.inside.proofs.watch.Reads as watch-reads
+use Rattle.inner_watch.proofs.watch.Reads as watch-reads
 use Rattle.meaning.proofs.refused.Reads as refused-reads
 
 slice-aggregate-verdict : tie.Need-slice-aggregate-verdict

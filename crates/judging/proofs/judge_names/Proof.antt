@@ -7,10 +7,10 @@ use native.Mathlib.Omega.{arith}
 use Rattle.text.specs.Lexicon.{SYMBOL, bytes}
 use Rattle.text.specs.declared.Tok.{Tok}
 use Rattle.text.proofs.Tokens.{token-placed}
-use Rattle.script.specs.Record.{KnownIn}
-use Rattle.script.specs.Effect.{asked}
-use Rattle.script.specs.Commands.{name-needs}
-use Rattle.script.proofs.Asking.{asked-token, asked-other, asked-past}
+use Rattle.script_meaning.specs.Record.{KnownIn}
+use Rattle.script_meaning.specs.Effect.{asked}
+use Rattle.script_meaning.specs.Commands.{name-needs}
+use Rattle.script_meaning.proofs.Asking.{asked-token, asked-other, asked-past}
 use Rattle.judging.proofs.Finding.{found-known, found-unknown}
 use Rattle.judging.proofs.Passing.{Onward, no-name-left, name-passed, name-unknown}
 use Rattle.judging.proofs.judge_names.Statement.{statement}

@@ -8,10 +8,10 @@ use borrow.Author.Tests.{not-true, not-false}
 use mir.Syntax.{w32}
 use mir.ValLaws.{toZ-ofZ}
 use Rattle.meaning.specs.Rules.{InAmount}
-use Rattle.leaf.specs.Decides.{Decides}
+use Rattle.lent.specs.Decides.{Decides}
 use Rattle.atoms.specs.Atoms.{Named, rules-at, atom-rule}
 use Rattle.atoms.proofs.Laws.{none-at-end}
-use Rattle.script.specs.Record.{KnownIn}
+use Rattle.script_meaning.specs.Record.{KnownIn}
 use Rattle.judging.specs.Judged.{JudgedRules}
 use Rattle.judging.proofs.Finding.{found-known, found-unknown}
 use Rattle.judging.proofs.Passing.{Passed, none-passed, all-passed, one-passed, first-unknown, second-unknown, amount-out}

@@ -6,7 +6,7 @@ use Rattle.levels.proofs.days_at.Statement.{statement}
 use Rattle.levels.proofs.days_at.Tie as tie
 use Rattle.levels.proofs.days_at.Reads as reads
 use Rattle.levels.proofs.days_at.Lts as lts
-use Rattle.goback.proofs.keep_first.Reads as keep-first-reads
+use Rattle.inner_back.proofs.keep_first.Reads as keep-first-reads
 use Rattle.levels.proofs.copy_days.Reads as copy-days-reads
 use Rattle.levels.proofs.holds.Reads as holds-reads
 use Rattle.levels.proofs.row_of.Reads as row-of-reads

@@ -6,7 +6,7 @@ use borrow.Author.Tests.{eqb-true, eqb-false}
 use borrow.Author.Needs.{needs}
 use Rattle.meaning.specs.Bounds.{STEPS}
 use Rattle.meaning.specs.Tables.{at}
-use Rattle.leaf.specs.Decides.{decides-no}
+use Rattle.lent.specs.Decides.{decides-no}
 use Rattle.levels.proofs.holds.Statement.{statement}
 use Rattle.levels.proofs.holds.Tie as tie
 

@@ -6,7 +6,7 @@ use lib.ListN.{length}
 use borrow.Author.Needs.{needs}
 use Rattle.meaning.specs.Bounds.{NAME-BYTES}
 use Rattle.meaning.specs.Tables.{at}
-use Rattle.leaf.specs.Decides.{decides-yes, decides-no}
+use Rattle.lent.specs.Decides.{decides-yes, decides-no}
 use Rattle.names.specs.Names.{name-at, Linked, FoundBelow, AllDifferent}
 use Rattle.names.proofs.Hashing.{name-bytes}
 use Rattle.names.proofs.Indexing.{name-room}

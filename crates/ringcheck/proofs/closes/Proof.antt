@@ -1,6 +1,6 @@
 -- `ringcheck::closes` meets its contract. The loop's invariant: every step reached has a flag, the sum is at most 4294967296 for each
 -- rule passed, and the list closes the ring exactly when what is left of it does. The measure is what is left of the list.
-use Rattle.leaf.specs.Lent.{first}
+use Rattle.lent.specs.Lent.{first}
 use Prim.Native.Nat.{_+_, _*_, _-_, _≤_, _<_}
 use mathlib.Core.Path.{_≡_, refl}
 use mathlib.Core.Logic.{_↔_}
@@ -9,8 +9,8 @@ use borrow.Author.Needs.{needs}
 use borrow.Author.Tests.{not-true, not-false, ne-eqb}
 use native.Mathlib.Omega.{arith}
 use Rattle.meaning.specs.Tables.{rule-at}
-use Rattle.leaf.specs.Decides.{decides-no}
-use Rattle.leaf.specs.Lent.{columns}
+use Rattle.lent.specs.Decides.{decides-no}
+use Rattle.lent.specs.Lent.{columns}
 use Rattle.ringcheck.proofs.Walk.{Left, sought-back, sum-decides, sought-goes-on, one-further}
 use Rattle.ringcheck.proofs.closes.Statement.{statement}
 use Rattle.ringcheck.proofs.closes.Tie as tie

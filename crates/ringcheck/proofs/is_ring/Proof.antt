@@ -1,5 +1,5 @@
 -- `ringcheck::is_ring` meets its contract: each early return has what the list lacks, and past them the rest of the list decides.
-use Rattle.leaf.specs.Lent.{first}
+use Rattle.lent.specs.Lent.{first}
 use Prim.Native.Nat.{ℕ, _<_}
 use mathlib.Core.Path.{refl, sym, _∙_}
 use lib.ListN.{replicate, length-set}
@@ -11,8 +11,8 @@ use Rattle.meaning.specs.Bounds.{STEPS}
 use Rattle.meaning.specs.Rules.{Rule}
 use Rattle.meaning.specs.Tables.{rule-at}
 use Rattle.meaning.proofs.Counting.{ring-length}
-use Rattle.leaf.specs.Decides.{decides-no}
-use Rattle.leaf.specs.Lent.{columns}
+use Rattle.lent.specs.Decides.{decides-no}
+use Rattle.lent.specs.Lent.{columns}
 use Rattle.ringcheck.proofs.Starting.{none-met, refutes-some, refutes-first, rest-decides}
 use Rattle.ringcheck.proofs.is_ring.Statement.{statement}
 use Rattle.ringcheck.proofs.is_ring.Tie as tie

@@ -5,7 +5,7 @@ use mathlib.Core.Path.{refl}
 use borrow.Author.Count.{below-none, below-more}
 use borrow.Author.Tests.{not-true, not-false}
 use borrow.Author.Needs.{needs}
-use Rattle.leaf.specs.Decides.{decides-yes, decides-no}
+use Rattle.lent.specs.Decides.{decides-yes, decides-no}
 use Rattle.sound.specs.Parts.{AllIn}
 use Rattle.sound.proofs.all_in.Statement.{statement}
 use Rattle.sound.proofs.all_in.Tie as tie

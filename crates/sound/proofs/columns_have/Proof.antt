@@ -3,7 +3,7 @@ use native.Mathlib.Omega.{arith}
 use mathlib.Core.Path.{refl}
 use lib.ListN.{length}
 use borrow.Author.Tests.{leb-true, leb-false}
-use Rattle.leaf.specs.Decides.{decides-no}
+use Rattle.lent.specs.Decides.{decides-no}
 use Rattle.sound.proofs.columns_have.Statement.{statement}
 use Rattle.sound.proofs.columns_have.Tie as tie
 

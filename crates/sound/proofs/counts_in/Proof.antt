@@ -4,7 +4,7 @@ use mathlib.Core.Path.{refl}
 use borrow.Author.Tests.{leb-true, leb-false}
 use borrow.Author.Needs.{needs}
 use Rattle.meaning.specs.Bounds.{WATCHED}
-use Rattle.leaf.specs.Decides.{decides-no}
+use Rattle.lent.specs.Decides.{decides-no}
 use Rattle.sound.proofs.counts_in.Statement.{statement}
 use Rattle.sound.proofs.counts_in.Tie as tie
 

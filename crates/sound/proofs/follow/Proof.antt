@@ -8,8 +8,8 @@ use lib.ListN.{length}
 use borrow.Author.Tests.{not-true, not-false}
 use Rattle.meaning.specs.Rules.{Grounded}
 use Rattle.meaning.specs.Tables.{rule-at, at}
-use Rattle.leaf.specs.Lent.{columns, KeptAt}
-use Rattle.leaf.specs.Lent.{first}
+use Rattle.lent.specs.Lent.{columns, KeptAt}
+use Rattle.lent.specs.Lent.{first}
 use Rattle.chains.specs.Chains.{number}
 use Rattle.chains.proofs.Laws.{next-in, top-number}
 use Rattle.sound.specs.Ground.{ListsRoom}

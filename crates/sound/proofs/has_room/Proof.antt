@@ -3,7 +3,7 @@ use native.Mathlib.Omega.{arith}
 use mathlib.Core.Path.{refl}
 use borrow.Author.Tests.{not-true, not-false}
 use borrow.Author.Needs.{needs}
-use Rattle.leaf.specs.Decides.{decides-no}
+use Rattle.lent.specs.Decides.{decides-no}
 use Rattle.sound.proofs.has_room.Statement.{statement}
 use Rattle.sound.proofs.has_room.Tie as tie
 

@@ -6,9 +6,9 @@ use lib.ListN.{replicate, getD-replicate, length}
 use borrow.Author.Tests.{not-true, not-false}
 use Rattle.meaning.specs.Tables.{at}
 use Rattle.meaning.specs.Bounds.{STEPS}
-use Rattle.leaf.specs.Decides.{decides-no}
+use Rattle.lent.specs.Decides.{decides-no}
 use Rattle.sound.proofs.Entering.{few, empty}
-use Rattle.leaf.specs.Lent.{first}
+use Rattle.lent.specs.Lent.{first}
 use Rattle.sound.proofs.Grounding.{grounding-start, grounding-on, count-decides, Grounding}
 use Rattle.sound.proofs.is_earliest.Statement.{statement}
 use Rattle.sound.proofs.is_earliest.Tie as tie

@@ -7,7 +7,7 @@ use lib.ListN.{length}
 use borrow.Author.Needs.{needs}
 use borrow.Author.Tests.{not-true, not-false}
 use Rattle.meaning.specs.Tables.{Tables, InCounts}
-use Rattle.leaf.specs.Lent.{tables}
+use Rattle.lent.specs.Lent.{tables}
 use Rattle.chains.specs.Chains.{Chained}
 use Rattle.sound.specs.Parts.{AllIn}
 use Rattle.sound.proofs.Answers.{room-for-fewer, testable-on, tested-no, chains-room, ready, tested-by-days}

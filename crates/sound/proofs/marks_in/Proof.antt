@@ -3,7 +3,7 @@ use Prim.Native.Nat.{_≤_, _-_}
 use native.Mathlib.Omega.{arith}
 use mathlib.Core.Path.{_≡_, refl}
 use borrow.Author.Needs.{needs}
-use Rattle.leaf.specs.Decides.{decides-no}
+use Rattle.lent.specs.Decides.{decides-no}
 use Rattle.sound.proofs.Marks.{Passed, passed-none, passed-more, refused, last-test}
 use Rattle.sound.proofs.marks_in.Statement.{statement}
 use Rattle.sound.proofs.marks_in.Tie as tie

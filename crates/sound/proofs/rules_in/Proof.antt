@@ -9,8 +9,8 @@ use borrow.Author.Tests.{not-true, not-false}
 use borrow.Author.Needs.{needs}
 use Rattle.meaning.specs.Rules.{InBounds}
 use Rattle.meaning.specs.Tables.{rule-at}
-use Rattle.leaf.specs.Lent.{columns}
-use Rattle.leaf.specs.Decides.{decides-yes, decides-no}
+use Rattle.lent.specs.Lent.{columns}
+use Rattle.lent.specs.Decides.{decides-yes, decides-no}
 use Rattle.chains.specs.Chains.{Chained}
 use Rattle.chains.proofs.Laws.{chained-none, chained-more}
 use Rattle.sound.specs.Parts.{AllIn}

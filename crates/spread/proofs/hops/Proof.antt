@@ -1,6 +1,6 @@
 -- `spread::hops` meets its contract. The loop's invariant: the walk back from x has come to v in k hops. The measure is how many steps there are
 -- besides those passed.
-use Rattle.leaf.specs.Lent.{first}
+use Rattle.lent.specs.Lent.{first}
 use Prim.Native.Nat.{_-_}
 use Rattle.spread.proofs.Ringing.{Hop, hop, WalkedBack, back-none, back-more, back-few, back-done}
 use native.Mathlib.Omega.{arith}

@@ -1,5 +1,5 @@
 -- `spread::relax_all` meets its contract. The loop's invariant: the rules of x from the link on have been relaxed. The measure is the link.
-use Rattle.leaf.specs.Lent.{first}
+use Rattle.lent.specs.Lent.{first}
 use Rattle.chains.specs.Chains.{number}
 use Rattle.chains.proofs.Laws.{next-in}
 use Prim.Native.Nat.{suc, _-_, _<_}

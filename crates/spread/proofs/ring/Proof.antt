@@ -1,6 +1,6 @@
 -- `spread::ring` meets its contract. The loop's invariant: the ring is written from its end as far as place j, where the walk back has come to v.
 -- The measure is the place.
-use Rattle.leaf.specs.Lent.{first}
+use Rattle.lent.specs.Lent.{first}
 use Prim.Native.Nat.{_-_, _≤_, _<_}
 use mathlib.Core.Path.{_≡_, refl, _∙_}
 use lib.ListN.{length, set, length-set}

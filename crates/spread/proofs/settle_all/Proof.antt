@@ -1,6 +1,6 @@
 -- `spread::settle_all` meets its contract. The loop's invariant: a turn can be made, and the state is one between two turns. The measure is how
 -- many steps are without gain or in the list, which each turn brings down.
-use Rattle.leaf.specs.Lent.{first}
+use Rattle.lent.specs.Lent.{first}
 use Rattle.chains.specs.Chains.{number}
 use Prim.Native.Nat.{ℕ, _+_, _≤_}
 use mathlib.Core.Path.{_≡_, refl, _∙_}

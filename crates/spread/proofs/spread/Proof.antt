@@ -1,5 +1,5 @@
 -- `spread::spread` meets its contract: the steps with a gain are collected, and then all turns made.
-use Rattle.leaf.specs.Lent.{first}
+use Rattle.lent.specs.Lent.{first}
 use Prim.Native.Nat.{_+_}
 use mathlib.Core.Path.{refl}
 use Rattle.meaning.specs.Tables.{at}

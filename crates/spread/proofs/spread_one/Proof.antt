@@ -1,5 +1,5 @@
 -- `spread::spread_one` meets its contract: one step is given its gain, and then all turns made.
-use Rattle.leaf.specs.Lent.{first}
+use Rattle.lent.specs.Lent.{first}
 use Prim.Native.Nat.{ℕ, _+_, _^_, _<_}
 use native.Mathlib.Decide.{ℕ-discrete}
 use mathlib.Core.Path.{_≡_, _∙_, ap}

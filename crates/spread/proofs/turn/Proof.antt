@@ -1,5 +1,5 @@
 -- `spread::turn` meets its contract.
-use Rattle.leaf.specs.Lent.{first}
+use Rattle.lent.specs.Lent.{first}
 use Rattle.chains.specs.Chains.{number}
 use mathlib.Core.Path.{refl, sym}
 use Rattle.meaning.specs.Tables.{at}

@@ -4,7 +4,7 @@ use mathlib.Core.List.{List, [], _∷_, _++_}
 use Prim.Native.Nat.{ℕ}
 use Rattle.text.specs.Lexicon.{bytes}
 use Rattle.write.specs.Written.{decimal}
-use Rattle.script.proofs.Lengths.{pair-long}
+use Rattle.script_meaning.proofs.Lengths.{pair-long}
 use Rattle.values.proofs.Wrote.{wrote-both}
 use borrow.Author.Needs.{needs}
 use Rattle.values.proofs.put_pair.Statement.{statement}

@@ -1,0 +1,105 @@
+-- `inner_add::fit`: a rule that the days keep is held at once; else `fit_with` tells, over lists of zeros.
+use Rattle.lent.specs.Lent.{first}
+use Rattle.chains.specs.Chains.{number}
+use Prim.Native.Nat.{_≤_, _<_}
+use mathlib.Core.Path.{_≡_}
+use mathlib.Core.Bool.{true, false, true≢false}
+use mir.Syntax.{w32}
+use mir.ValLaws.{toZ-ofZ}
+use Rattle.inner_add.specs.Planning.{Lack}
+use Rattle.inner_add.proofs.Answers.{placed, taken-at-once, no-gains}
+use native.Mathlib.Omega.{arith}
+use borrow.Author.Needs.{needs}
+use Rattle.inner_add.proofs.fit.Statement.{statement}
+use Rattle.inner_add.proofs.fit.Tie as tie
+use Rattle.inner_add.proofs.fit.Reads as reads
+use Rattle.inner_add.proofs.fit.Lts as lts
+use Rattle.inner_watch.proofs.write_rule.Reads as write-rule-reads
+use Rattle.inner_add.proofs.fit_with.Reads as fit-with-reads
+use Rattle.inner_add.proofs.lack.Reads as lack-reads
+
+lack-requires : tie.Need-lack-requires
+lack-requires c κs =
+    let start = c .before .before .before .before .before .before in
+    (omega (arith, start .pre .new-good .steps-in .first-in, start .pre .base .ground .days-room), omega (arith, start .pre .new-good .steps-in .second-in, start .pre .base .ground .days-room))
+
+write-rule-requires : tie.Need-write-rule-requires
+write-rule-requires c κs =
+    let start = c .before .before .before .before .before .before .before .before .before .before .before in
+    placed (start .args .xs .now) (start .args .ys .now) (start .args .cs .now) (start .args .m) (start .pre .base .columns-room) (start .pre .not-full)
+
+same-length : tie.Need-same-length
+same-length c = search needs
+
+same-length-2 : tie.Need-same-length-2
+same-length-2 c = search needs
+
+same-length-3 : tie.Need-same-length-3
+same-length-3 c = search needs
+
+same-length-4 : tie.Need-same-length-4
+same-length-4 c = search needs
+
+returns : tie.Need-returns
+returns c =
+    let start = c .before .before .before .before .before .before .before .before .before .before .before .before .before .before .before .before .before in
+    let lack = c .before .before .before .before .before .before .before .before .before .before .lack in
+    let if1 = c .before .before .before .before .before .before .before .before .before .if1 in
+    let write-rule = c .before .before .before .before .before .write-rule in
+    let args = start .args in
+    let l : Lack (args .days .now) (args .x) (args .y) (args .c) (lack .result) = rw (toZ-ofZ w32 (args .c) (start .fits .c)) at (lack .ensures) in
+    record {
+      when-fits = λ e.
+          taken-at-once (args .n) (first (args .m)) number (args .m) (args .xs .now) (args .ys .now) (args .cs .now) (args .days .now) (args .heads .now) (args .nexts .now) (args .x) (args .y) (args .c) (start .pre)
+          (l .none (if1 .taken)) _ (rw (toZ-ofZ w32 (args .c) (start .fits .c)) at (write-rule .ensures));
+      when-not = λ e. absurd (true≢false e);
+    }
+
+slice-aggregate-fit-with : tie.Need-slice-aggregate-fit-with
+slice-aggregate-fit-with c = search needs
+
+slice-aggregate-fit-with-2 : tie.Need-slice-aggregate-fit-with-2
+slice-aggregate-fit-with-2 c = search needs
+
+fit-with-requires : tie.Need-fit-with-requires
+fit-with-requires c κs =
+    let start = c .before .before .before .before .before .before .before .before .before .before .before .before .before .before in
+    (rw (toZ-ofZ w32 (start .args .c) (start .fits .c)) (start .pre), no-gains (start .args .n) (start .pre .base .ground .steps-in))
+
+same-length-5 : tie.Need-same-length-5
+same-length-5 c = search needs
+
+same-length-6 : tie.Need-same-length-6
+same-length-6 c = search needs
+
+same-length-7 : tie.Need-same-length-7
+same-length-7 c = search needs
+
+same-length-8 : tie.Need-same-length-8
+same-length-8 c = search needs
+
+returns-2 : tie.Need-returns-2
+returns-2 c =
+    let start = c .before .before .before .before .before .before .before .before .before .before .before .before .before .before .before .before .before .before .before .before .before .before .before .before in
+    let fit-with = c .before .before .before .before .before .before .before .before .before .fit-with in
+    (rw (toZ-ofZ w32 (start .args .c) (start .fits .c)) at (fit-with .ensures)) .tells
+
+pub fit-spec : {M : Type 1} → statement M
+fit-spec =
+    tie.close
+    (tie.spec
+    lack-requires
+    write-rule-requires
+    same-length
+    same-length-2
+    same-length-3
+    same-length-4
+    returns
+    slice-aggregate-fit-with
+    slice-aggregate-fit-with-2
+    fit-with-requires
+    same-length-5
+    same-length-6
+    same-length-7
+    same-length-8
+    returns-2)

@@ -1,0 +1,67 @@
+-- `inner_add::lack`: the two sides of the test are the rule's, both with 2147483648 added.
+use Prim.Native.Nat.{_+_, _<_}
+use mathlib.Core.Path.{_≡_}
+use mir.Syntax.{w32}
+use mir.ValLaws.{toZ-ofZ}
+use Rattle.lent.specs.Lent.{Biased}
+use Rattle.lent.specs.Promises.{rule}
+use Rattle.meaning.specs.Tables.{at}
+use Rattle.meaning.proofs.Whole.{→plan}
+use native.Mathlib.Omega.{arith}
+use borrow.Author.Needs.{needs}
+use Rattle.inner_add.proofs.lack.Statement.{statement}
+use Rattle.inner_add.proofs.lack.Tie as tie
+use Rattle.inner_add.proofs.lack.Reads as reads
+use Rattle.inner_add.proofs.lack.Lts as lts
+use Rattle.lent.proofs.biased.Reads as biased-reads
+use Rattle.lent.proofs.day_at.Reads as day-at-reads
+
+day-at-requires : tie.Need-day-at-requires
+day-at-requires c κs = search needs
+
+add-asked : tie.Need-add-asked
+add-asked c = omega (arith, c .day-at .ensures, c .before .shared-slice-known .given (c .before .before .args .x))
+
+day-at-requires-2 : tie.Need-day-at-requires-2
+day-at-requires-2 c κs = search needs
+
+biased-requires : tie.Need-biased-requires
+biased-requires c κs = search needs
+
+add-given : tie.Need-add-given
+add-given c = omega (arith, c .before .day-at2 .ensures, c .before .before .before .shared-slice-known .given (c .before .before .before .before .args .y), c .biased .ensures .narrow)
+
+returns : tie.Need-returns
+returns c =
+    let b : Biased (c .before .before .before .before .before .args .c) (c .before .biased .result) = rw (toZ-ofZ w32 (c .before .before .before .before .before .args .c) (c .before .before .before .before .before .fits .c)) at (c .before .biased .ensures) in
+    record {
+      none = λ e. →plan (at (c .before .before .before .before .before .args .days .now)) (rule (c .before .before .before .before .before .args .x) (c .before .before .before .before .before .args .y) (c .before .before .before .before .before .args .c))
+          (omega (arith, c .if1 .taken, c .before .before .before .day-at .ensures, c .before .before .day-at2 .ensures, b .is));
+      some = λ h. absurd (omega (arith, h));
+      small = omega arith;
+    }
+
+sub-result : tie.Need-sub-result
+sub-result c = search needs
+
+returns-2 : tie.Need-returns-2
+returns-2 c =
+    let b : Biased (c .before .before .before .before .before .args .c) (c .before .biased .result) = rw (toZ-ofZ w32 (c .before .before .before .before .before .args .c) (c .before .before .before .before .before .fits .c)) at (c .before .biased .ensures) in
+    record {
+      none = λ e. absurd (omega (arith, e, c .if1 .left));
+      some = λ h. omega (arith, c .if1 .left, c .before .before .before .day-at .ensures, c .before .before .day-at2 .ensures, b .is);
+      small = omega (arith, c .before .before .before .day-at .ensures, c .before .before .before .before .shared-slice-known .given (c .before .before .before .before .before .args .x));
+    }
+
+pub lack-spec : {M : Type 1} → statement M
+lack-spec =
+    tie.close
+    (tie.spec
+    day-at-requires
+    add-asked
+    day-at-requires-2
+    biased-requires
+    add-given
+    returns
+    sub-result
+    returns-2)

@@ -1,0 +1,93 @@
+-- `inner_back::back` meets its contract: no open mark is NOMARK; else the rules under the newest mark are kept and planned, as the promise says.
+use Prim.Native.Nat.{_-_}
+use mathlib.Core.Path.{refl}
+use mathlib.Core.Logic.{inl, inr}
+use Rattle.meaning.specs.Bounds.{NOMARK}
+use Rattle.meaning.proofs.Needs.{obeys-done, obeys-refused}
+use Rattle.inner_back.proofs.Dropping.{droppable}
+use native.Mathlib.Omega.{arith}
+use borrow.Author.Needs.{needs}
+use Rattle.inner_back.proofs.back.Statement.{statement}
+use Rattle.inner_back.proofs.back.Tie as tie
+use Rattle.inner_back.proofs.back.Reads as reads
+use Rattle.inner_back.proofs.back.Lts as lts
+use Rattle.inner_back.proofs.keep_first.Reads as keep-first-reads
+use Rattle.meaning.proofs.done.Reads as done-reads
+use Rattle.meaning.proofs.marks_now.Reads as marks-now-reads
+use Rattle.meaning.proofs.refused.Reads as refused-reads
+use Rattle.meaning.proofs.rules_now.Reads as rules-now-reads
+
+cast-open : tie.Need-cast-open
+cast-open c = search needs
+
+refused-requires : tie.Need-refused-requires
+refused-requires c κs = search needs
+
+returns : tie.Need-returns
+returns c =
+    rw (c .refused .ensures)
+    (obeys-refused _ _ NOMARK (λ e. omega arith) (λ e. omega arith)
+    (inr (c .before .before .before .before .before .before .before .before .before .pre .room, inr (c .before .before .before .before .before .before .before .before .before .pre .sound, inl (refl, λ some. omega (arith, c .before .if1 .taken))))))
+
+sub-mark : tie.Need-sub-mark
+sub-mark c = search needs
+
+mul-mark : tie.Need-mul-mark
+mul-mark c = search needs
+
+shared-slice-read-mark : tie.Need-shared-slice-read-mark
+shared-slice-read-mark c = search needs
+
+cast-keep-first : tie.Need-cast-keep-first
+cast-keep-first c = search needs
+
+cast-keep-first-2 : tie.Need-cast-keep-first-2
+cast-keep-first-2 c = search needs
+
+cast-keep-first-3 : tie.Need-cast-keep-first-3
+cast-keep-first-3 c = omega (arith, c .before .before .shared-slice-known6 .given (c .before .before .before .before .before .before .before .before .before .before .before .args .counts .marks - 1))
+
+keep-first-requires : tie.Need-keep-first-requires
+keep-first-requires c κs = droppable (c .before .before .before .before .before .before .before .before .before .before .before .before .pre) (omega (arith, c .before .before .before .before .if1 .left))
+
+sub-left : tie.Need-sub-left
+sub-left c = search needs
+
+rules-now-requires : tie.Need-rules-now-requires
+rules-now-requires c κs = search needs
+
+marks-now-requires : tie.Need-marks-now-requires
+marks-now-requires c κs = search needs
+
+done-requires : tie.Need-done-requires
+done-requires c κs = search needs
+
+same-length : tie.Need-same-length
+same-length c = search needs
+
+returns-2 : tie.Need-returns-2
+returns-2 c =
+    rw (c .done .ensures, c .before .marks-now .ensures, c .before .before .rules-now .ensures)
+    (obeys-done _ _ 0 0 _ (c .before .before .before .before .before .before .before .before .before .before .before .before .before .before .before .before .before .before .before .pre .room, (c .before .before .before .before .before .before .before .before .before .before .before .before .before .before .before .before .before .before .before .pre .sound, (omega (arith, c .before .before .before .before .before .before .before .before .before .before .before .if1 .left), tt)))
+    (record { no-values = (refl, refl); dropped = refl; planned = c .before .before .before .before .before .before .keep-first .ensures }))
+
+pub back-spec : {M : Type 1} → statement M
+back-spec =
+    tie.close
+    (tie.spec
+    cast-open
+    refused-requires
+    returns
+    sub-mark
+    mul-mark
+    shared-slice-read-mark
+    cast-keep-first
+    cast-keep-first-2
+    cast-keep-first-3
+    keep-first-requires
+    sub-left
+    rules-now-requires
+    marks-now-requires
+    done-requires
+    same-length
+    returns-2)

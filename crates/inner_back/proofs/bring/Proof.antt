@@ -1,0 +1,101 @@
+-- `inner_back::bring` meets its contract. The loop's invariant: each day passed is brought, and the others are as before. The measure is what is left of
+-- the steps.
+use Prim.Native.Nat.{_+_, _-_, _^_, _≤_, _<_}
+use mathlib.Core.Path.{_≡_}
+use Rattle.meaning.specs.Tables.{at}
+use Rattle.inner_back.specs.Replan.{Brought}
+use Rattle.inner_back.proofs.Passing.{brought-none, brought-more}
+use borrow.Author.Needs.{needs}
+use native.Mathlib.Omega.{arith}
+use Rattle.inner_back.proofs.bring.Statement.{statement}
+use Rattle.inner_back.proofs.bring.Tie as tie
+
+abbrev Inv-loop : tie.InvT-loop
+Inv-loop n k gains days₀ v₀ days v = (v ≤ n) × Brought v k gains days₀ days
+
+abbrev μ-loop : tie.MeasureT-loop
+μ-loop n k gains days₀ v₀ days v = n - v
+
+loop-holds : tie.Need-loop-holds Inv-loop μ-loop
+loop-holds c = (omega arith, brought-none (c .before .before .args .k) (c .before .before .args .gains .now) (c .before .before .args .days .now))
+
+mul-gain : tie.Need-mul-gain Inv-loop μ-loop
+mul-gain c = search needs
+
+shared-slice-read-gain : tie.Need-shared-slice-read-gain Inv-loop μ-loop
+shared-slice-read-gain c = search needs
+
+day-at-requires : tie.Need-day-at-requires Inv-loop μ-loop
+day-at-requires c κs = search needs
+
+-- The day read is that before the loop, so with its gain it is not before k and is past it by what fits a u32.
+day-at-hand :
+    (c : tie.After-day-at Inv-loop μ-loop) →
+    (c .before .before .before .before .before .before .before .args .k ≤ c .day-at .result + at (c .before .before .before .before .before .before .before .args .gains .now) (c .before .before .before .before .loop .v))
+    × (c .day-at .result + at (c .before .before .before .before .before .before .before .args .gains .now) (c .before .before .before .before .loop .v) < c .before .before .before .before .before .before .before .args .k + 2 ^ 32)
+    × (c .before .before .before .before .before .before .before .args .k < 2 ^ 32)
+day-at-hand c =
+    let pre = c .before .before .before .before .before .before .before .pre in
+    let v = c .before .before .before .before .loop .v in
+    let v-in = c .before .before .before .loop-test .taken in
+    let day-is = c .before .before .before .before .loop .inv .1 .past .kept v (omega arith) in
+    omega (arith, c .day-at .ensures, day-is, pre .narrow, pre .not-before v v-in, pre .fits v v-in)
+
+add-days : tie.Need-add-days Inv-loop μ-loop
+add-days c = omega (arith, day-at-hand c)
+
+sub-days : tie.Need-sub-days Inv-loop μ-loop
+sub-days c = omega (arith, day-at-hand c)
+
+cast-days : tie.Need-cast-days Inv-loop μ-loop
+cast-days c = omega (arith, day-at-hand c)
+
+mul-days : tie.Need-mul-days Inv-loop μ-loop
+mul-days c = search needs
+
+slice-write-days : tie.Need-slice-write-days Inv-loop μ-loop
+slice-write-days c = search needs
+
+add-v : tie.Need-add-v Inv-loop μ-loop
+add-v c = search needs
+
+loop-less : tie.Need-loop-less Inv-loop μ-loop
+loop-less c = search needs
+
+loop-again : tie.Need-loop-again Inv-loop μ-loop
+loop-again c =
+    let v-in = c .before .before .before .loop-test .taken in
+    let passed = c .before .before .before .before .loop .inv .1 in
+    rw (c .day-at .ensures) (
+      omega (arith, v-in),
+      brought-more passed (omega (arith, v-in, passed .past .same-length, c .before .before .before .before .before .before .before .pre .days-room)) _ (omega arith),
+    )
+
+same-length : tie.Need-same-length Inv-loop μ-loop
+same-length c = c .before .loop .inv .1 .past .same-length
+
+returns : tie.Need-returns Inv-loop μ-loop
+returns c =
+    let all : c .before .loop .v ≡ c .before .before .before .before .args .n = omega (arith, c .before .loop .inv .0, c .loop-test .left) in
+    rw all at (c .before .loop .inv .1)
+
+pub bring-spec : {M : Type 1} → statement M
+bring-spec =
+    tie.close
+    (tie.spec
+    Inv-loop
+    μ-loop
+    loop-holds
+    mul-gain
+    shared-slice-read-gain
+    day-at-requires
+    add-days
+    sub-days
+    cast-days
+    mul-days
+    slice-write-days
+    add-v
+    loop-less
+    loop-again
+    same-length
+    returns)

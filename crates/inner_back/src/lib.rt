@@ -1,0 +1,156 @@
+// Back on tables that are known to have room and to be sound. The days keep the rules that stay, but may be later than those rules ask: so each step
+// is asked to reach the latest day, the gains for that are spread over the rules that stay, and all days are brought back by the latest day. What a
+// spread gives is the earliest plan from the asked days on, so what is left is the earliest plan.
+ghost use Prim.Native.Nat.{_≤_};
+ghost use lib.ListN.{length};
+ghost use Rattle.meaning.specs.Bounds.{RULES};
+ghost use Rattle.meaning.specs.Promise.{Planned};
+ghost use Rattle.lent.specs.Lent.{tables};
+ghost use Rattle.lent.specs.Promises.{Border, GoesBack};
+ghost use Rattle.lent.specs.Lent.{first};
+ghost use Rattle.spread.specs.Ground.{rules};
+ghost use Rattle.inner_back.specs.Replan.{Plannable, Droppable, PlanRoom, LatestDay, Reachable, Reaches, Bringable, Brought};
+use meaning::Counts;
+use meaning::Reply;
+
+// Back: NOMARK where no mark is open; else the newest mark and the rules after it are dropped, and the days are the earliest plan of the rest.
+pub fn back(
+    counts: Counts,
+    xs: &[u16],
+    ys: &[u16],
+    cs: &[i32],
+    days: &mut [u32],
+    marks: &[u32],
+    wxs: &[u16],
+    wys: &[u16],
+    wcs: &[i32],
+) -> Reply
+    requires { ⌜ Border (tables counts (now xs) (now ys) (now cs) (now days) (now marks) (now wxs) (now wys) (now wcs)) ⌝ }
+    ensures { λ r. ⌜
+        GoesBack counts (now (xs .entry)) (now (ys .entry)) (now (cs .entry)) (now (days .entry)) (now (marks .entry))
+        (now (wxs .entry)) (now (wys .entry)) (now (wcs .entry)) r (now (days .exit)) ⌝ }
+{
+    let open = counts.marks as usize;
+    if open == 0 {
+        return meaning::refused(counts, meaning::NOMARK);
+    }
+    let mark = marks[open - 1];
+    keep_first(
+        counts.steps as usize,
+        counts.rules as usize,
+        mark as usize,
+        xs,
+        ys,
+        cs,
+        days,
+    );
+    let left = counts.marks - 1;
+    meaning::done(
+        meaning::marks_now(meaning::rules_now(counts, mark), left),
+        0,
+        0,
+    )
+}
+
+// Brings the days of n steps, which are the earliest plan of m rules, to the earliest plan of the first k of them. Where k is m nothing changes.
+pub fn keep_first(
+    n: usize,
+    m: usize,
+    k: usize,
+    xs: &[u16],
+    ys: &[u16],
+    cs: &[i32],
+    days: &mut [u32],
+)
+    requires { ⌜ Droppable n (first m) (first k) (now xs) (now ys) (now cs) (now days) ⌝ }
+    ensures { λ _. ⌜ Planned n (rules (now (xs .entry)) (now (ys .entry)) (now (cs .entry))) (first k) (now (days .entry)) (now (days .exit)) ⌝ }
+{
+    if k == m {
+        return;
+    }
+    plan(n, k, xs, ys, cs, days);
+}
+
+// Brings the days of n steps, which keep each of m rules, to the earliest plan of those rules.
+fn plan(n: usize, m: usize, xs: &[u16], ys: &[u16], cs: &[i32], days: &mut [u32])
+    requires { ⌜ Plannable n (first m) (now xs) (now ys) (now cs) (now days) ⌝ }
+    requires { ⌜ m ≤ RULES ⌝ }
+    ensures { λ _. ⌜ Planned n (rules (now (xs .entry)) (now (ys .entry)) (now (cs .entry))) (first m) (now (days .entry)) (now (days .exit)) ⌝ }
+{
+    let mut heads = [0u16; meaning::STEPS];
+    let mut nexts = [0u16; meaning::RULES];
+    let mut gains = [0u64; meaning::STEPS];
+    let mut by = [0u16; meaning::STEPS];
+    plan_with(
+        n,
+        m,
+        xs,
+        ys,
+        cs,
+        days,
+        &mut heads,
+        &mut nexts,
+        &mut gains,
+        &mut by,
+    );
+}
+
+// The same, where the lists for the chains, the gains and the rules they come by are lent.
+fn plan_with(
+    n: usize,
+    m: usize,
+    xs: &[u16],
+    ys: &[u16],
+    cs: &[i32],
+    days: &mut [u32],
+    heads: &mut [u16],
+    nexts: &mut [u16],
+    gains: &mut [u64],
+    by: &mut [u16],
+)
+    requires { ⌜ Plannable n (first m) (now xs) (now ys) (now cs) (now days) ⌝ }
+    requires { ⌜ PlanRoom n m (now heads) (now nexts) (now gains) (now by) ⌝ }
+    ensures { λ _. ⌜ Planned n (rules (now (xs .entry)) (now (ys .entry)) (now (cs .entry))) (first m) (now (days .entry)) (now (days .exit)) ⌝ }
+{
+    chains::build(n, m, xs, heads, nexts);
+    let latest = latest_day(n, days);
+    ask(n, latest, days, gains);
+    spread::spread(n, m, xs, ys, cs, days, heads, nexts, n, gains, by);
+    bring(n, latest, gains, days);
+}
+
+// The latest of the first n days, and 0 where n is 0.
+fn latest_day(n: usize, days: &[u32]) -> u64
+    requires { ⌜ n ≤ length (now days) ⌝ }
+    ensures { λ r. ⌜ LatestDay n (now (days .entry)) r ⌝ }
+{
+    let mut latest = 0;
+    for v in 0..n {
+        let day = lent::day_at(days, v);
+        if latest < day {
+            latest = day;
+        }
+    }
+    latest
+}
+
+// Gives each of the first n steps the gain that brings its day to k.
+fn ask(n: usize, k: u64, days: &[u32], gains: &mut [u64])
+    requires { ⌜ Reachable n k (now days) (now gains) ⌝ }
+    ensures { λ _. ⌜ Reaches n k (now (days .entry)) (now (gains .exit)) ⌝ }
+{
+    for v in 0..n {
+        gains[v] = k - lent::day_at(days, v);
+    }
+}
+
+// Brings each of the first n days up by its gain and back by k.
+fn bring(n: usize, k: u64, gains: &[u64], days: &mut [u32])
+    requires { ⌜ Bringable n k (now gains) (now days) ⌝ }
+    ensures { λ _. ⌜ Brought n k (now (gains .entry)) (now (days .entry)) (now (days .exit)) ⌝ }
+{
+    for v in 0..n {
+        let gain = gains[v];
+        days[v] = (lent::day_at(days, v) + gain - k) as u32;
+    }
+}

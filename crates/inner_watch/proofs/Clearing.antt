@@ -1,0 +1,26 @@
+-- Setting days to 0, one step more each time.
+use Prim.Native.Nat.{ℕ, _+_, _<_}
+use native.Mathlib.Omega.{arith}
+use native.Mathlib.Decide.{ℕ-discrete}
+use mathlib.Core.Path.{_≡_, refl, sym, _∙_, subst}
+use mathlib.Core.List.{List}
+use lib.ListN.{length, set, length-set}
+use lib.Seq.{getD-set-same, getD-set-other}
+use Rattle.meaning.specs.Tables.{at}
+use Rattle.inner_watch.specs.Cleared.{Cleared}
+
+pub cleared-none : (days : List ℕ) → Cleared 0 days days
+cleared-none days = record { day-0 = λ v h. absurd (omega arith); past = record { same-length = refl; kept = λ i h. refl } }
+
+pub cleared-more : (v : ℕ) (before days : List ℕ) → v < length days → Cleared v before days → Cleared (v + 1) before (set days v 0)
+cleared-more v before days place r = record {
+  day-0 = λ w h. tell w (ℕ-discrete w v) h;
+  past = record {
+    same-length = length-set days v 0 ∙ r .past .same-length;
+    kept = λ i h. getD-set-other days v i 0 0 (λ e. omega arith) ∙ r .past .kept i (omega arith);
+  };
+}
+  where
+    tell : (w : ℕ) → Dec (w ≡ v) → w < v + 1 → at (set days v 0) w ≡ 0
+    tell w (yes e) h = subst (λ z. at (set days v 0) z ≡ 0) (sym e) (getD-set-same days v 0 0 place)
+    tell w (no n) h = getD-set-other days v w 0 0 n ∙ r .day-0 w (omega arith)

@@ -1,0 +1,59 @@
+-- `inner_watch::mark`: no place left is FULL; else one cell and one count are written, as the promise says.
+use mathlib.Core.Path.{refl}
+use mathlib.Core.Logic.{inl, inr}
+use Rattle.meaning.specs.Bounds.{FULL}
+use Rattle.meaning.proofs.Needs.{obeys-done, obeys-refused}
+use native.Mathlib.Omega.{arith}
+use borrow.Author.Needs.{needs}
+use Rattle.inner_watch.proofs.mark.Statement.{statement}
+use Rattle.inner_watch.proofs.mark.Tie as tie
+use Rattle.inner_watch.proofs.mark.Reads as reads
+use Rattle.inner_watch.proofs.mark.Lts as lts
+use Rattle.meaning.proofs.done.Reads as done-reads
+use Rattle.meaning.proofs.marks_now.Reads as marks-now-reads
+use Rattle.meaning.proofs.refused.Reads as refused-reads
+
+cast-at : tie.Need-cast-at
+cast-at c = search needs
+
+refused-requires : tie.Need-refused-requires
+refused-requires c κs = search needs
+
+returns : tie.Need-returns
+returns c = rw (c .refused .ensures) (obeys-refused _ _ FULL (λ e. omega arith) (λ e. omega arith) (inr (c .before .before .before .before .before .before .before .before .before .pre .room, inr (c .before .before .before .before .before .before .before .before .before .pre .sound, inl (refl, λ h. omega arith)))))
+
+mul-marks : tie.Need-mul-marks
+mul-marks c = search needs
+
+slice-write-marks : tie.Need-slice-write-marks
+slice-write-marks c = search needs
+
+add-marks-now : tie.Need-add-marks-now
+add-marks-now c = search needs
+
+marks-now-requires : tie.Need-marks-now-requires
+marks-now-requires c κs = search needs
+
+done-requires : tie.Need-done-requires
+done-requires c κs = search needs
+
+same-length : tie.Need-same-length
+same-length c = search needs
+
+returns-2 : tie.Need-returns-2
+returns-2 c = rw (c .done .ensures, c .before .marks-now .ensures) (obeys-done _ _ 0 0 _ (c .before .before .before .before .before .before .before .before .before .before .before .pre .room, (c .before .before .before .before .before .before .before .before .before .before .before .pre .sound, (omega arith, tt))) (record { no-values = (refl, refl); marked = refl }))
+
+pub mark-spec : {M : Type 1} → statement M
+mark-spec =
+    tie.close
+    (tie.spec
+    cast-at
+    refused-requires
+    returns
+    mul-marks
+    slice-write-marks
+    add-marks-now
+    marks-now-requires
+    done-requires
+    same-length
+    returns-2)

@@ -1,0 +1,95 @@
+// Reading the lent tables, and the exact test of one rule. An amount c is read as c + 2147483648, which is never below 0, so that
+// every sum and every comparison of days and amounts is one of u64.
+ghost use mathlib.Core.Path.{_≡_};
+ghost use Prim.Native.Nat.{_<_};
+ghost use lib.ListN.{length, getD};
+ghost use lib.IntN.{pos};
+ghost use Rattle.meaning.specs.Rules.{InAmount, InBounds};
+ghost use Rattle.meaning.specs.Tables.{rule-at};
+ghost use Rattle.lent.specs.Decides.{Decides};
+ghost use Rattle.lent.specs.Lent.{columns, Biased, KeptAt, Placed, Limited, Dated, Limit, Spare};
+
+// The number at place i: a step, or a link of a chain.
+pub fn number_at(list: &[u16], i: usize) -> usize
+    requires { ⌜ i < length (now list) ⌝ }
+    ensures { λ r. ⌜ r ≡ getD (now (list .entry)) i 0 ⌝ }
+{
+    list[i] as usize
+}
+
+// The day at place i.
+pub fn day_at(list: &[u32], i: usize) -> u64
+    requires { ⌜ i < length (now list) ⌝ }
+    ensures { λ r. ⌜ r ≡ getD (now (list .entry)) i 0 ⌝ }
+{
+    list[i] as u64
+}
+
+// The amount c as c + 2147483648.
+pub fn biased(c: i32) -> u64
+    ensures { λ r. ⌜ Biased c r ⌝ }
+{
+    (c as i64 + 2147483648) as u64
+}
+
+// The amount c at place i, as c + 2147483648.
+pub fn amount_at(list: &[i32], i: usize) -> u64
+    requires { ⌜ i < length (now list) ⌝ }
+    ensures { λ r. ⌜ Biased (getD (now (list .entry)) i (pos 0)) r ⌝ }
+{
+    biased(list[i])
+}
+
+// Whether the amount is within its bound.
+pub fn amount_fits(c: i32) -> bool
+    ensures { λ r. ⌜ Decides r (InAmount c) ⌝ }
+{
+    -meaning::LARGEST <= c && c <= meaning::LARGEST
+}
+
+// Whether the amount at place i is within its bound.
+pub fn amount_in(list: &[i32], i: usize) -> bool
+    requires { ⌜ i < length (now list) ⌝ }
+    ensures { λ r. ⌜ Decides r (InAmount (getD (now (list .entry)) i (pos 0))) ⌝ }
+{
+    amount_fits(list[i])
+}
+
+// Whether the rule under i is within bounds, over n steps.
+pub fn rule_in(n: usize, xs: &[u16], ys: &[u16], cs: &[i32], i: usize) -> bool
+    requires { ⌜ Placed (now xs) (now ys) (now cs) i ⌝ }
+    ensures { λ r. ⌜ Decides r (InBounds n (rule-at (columns (now (xs .entry)) (now (ys .entry)) (now (cs .entry))) i)) ⌝ }
+{
+    if n <= number_at(xs, i) {
+        return false;
+    }
+    if n <= number_at(ys, i) {
+        return false;
+    }
+    amount_in(cs, i)
+}
+
+// The latest day that the rule under i leaves its first step, as that day + 2147483648: the day of the second step plus the amount.
+pub fn latest(ys: &[u16], cs: &[i32], days: &[u32], i: usize) -> u64
+    requires { ⌜ Limited (now ys) (now cs) (now days) i ⌝ }
+    ensures { λ r. ⌜ Limit (now (ys .entry)) (now (cs .entry)) (now (days .entry)) i r ⌝ }
+{
+    day_at(days, number_at(ys, i)) + amount_at(cs, i)
+}
+
+// Whether the days keep the rule under i.
+pub fn kept(xs: &[u16], ys: &[u16], cs: &[i32], days: &[u32], i: usize) -> bool
+    requires { ⌜ Dated (now xs) (now ys) (now cs) (now days) i ⌝ }
+    ensures { λ r. ⌜ Decides r (KeptAt (now (xs .entry)) (now (ys .entry)) (now (cs .entry)) (now (days .entry)) i) ⌝ }
+{
+    day_at(days, number_at(xs, i)) + 2147483648 <= latest(ys, cs, days, i)
+}
+
+// How many days the rule under i, which the days keep, has to spare.
+pub fn slack(xs: &[u16], ys: &[u16], cs: &[i32], days: &[u32], i: usize) -> u64
+    requires { ⌜ Dated (now xs) (now ys) (now cs) (now days) i ⌝ }
+    requires { ⌜ KeptAt (now xs) (now ys) (now cs) (now days) i ⌝ }
+    ensures { λ r. ⌜ Spare (now (xs .entry)) (now (ys .entry)) (now (cs .entry)) (now (days .entry)) i r ⌝ }
+{
+    latest(ys, cs, days, i) - (day_at(days, number_at(xs, i)) + 2147483648)
+}

@@ -1,0 +1,54 @@
+-- `script_calls::start` meets its contract: the room decides the refusal; else the days are cleared, the counts set and the record emptied.
+use native.Mathlib.Omega.{arith}
+use mathlib.Core.Path.{refl}
+use mathlib.Core.List.{[]}
+use mathlib.Core.Logic.{inl, inr}
+use borrow.Author.Tests.{not-true, not-false}
+use Rattle.meaning.specs.Bounds.{SHORT}
+use Rattle.meaning.proofs.Needs.{obeys-done, obeys-refused}
+use borrow.Author.Needs.{needs}
+use Rattle.script_calls.proofs.start.Statement.{statement}
+use Rattle.script_calls.proofs.start.Tie as tie
+use Rattle.script_calls.proofs.start.Reads as reads
+use Rattle.script_calls.proofs.start.Lts as lts
+use Rattle.inner_watch.proofs.clear_days.Reads as clear-days-reads
+use Rattle.script_calls.proofs.start_room.Reads as start-room-reads
+use Rattle.meaning.proofs.steps_alone.Reads as steps-alone-reads
+use Rattle.script_meaning.proofs.no_notes.Reads as no-notes-reads
+
+start-room-requires : tie.Need-start-room-requires
+start-room-requires c κs = search needs
+
+same-length : tie.Need-same-length
+same-length c = search needs
+
+returns : tie.Need-returns
+returns c = λ out. obeys-refused _ _ SHORT (λ e. omega arith) (λ e. omega arith) (inl (refl, λ h. c .before .start-room .ensures (c .before .before .before .before .before .before .before .before .before .before .before .args .counts) (c .before .before .before .before .before .before .before .before .before .before .before .args .notes) out .not-so (not-true _ (c .if1 .taken)) h))
+
+clear-days-requires : tie.Need-clear-days-requires
+clear-days-requires c κs = omega (arith, c .before .before .start-room .ensures (c .before .before .before .before .before .before .before .before .before .before .before .before .args .counts) (c .before .before .before .before .before .before .before .before .before .before .before .before .args .notes) [] .so (not-false _ (c .before .if1 .left)) .tables-room .days-room)
+
+steps-alone-requires : tie.Need-steps-alone-requires
+steps-alone-requires c κs = search needs
+
+no-notes-requires : tie.Need-no-notes-requires
+no-notes-requires c κs = search needs
+
+same-length-2 : tie.Need-same-length-2
+same-length-2 c = search needs
+
+returns-2 : tie.Need-returns-2
+returns-2 c = λ out. rw (c .before .steps-alone .ensures, c .no-notes .ensures)
+    (obeys-done _ _ 0 0 _ (c .before .before .before .before .before .before .before .start-room .ensures (c .before .before .before .before .before .before .before .before .before .before .before .before .before .before .before .before .before .args .counts) (c .before .before .before .before .before .before .before .before .before .before .before .before .before .before .before .before .before .args .notes) out .so (not-false _ (c .before .before .before .before .before .before .if1 .left)), tt)
+    (record {
+      opened = record { no-values = (refl, refl); emptied = refl; day-0 = c .before .before .before .before .clear-days .ensures .day-0; past = c .before .before .before .before .clear-days .ensures .past };
+      emptied = refl;
+      names-stay = refl;
+      lens-stay = refl;
+      out-stays = refl;
+    }))
+
+pub start-spec : {M : Type 1} → statement M
+start-spec =
+    tie.close
+    (tie.spec start-room-requires same-length returns clear-days-requires steps-alone-requires no-notes-requires same-length-2 returns-2)

@@ -1,0 +1,90 @@
+-- What an assertion does to the arrangements: where all its rules fit, they are those under which its term holds; where one does not fit, there is none.
+use Prim.Native.Nat.{ℕ, _+_, _≤_, _<_}
+use native.Mathlib.Omega.{arith}
+use native.Mathlib.Decide.{ℕ-discrete}
+use mathlib.Core.Path.{_≡_, refl, sym, _∙_, ap, subst}
+use mathlib.Core.Bool.{Bool, true, false, true≢false, false≢true}
+use mathlib.Core.List.{List, [], _∷_, map}
+use mathlib.Core.Logic.{_⊎_, inl, inr, _↔_}
+use lib.ListN.{length}
+use lib.IntN.{ℤ}
+use Rattle.meaning.specs.Bounds.{RULES}
+use Rattle.meaning.specs.Rules.{Rule, Keeps, Arrangement}
+use Rattle.meaning.specs.Tables.{Tables, ColumnsRoom, rule-at, put, with-rule, with-days}
+use Rattle.meaning.specs.Calls.{rules-of, held-in}
+use Rattle.meaning.proofs.Put.{put-new, put-old, put-room}
+use Rattle.atoms.specs.Atoms.{Named, rules-at}
+use Rattle.script_meaning.specs.Effect.{AddsAll, resolved}
+use Rattle.script_meaning.specs.Effect as effect
+use Rattle.script_meaning.specs.Terms.{Holds, AllKept}
+use Rattle.script_meaning.proofs.Adding.{Each}
+use Rattle.script_meaning.proofs.Asserted.{Asserted, asserted-holds}
+
+-- The days d keep every rule of the tables.
+abbrev pub Kept-in : (ℕ → ℤ) → Tables → Type 0
+Kept-in d t = Arrangement (rules-of t) (held-in t) d
+
+module _ (d : ℕ → ℤ) where
+  -- With one rule held more, its arrangements are those of before that keep it.
+  module _ (r : Rule) (t : Tables) (days : List ℕ) (room : ColumnsRoom RULES (t .rules)) (few : t .counts .rules < RULES) where
+    more-kept : Kept-in d t → Keeps d r → Kept-in d (with-days days (with-rule r t))
+    more-kept old new i h = tell (ℕ-discrete i (t .counts .rules))
+      where
+        tell : Dec (i ≡ t .counts .rules) → Keeps d (rule-at (put (t .rules) (t .counts .rules) r) i)
+        tell (yes e) = rw e (subst (λ (x : Rule). Keeps d x) (sym (put-new (t .rules) (t .counts .rules) RULES r room few)) new)
+        tell (no o) = subst (λ (x : Rule). Keeps d x) (sym (put-old (t .rules) (t .counts .rules) r i o)) (old i (omega arith))
+
+    older-kept : Kept-in d (with-days days (with-rule r t)) → Kept-in d t
+    older-kept all i h = subst (λ (x : Rule). Keeps d x) (put-old (t .rules) (t .counts .rules) r i (λ e. omega arith)) (all i (omega arith))
+
+    new-kept : Kept-in d (with-days days (with-rule r t)) → Keeps d r
+    new-kept all = subst (λ (x : Rule). Keeps d x) (put-new (t .rules) (t .counts .rules) RULES r room few) (all (t .counts .rules) (omega arith))
+
+  rooms : (r : Rule) (t v : Tables) → ColumnsRoom RULES (t .rules) → effect.Holds r t v → ColumnsRoom RULES (v .rules)
+  rooms r t v room h = subst (λ (x : Tables). ColumnsRoom RULES (x .rules)) (sym (h .rule-held)) (put-room (t .rules) (t .counts .rules) RULES r room)
+
+  one-more : (r : Rule) (t v : Tables) → effect.Holds r t v → v .counts .rules ≡ t .counts .rules + 1
+  one-more r t v h = ap (λ (x : Tables). x .counts .rules) (h .rule-held)
+
+  -- All fit: what is held then is kept by exactly the days that kept what was held and keep the new rules.
+  pub adds-exactly :
+      (l : List Rule) (t u : Tables) → ColumnsRoom RULES (t .rules) → t .counts .rules + length l ≤ RULES → AddsAll l t false u → Kept-in d u ↔ (Kept-in d t × Each (Keeps d) l)
+  adds-exactly [] t u room few (is, fine) = ((λ a. (subst (Kept-in d) is a, tt)), (λ a. subst (Kept-in d) (sym is) (a .0)))
+  adds-exactly (r ∷ l) t u room few (inl (unfit, (is, clash))) = absurd (false≢true clash)
+  adds-exactly (r ∷ l) t u room few (inr (v, (h, rest))) =
+      let more = adds-exactly l v u (rooms r t v room h) (omega (arith, one-more r t v h)) rest in (
+        (λ a. let b = more .0 a in
+            let c = subst (Kept-in d) (h .rule-held) (b .0) in
+            (older-kept r t (v .days) room (omega arith) c, (new-kept r t (v .days) room (omega arith) c, b .1))),
+        (λ a. more .1 (subst (Kept-in d) (sym (h .rule-held)) (more-kept r t (v .days) room (omega arith) (a .0) (a .1 .0)), a .1 .1)),
+      )
+
+  -- One does not fit: no days keep what was held and the new rules.
+  pub adds-none :
+      (l : List Rule) (t u : Tables) → ColumnsRoom RULES (t .rules) → t .counts .rules + length l ≤ RULES → AddsAll l t true u → Kept-in d t → Each (Keeps d) l → ⊥
+  adds-none [] t u room few (is, fine) old new = true≢false fine
+  adds-none (r ∷ l) t u room few (inl (unfit, is)) old new = unfit (record { days = d; arrangement = old; kept = new .0 })
+  adds-none (r ∷ l) t u room few (inr (v, (h, rest))) old new =
+      adds-none l v u (rooms r t v room h) (omega (arith, one-more r t v h)) rest (subst (Kept-in d) (sym (h .rule-held)) (more-kept r t (v .days) room (omega arith) old (new .0))) (new .1)
+
+  -- Rules over names are kept by the days of the steps that the names stand for.
+  over-names : (S : List ℕ → ℕ) (rs : List Named) → Each (Keeps d) (map (resolved S) rs) ↔ AllKept (λ w. d (S w)) rs
+  over-names S [] = ((λ a. tt), (λ a. tt))
+  over-names S (r ∷ rs) = let more = over-names S rs in ((λ a. (a .0, more .0 (a .1))), (λ a. (a .0, more .1 (a .1))))
+
+  -- **An assertion whose rules all fit** leaves exactly the arrangements under which its term holds, in the standard's meaning.
+  pub assertion-kept :
+      (s : List ℕ) (i : ℕ) (a : Asserted s i) (S : List ℕ → ℕ) (t u : Tables) → ColumnsRoom RULES (t .rules) → t .counts .rules + length (map (resolved S) (rules-at s i)) ≤ RULES →
+      AddsAll (map (resolved S) (rules-at s i)) t false u → Kept-in d u ↔ (Kept-in d t × Holds (a .term-is) (λ w. d (S w)))
+  assertion-kept s i a S t u room few adds =
+      let exactly = adds-exactly (map (resolved S) (rules-at s i)) t u room few adds in
+      let named = over-names S (rules-at s i) in
+      let term = asserted-holds s i a (λ w. d (S w)) in
+      ((λ k. let b = exactly .0 k in (b .0, term .0 (named .0 (b .1)))), (λ k. exactly .1 (k .0, named .1 (term .1 (k .1)))))
+
+  -- **An assertion with a rule that does not fit**: under no arrangement of what was held does its term hold.
+  pub assertion-none :
+      (s : List ℕ) (i : ℕ) (a : Asserted s i) (S : List ℕ → ℕ) (t u : Tables) → ColumnsRoom RULES (t .rules) → t .counts .rules + length (map (resolved S) (rules-at s i)) ≤ RULES →
+      AddsAll (map (resolved S) (rules-at s i)) t true u → Kept-in d t → Holds (a .term-is) (λ w. d (S w)) → ⊥
+  assertion-none s i a S t u room few adds old holds =
+      adds-none (map (resolved S) (rules-at s i)) t u room few adds old (over-names S (rules-at s i) .1 (asserted-holds s i a (λ w. d (S w)) .1 holds))

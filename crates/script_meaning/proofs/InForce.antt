@@ -1,0 +1,262 @@
+-- The link between the asserted terms, level by level, and the rules held: the rules of the oldest levels are kept by exactly the days under which the terms of those
+-- levels hold, below the contradictory level; and the terms up to that one hold under no days.
+use Prim.Native.Nat.{ℕ, zero, suc, _+_, _≤_, _<_}
+use native.Mathlib.Omega.{arith}
+use mathlib.Core.Path.{_≡_, refl, sym, _∙_, ap, subst}
+use mathlib.Core.Bool.{true, false}
+use mathlib.Core.List.{List, [], _∷_, map}
+use mathlib.Core.Logic.{inl, _↔_}
+use lib.ListN.{length, drop}
+use lib.Seq.{drop-nil}
+use lib.IntN.{ℤ}
+use Rattle.meaning.specs.Bounds.{STEPS, RULES, NAME-BYTES}
+use Rattle.meaning.specs.Rules.{Keeps, Arrangement}
+use Rattle.meaning.specs.Tables.{Tables, Sound, at}
+use Rattle.meaning.specs.Calls.{rules-of}
+use Rattle.names.proofs.Shelves.{name-old}
+use Rattle.atoms.specs.Atoms.{rules-at}
+use Rattle.script_meaning.specs.Record.{Lent, Known, step-of}
+use Rattle.script_meaning.specs.Effect.{AddsAll, resolved, forgotten, with-notes, with-tables, with-name}
+use Rattle.script_meaning.specs.Terms.{Term, Holds}
+use Rattle.script_meaning.specs.Traces.{History, nothing-asserted, with-term, Agrees}
+use Rattle.script_meaning.specs.Whole.{Fresh}
+use Rattle.script_meaning.proofs.Seeking.{step-is, known-name}
+use Rattle.script_meaning.proofs.Adding.{Grown}
+use Rattle.script_meaning.proofs.Keeping.{Fine, shelved-of}
+use Rattle.script_meaning.proofs.Asserted.{Asserted}
+use Rattle.script_meaning.proofs.Adjoining.{Kept-in, assertion-kept, assertion-none}
+use Rattle.script_meaning.proofs.Named.{OfTerm, OfLevels, of-with-term, of-drop, of-levels-too, agrees-too, agrees-term}
+
+-- How many rules belong to level j and those below it, where k levels are newer: all at the newest level, else those below the mark that was set next.
+abbrev pub cut-at : Tables → ℕ → ℕ → ℕ
+cut-at t zero j = t .counts .rules
+cut-at t (suc k) j = at (t .marks) j
+
+-- Below the newest level the number is a mark.
+pub cut-older : (t : Tables) (k j : ℕ) → 1 ≤ k → cut-at t k j ≡ at (t .marks) j
+cut-older t zero j h = absurd (omega arith)
+cut-older t (suc k) j h = refl
+
+-- The days e keep the first n rules.
+abbrev pub KeptBelow : Tables → ℕ → (ℕ → ℤ) → Type 0
+KeptBelow t n e = Arrangement (rules-of t) (λ i. i < n) e
+
+-- Level j is below the contradictory level b, which is counted from 1; or there is none.
+abbrev pub Clear : ℕ → ℕ → Type 0
+Clear b j = (b ≡ 0 → ⊥) → j + 1 < b
+
+-- The days of the names where e gives the days of the steps.
+abbrev pub by-name : Lent → (ℕ → ℤ) → List ℕ → ℤ
+by-name l e w = e (step-of l w)
+
+-- The link. `exact`: the rules of a clear level and of those below it are kept by exactly the days under which the terms of these levels hold. `none`: the terms up
+-- to the contradictory level hold under no days.
+pub record InForce (l : Lent) (h : History) : Type 0 where
+  pub fine : Fine l
+  pub as-many : length h ≡ l .tables .counts .marks + 1
+  pub declared : OfLevels (Known l) h
+  pub exact :
+      (k j : ℕ) → k + j ≡ l .tables .counts .marks → Clear (l .notes .broken) j →
+      (e : ℕ → ℤ) → KeptBelow (l .tables) (cut-at (l .tables) k j) e ↔ Agrees (by-name l e) (drop k h)
+  pub none : (k j : ℕ) → k + j ≡ l .tables .counts .marks → j + 1 ≡ l .notes .broken → (e : ℕ → ℤ) → Agrees (by-name l e) (drop k h) → ⊥
+
+-- ---- at the start
+
+-- What is fresh is sound.
+pub fresh-fine : (l : Lent) → Fresh l → Fine l
+fresh-fine l f = record {
+  room = f .room;
+  sound = record {
+    tables-sound = record {
+      counts-in = record {
+        some-step = omega (arith, steps);
+        steps-in = omega (arith, steps);
+        rules-in = omega (arith, rules);
+        marks-in = omega (arith, marks);
+        watched-in = omega (arith, watched);
+      };
+      rules-good = λ i h. absurd (omega (arith, rules));
+      watched-good = λ i h. absurd (omega (arith, watched));
+      marks-never-fall = λ i j h g. absurd (omega (arith, marks));
+      marks-held = λ i h. absurd (omega (arith, marks));
+      days-earliest = record { plan = λ i h. absurd (omega (arith, rules)); no-later = λ q p v h. omega (arith, f .day-0 v (omega (arith, steps))) };
+    };
+    all-steps = steps;
+    names-in = omega (arith, names);
+    names-short = λ k h. absurd (omega (arith, names));
+    names-in-form = λ k h. absurd (omega (arith, names));
+    names-different = λ j k h g. absurd (omega (arith, names));
+    level-open = omega (arith, broken);
+    no-sat = λ some. absurd (some broken);
+  };
+}
+  where
+    steps : l .tables .counts .steps ≡ STEPS
+    steps = ap (λ c. c .steps) (f .counts-are)
+
+    rules : l .tables .counts .rules ≡ 0
+    rules = ap (λ c. c .rules) (f .counts-are)
+
+    marks : l .tables .counts .marks ≡ 0
+    marks = ap (λ c. c .marks) (f .counts-are)
+
+    watched : l .tables .counts .watched ≡ 0
+    watched = ap (λ c. c .watched) (f .counts-are)
+
+    names : l .notes .names ≡ 0
+    names = ap (λ n. n .names) (f .notes-are)
+
+    broken : l .notes .broken ≡ 0
+    broken = ap (λ n. n .broken) (f .notes-are)
+
+-- At the start no rule is held and nothing is asserted.
+pub fresh-in-force : (l : Lent) → Fresh l → InForce l nothing-asserted
+fresh-in-force l f = record {
+  fine = fresh-fine l f;
+  as-many = omega (arith, marks);
+  declared = (tt, tt);
+  exact = exact-at;
+  none = λ k j levels level e agrees. omega (arith, broken, level);
+}
+  where
+    marks : l .tables .counts .marks ≡ 0
+    marks = ap (λ c. c .marks) (f .counts-are)
+
+    rules : l .tables .counts .rules ≡ 0
+    rules = ap (λ c. c .rules) (f .counts-are)
+
+    broken : l .notes .broken ≡ 0
+    broken = ap (λ n. n .broken) (f .notes-are)
+
+    exact-at :
+        (k j : ℕ) → k + j ≡ l .tables .counts .marks → Clear (l .notes .broken) j →
+        (e : ℕ → ℤ) → KeptBelow (l .tables) (cut-at (l .tables) k j) e ↔ Agrees (by-name l e) (drop k nothing-asserted)
+    exact-at zero j levels clear e = ((λ kept. (tt, tt)), (λ agrees i h. absurd (omega (arith, rules))))
+    exact-at (suc k) j levels clear e = absurd (omega (arith, marks, levels))
+
+-- ---- a name declared
+
+-- The step of a declared name stays.
+pub step-stays : (w v : List ℕ) (l : Lent) → Fine l → Fine (with-name w l) → length w ≤ NAME-BYTES → l .notes .names < STEPS → Known l v → step-of (with-name w l) v ≡ step-of l v
+step-stays w v l f g short few known =
+    let k = step-of l v in
+    step-is (with-name w l .names) (with-name w l .lens) v (l .notes .names + 1) k (g .sound .names-different)
+    (inl (omega (arith, known), name-old (l .notes .names) w (l .names) (l .lens) few short (shelved-of f) k known ∙ known-name (l .names) (l .lens) v (l .notes .names) known))
+
+-- A name more changes no step that a term speaks of.
+pub named-in-force : (w : List ℕ) (l : Lent) (h : History) → InForce l h → Fine (with-name w l) → length w ≤ NAME-BYTES → l .notes .names < STEPS → InForce (with-name w l) h
+named-in-force w l h i g short few = record {
+  fine = g;
+  as-many = i .as-many;
+  declared = of-levels-too (Known l) (Known (with-name w l)) (λ v known. omega (arith, stays v known, known)) h (i .declared);
+  exact = λ k j levels clear e. let was = i .exact k j levels clear e in
+      ((λ kept. later k e (was .0 kept)), (λ agrees. was .1 (earlier k e agrees)));
+  none = λ k j levels level e agrees. i .none k j levels level e (earlier k e agrees);
+}
+  where
+    stays : (v : List ℕ) → Known l v → step-of (with-name w l) v ≡ step-of l v
+    stays v known = step-stays w v l (i .fine) g short few known
+
+    later : (k : ℕ) (e : ℕ → ℤ) → Agrees (by-name l e) (drop k h) → Agrees (by-name (with-name w l) e) (drop k h)
+    later k e = agrees-too (Known l) (by-name l e) (by-name (with-name w l) e) (λ v known. ap e (sym (stays v known))) (drop k h) (of-drop (Known l) k h (i .declared))
+
+    earlier : (k : ℕ) (e : ℕ → ℤ) → Agrees (by-name (with-name w l) e) (drop k h) → Agrees (by-name l e) (drop k h)
+    earlier k e = agrees-too (Known l) (by-name (with-name w l) e) (by-name l e) (λ v known. ap e (stays v known)) (drop k h) (of-drop (Known l) k h (i .declared))
+
+-- ---- a term asserted
+
+-- Older levels know nothing of it.
+older-same : (k : ℕ) (t : Term) (h : History) → drop (suc k) (with-term t h) ≡ drop (suc k) h
+older-same k t [] = drop-nil k
+older-same k t (l ∷ h) = refl
+
+-- There are as many levels as before.
+one-longer : (t : Term) (h : History) (n : ℕ) → length h ≡ n + 1 → length (with-term t h) ≡ n + 1
+one-longer t [] n e = absurd (omega arith)
+one-longer t (l ∷ h) n e = e
+
+module _ (l : Lent) (h : History) (i : InForce l h) (t : Term) (of : OfTerm (Known l) t) where
+  -- While a level counts as contradictory nothing is added, and the terms up to that level still hold under no days.
+  pub broken-in-force : (l .notes .broken ≡ 0 → ⊥) → Fine (with-notes (forgotten (l .notes)) l) → InForce (with-notes (forgotten (l .notes)) l) (with-term t h)
+  broken-in-force some g = record {
+    fine = g;
+    as-many = one-longer t h (l .tables .counts .marks) (i .as-many);
+    declared = of-with-term (Known l) t h of (i .declared);
+    exact = exact-at;
+    none = none-at;
+  }
+    where
+      exact-at :
+          (k j : ℕ) → k + j ≡ l .tables .counts .marks → Clear (l .notes .broken) j →
+          (e : ℕ → ℤ) → KeptBelow (l .tables) (cut-at (l .tables) k j) e ↔ Agrees (by-name l e) (drop k (with-term t h))
+      exact-at zero j levels clear e = absurd (omega (arith, clear some, i .fine .sound .level-open))
+      exact-at (suc k) j levels clear e = subst (λ (x : History). KeptBelow (l .tables) (at (l .tables .marks) j) e ↔ Agrees (by-name l e) x) (sym (older-same k t h)) (i .exact (suc k) j levels clear e)
+
+      none-at : (k j : ℕ) → k + j ≡ l .tables .counts .marks → j + 1 ≡ l .notes .broken → (e : ℕ → ℤ) → Agrees (by-name l e) (drop k (with-term t h)) → ⊥
+      none-at zero j levels level e agrees = i .none zero j levels level e (agrees-term (by-name l e) t h .0 agrees .1)
+      none-at (suc k) j levels level e agrees = i .none (suc k) j levels level e (subst (Agrees (by-name l e)) (older-same k t h) agrees)
+
+  module _ (s : List ℕ) (n : ℕ) (a : Asserted s n) (is : a .term-is ≡ t) (clean : l .notes .broken ≡ 0) (u : Tables) (grown : Grown (l .tables) u)
+      (few : l .tables .counts .rules + length (map (resolved (step-of l)) (rules-at s n)) ≤ RULES) where
+    sound : Sound (l .tables)
+    sound = i .fine .sound .tables-sound
+
+    -- What belongs to older levels stays.
+    older-exact :
+        (k j : ℕ) → suc k + j ≡ u .counts .marks → (e : ℕ → ℤ) → KeptBelow u (at (u .marks) j) e ↔ Agrees (by-name l e) (drop (suc k) (with-term t h))
+    older-exact k j levels e =
+        let was = i .exact (suc k) j (levels ∙ grown .same-open) (λ some. absurd (some clean)) e in
+        let mark : at (u .marks) j ≡ at (l .tables .marks) j = ap (λ (m : List ℕ). at m j) (grown .same-marks) in
+        let held : at (l .tables .marks) j ≤ l .tables .counts .rules = sound .marks-held j (omega (arith, levels, grown .same-open)) in (
+          (λ kept. subst (Agrees (by-name l e)) (sym (older-same k t h)) (was .0 (λ r below. subst (Keeps e) (grown .older-rules r (omega (arith, held, below))) (kept r (omega (arith, mark, below)))))),
+          (λ agrees r below. subst (Keeps e) (sym (grown .older-rules r (omega (arith, held, mark, below)))) (was .1 (subst (Agrees (by-name l e)) (older-same k t h) agrees) r (omega (arith, mark, below)))),
+        )
+
+    -- The newest level, as it was.
+    newest : (e : ℕ → ℤ) → Kept-in e (l .tables) ↔ Agrees (by-name l e) h
+    newest e = i .exact 0 (l .tables .counts .marks) (omega arith) (λ some. absurd (some clean)) e
+
+    -- All rules of the term fit.
+    pub fits-in-force :
+        Fine (with-tables u 0 l) → AddsAll (map (resolved (step-of l)) (rules-at s n)) (l .tables) false u → InForce (with-tables u 0 l) (with-term t h)
+    fits-in-force g adds = record {
+      fine = g;
+      as-many = one-longer t h (u .counts .marks) (i .as-many ∙ ap (λ (m : ℕ). m + 1) (sym (grown .same-open)));
+      declared = of-with-term (Known l) t h of (i .declared);
+      exact = exact-at;
+      none = λ k j levels level e agrees. absurd (omega (arith, level));
+    }
+      where
+        exact-at : (k j : ℕ) → k + j ≡ u .counts .marks → Clear 0 j → (e : ℕ → ℤ) → KeptBelow u (cut-at u k j) e ↔ Agrees (by-name l e) (drop k (with-term t h))
+        exact-at zero j levels clear e =
+            let law = assertion-kept e s n a (step-of l) (l .tables) u (i .fine .room .tables-room .rules-room) few adds in
+            let both = agrees-term (by-name l e) t h in (
+              (λ kept. let now = law .0 kept in both .1 (subst (λ (x : Term). Holds x (by-name l e)) is (now .1), newest e .0 (now .0))),
+              (λ agrees. let now = both .0 agrees in law .1 (newest e .1 (now .1), subst (λ (x : Term). Holds x (by-name l e)) (sym is) (now .0))),
+            )
+        exact-at (suc k) j levels clear e = older-exact k j levels e
+
+    -- One does not fit.
+    pub clash-in-force :
+        Fine (with-tables u (u .counts .marks + 1) l) → AddsAll (map (resolved (step-of l)) (rules-at s n)) (l .tables) true u →
+        InForce (with-tables u (u .counts .marks + 1) l) (with-term t h)
+    clash-in-force g adds = record {
+      fine = g;
+      as-many = one-longer t h (u .counts .marks) (i .as-many ∙ ap (λ (m : ℕ). m + 1) (sym (grown .same-open)));
+      declared = of-with-term (Known l) t h of (i .declared);
+      exact = exact-at;
+      none = none-at;
+    }
+      where
+        exact-at :
+            (k j : ℕ) → k + j ≡ u .counts .marks → Clear (u .counts .marks + 1) j → (e : ℕ → ℤ) →
+            KeptBelow u (cut-at u k j) e ↔ Agrees (by-name l e) (drop k (with-term t h))
+        exact-at zero j levels clear e = absurd (omega (arith, levels, clear (λ z. omega arith)))
+        exact-at (suc k) j levels clear e = older-exact k j levels e
+
+        none-at : (k j : ℕ) → k + j ≡ u .counts .marks → j + 1 ≡ u .counts .marks + 1 → (e : ℕ → ℤ) → Agrees (by-name l e) (drop k (with-term t h)) → ⊥
+        none-at zero j levels level e agrees =
+            let now = agrees-term (by-name l e) t h .0 agrees in
+            assertion-none e s n a (step-of l) (l .tables) u (i .fine .room .tables-room .rules-room) few adds (newest e .1 (now .1))
+            (subst (λ (x : Term). Holds x (by-name l e)) (sym is) (now .0))
+        none-at (suc k) j levels level e agrees = omega (arith, levels, level)

@@ -1,0 +1,235 @@
+-- What a command that is carried out leaves is sound and has room.
+use Prim.Native.Nat.{ℕ, zero, suc, _+_, _*_, _≤_, _<_}
+use native.Mathlib.Omega.{arith}
+use native.Mathlib.Decide.{ℕ-discrete, decLt}
+use mathlib.Core.Path.{_≡_, refl, sym, _∙_, ap, subst}
+use mathlib.Core.Bool.{Bool, true, false, cond}
+use mathlib.Core.List.{List, [], _∷_, map}
+use mathlib.Core.Logic.{_⊎_, inl, inr}
+use lib.Dec.{eqb, ltb}
+use lib.ListN.{length, set, length-set}
+use lib.Seq.{getD-set-same, getD-set-other}
+use borrow.Author.Tests.{lt-ltb, le-ltb, ne-eqb}
+use Rattle.meaning.specs.Bounds.{STEPS, RULES, MARKS, NAME-BYTES, DONE}
+use Rattle.meaning.specs.Rules.{Rule, InBounds}
+use Rattle.meaning.specs.Tables.{Tables, at}
+use Rattle.meaning.specs.Promise.{First}
+use Rattle.meaning.proofs.Sequences.{Kept}
+use Rattle.lent.specs.Promises.{Border}
+use Rattle.text.specs.Lexicon.{bytes}
+use Rattle.form.specs.declared.Command.{Command}
+use Rattle.form.specs.declared.Command.the-variants.{SetLogic, Declare, Assert, Push, Pop, CheckSat, GetValue, Exit, Unsupported, Syntax, Oversize}
+use Rattle.atoms.specs.Atoms.{Named, rules-at}
+use Rattle.names.specs.Names.{name-at, Shelved}
+use Rattle.names.proofs.Shelves.{name-new, name-old}
+use Rattle.write.specs.Written.{over}
+use Rattle.write.proofs.Laws.{length-over}
+use Rattle.levels.specs.Levels.{with-marks, Popped}
+use Rattle.levels.proofs.Laws.{with-marks-is, with-marks-border, popped-border}
+use Rattle.script_meaning.specs.declared.Notes.{Notes}
+use Rattle.script_meaning.specs.Record.{Lent, StartRoom, ScriptSound, InForm, Known, step-of}
+use Rattle.script_meaning.specs.Effect.{Does, AddsAll, resolved, forgotten, with-notes, with-tables, with-name, checked, broken-after, broken-left}
+use Rattle.script_meaning.specs.Commands.{command-needs}
+use Rattle.script_meaning.specs.Traces.{with-out}
+use Rattle.script_meaning.proofs.Seeking.{numbered-known}
+use Rattle.script_meaning.proofs.Needed.{RuleMet, EachRule}
+use Rattle.script_meaning.proofs.Granted.{declare-met, assert-met, push-met, pop-met}
+use Rattle.script_meaning.proofs.Adding.{Each, Grown, adds-kept}
+
+-- What is lent has room and is sound.
+pub record Fine (l : Lent) : Type 0 where
+  pub room : StartRoom l
+  pub sound : ScriptSound l
+
+-- The tables of what is lent have room and are sound.
+pub tables-kept : {l : Lent} → Fine l → Kept (l .tables)
+tables-kept f = record { sound = f .sound .tables-sound; room = f .room .tables-room }
+
+pub tables-border : {l : Lent} → Fine l → Border (l .tables)
+tables-border f = record { sound = f .sound .tables-sound; room = f .room .tables-room }
+
+-- Another record with the same names, a level that is open, and no `sat` beside a contradictory one.
+with-record : (l : Lent) (logic sat : Bool) (b : ℕ) → Fine l → b ≤ l .tables .counts .marks + 1 → ((b ≡ 0 → ⊥) → sat ≡ false) → Fine (with-notes (record { names = l .notes .names; logic = logic; broken = b; sat = sat }) l)
+with-record l logic sat b f level unless = record {
+  room = record { tables-room = f .room .tables-room; names-room = f .room .names-room; lens-room = f .room .lens-room };
+  sound = record {
+    tables-sound = f .sound .tables-sound;
+    all-steps = f .sound .all-steps;
+    names-in = f .sound .names-in;
+    names-short = f .sound .names-short;
+    names-in-form = f .sound .names-in-form;
+    names-different = f .sound .names-different;
+    level-open = level;
+    no-sat = unless;
+  };
+}
+
+-- Other bytes for the answer.
+pub other-fine : (out : List ℕ) (l : Lent) → Fine l → Fine (with-out out l)
+other-fine out l f = record {
+  room = record { tables-room = f .room .tables-room; names-room = f .room .names-room; lens-room = f .room .lens-room };
+  sound = record {
+    tables-sound = f .sound .tables-sound;
+    all-steps = f .sound .all-steps;
+    names-in = f .sound .names-in;
+    names-short = f .sound .names-short;
+    names-in-form = f .sound .names-in-form;
+    names-different = f .sound .names-different;
+    level-open = f .sound .level-open;
+    no-sat = f .sound .no-sat;
+  };
+}
+
+-- Other tables that are sound and have as many steps, with a level that is open.
+tables-fine : (t : Tables) (b : ℕ) (l : Lent) → Fine l → Kept t → t .counts .steps ≡ l .tables .counts .steps → b ≤ t .counts .marks + 1 → Fine (with-tables t b l)
+tables-fine t b l f k same level = record {
+  room = record { tables-room = k .room; names-room = f .room .names-room; lens-room = f .room .lens-room };
+  sound = record {
+    tables-sound = k .sound;
+    all-steps = same ∙ f .sound .all-steps;
+    names-in = f .sound .names-in;
+    names-short = f .sound .names-short;
+    names-in-form = f .sound .names-in-form;
+    names-different = f .sound .names-different;
+    level-open = level;
+    no-sat = λ some. refl;
+  };
+}
+
+-- The names that are shelved.
+pub shelved-of : {l : Lent} → Fine l → Shelved (l .notes .names) (l .names) (l .lens)
+shelved-of f = record {
+  names-room = f .room .names-room;
+  lens-room = f .room .lens-room;
+  names-in = f .sound .names-in;
+  short-names = f .sound .names-short;
+}
+
+-- A name in form that was not declared, declared now.
+module _ (w : List ℕ) (l : Lent) (f : Fine l) (form : InForm w) (new : Known l w → ⊥) (few : l .notes .names < STEPS) where
+  abbrev then : Lent
+  then = with-name w l
+
+  name-here : name-at (then .names) (then .lens) (l .notes .names) ≡ w
+  name-here = name-new (l .notes .names) w (l .names) (l .lens) few (form .short) (shelved-of f)
+
+  name-there : (k : ℕ) → k < l .notes .names → name-at (then .names) (then .lens) k ≡ name-at (l .names) (l .lens) k
+  name-there = name-old (l .notes .names) w (l .names) (l .lens) few (form .short) (shelved-of f)
+
+  unknown : (k : ℕ) → k < l .notes .names → name-at (l .names) (l .lens) k ≡ w → ⊥
+  unknown k h e = new (numbered-known (l .names) (l .lens) w (l .notes .names) k h e)
+
+  short-at : (k : ℕ) → k < l .notes .names + 1 → at (then .lens) k ≤ NAME-BYTES
+  short-at k h = tell (ℕ-discrete k (l .notes .names))
+    where
+      tell : Dec (k ≡ l .notes .names) → at (then .lens) k ≤ NAME-BYTES
+      tell (yes e) = rw e (omega (arith, getD-set-same (l .lens) (l .notes .names) (length w) 0 (omega (arith, f .room .lens-room)), form .short))
+      tell (no o) = omega (arith, getD-set-other (l .lens) (l .notes .names) k (length w) 0 o, f .sound .names-short k (omega arith))
+
+  form-at : (k : ℕ) → k < l .notes .names + 1 → InForm (name-at (then .names) (then .lens) k)
+  form-at k h = tell (ℕ-discrete k (l .notes .names))
+    where
+      tell : Dec (k ≡ l .notes .names) → InForm (name-at (then .names) (then .lens) k)
+      tell (yes e) = rw e (subst InForm (sym name-here) form)
+      tell (no o) = subst InForm (sym (name-there k (omega arith))) (f .sound .names-in-form k (omega arith))
+
+  different-at : (j k : ℕ) → j < k → k < l .notes .names + 1 → name-at (then .names) (then .lens) j ≡ name-at (then .names) (then .lens) k → ⊥
+  different-at j k below h same = tell (ℕ-discrete k (l .notes .names))
+    where
+      tell : Dec (k ≡ l .notes .names) → ⊥
+      tell (yes e) = unknown j (omega arith) (sym (name-there j (omega arith)) ∙ same ∙ ap (λ (i : ℕ). name-at (then .names) (then .lens) i) e ∙ name-here)
+      tell (no o) = f .sound .names-different j k below (omega arith) (sym (name-there j (omega arith)) ∙ same ∙ name-there k (omega arith))
+
+  pub named-fine : Fine (with-name w l)
+  named-fine = record {
+    room = record {
+      tables-room = f .room .tables-room;
+      names-room = omega (arith, length-over (l .names) (NAME-BYTES * (l .notes .names)) w, f .room .names-room);
+      lens-room = omega (arith, length-set (l .lens) (l .notes .names) (length w), f .room .lens-room);
+    };
+    sound = record {
+      tables-sound = f .sound .tables-sound;
+      all-steps = f .sound .all-steps;
+      names-in = omega arith;
+      names-short = short-at;
+      names-in-form = form-at;
+      names-different = different-at;
+      level-open = f .sound .level-open;
+      no-sat = λ some. refl;
+    };
+  }
+
+-- The rules of a term whose names are declared and whose amounts are within bounds are rules within bounds.
+pub rules-in : (l : Lent) → Fine l → (rs : List Named) → EachRule (Known l) rs → Each (InBounds (l .tables .counts .steps)) (map (resolved (step-of l)) rs)
+rules-in l f [] each = tt
+rules-in l f (r ∷ rs) (here, there) = (
+  record {
+    steps-in = record {
+      first-in = omega (arith, here .first-known, f .sound .names-in, f .sound .all-steps);
+      second-in = omega (arith, here .second-known, f .sound .names-in, f .sound .all-steps);
+    };
+    amount-in = here .amount-in;
+  },
+  rules-in l f rs there,
+)
+
+pub map-length : (S : List ℕ → ℕ) (rs : List Named) → length (map (resolved S) rs) ≡ length rs
+map-length S [] = refl
+map-length S (r ∷ rs) = ap suc (map-length S rs)
+
+-- A level that counts as contradictory is open.
+level-after : (clash : Bool) (t : Tables) → broken-after clash t ≤ t .counts .marks + 1
+level-after true t = omega arith
+level-after false t = omega arith
+
+level-left : (b : ℕ) (t : Tables) → broken-left b t ≤ t .counts .marks + 1
+level-left b t = tell (decLt (t .counts .marks + 1) b)
+  where
+    tell : Dec (t .counts .marks + 1 < b) → broken-left b t ≤ t .counts .marks + 1
+    tell (yes h) = rw (lt-ltb (t .counts .marks + 1) b h) (omega arith)
+    tell (no h) = rw (le-ltb (t .counts .marks + 1) b (omega arith)) (omega arith)
+
+pub marks-more : (n : ℕ) (t : Tables) → with-marks n t .counts .marks ≡ t .counts .marks + n
+marks-more n t = sym (ap (λ (u : Tables). u .counts .marks) (with-marks-is n t))
+
+pub steps-same : (n : ℕ) (t : Tables) → with-marks n t .counts .steps ≡ t .counts .steps
+steps-same n t = sym (ap (λ (u : Tables). u .counts .steps) (with-marks-is n t))
+
+popped-steps : (n : ℕ) (t u : Tables) → Popped n t u → u .counts .steps ≡ t .counts .steps
+popped-steps zero t u p = ap (λ (v : Tables). v .counts .steps) (p .dropped)
+popped-steps (suc n) t u p = ap (λ (v : Tables). v .counts .steps) (p .dropped)
+
+kept-of : {t : Tables} → Border t → Kept t
+kept-of b = record { sound = b .sound; room = b .room }
+
+-- Every command that is carried out leaves what is sound and has room.
+pub does-fine :
+    (c : Command) (s : List ℕ) (k w : ℕ) (before after : Lent) → Fine before → ((a b : ℕ) → c ≡ Declare a b → InForm (bytes s a b)) →
+    First (command-needs c s before) DONE → Does c s k before w after → Fine after
+does-fine SetLogic s k w before after f named met (w-is, is) =
+    subst Fine (sym is) (with-record before true false (before .notes .broken) f (f .sound .level-open) (λ some. refl))
+does-fine (Declare a b) s k w before after f named met (w-is, is) =
+    let granted = declare-met a b s before met in
+    subst Fine (sym is) (named-fine (bytes s a b) before f (named a b refl) (granted .0) (granted .1))
+does-fine (Assert i) s k w before after f named met (w-is, inl (some, is)) =
+    subst Fine (sym is) (with-record before (before .notes .logic) false (before .notes .broken) f (f .sound .level-open) (λ other. refl))
+does-fine (Assert i) s k w before after f named met (w-is, inr (none, (t, (clash, (adds, is))))) =
+    let granted = assert-met i s before met in
+    let more = adds-kept (map (resolved (step-of before)) (rules-at s i)) (before .tables) t clash (tables-kept f) (rules-in before f (rules-at s i) (granted .0))
+    (omega (arith, granted .1 none, map-length (step-of before) (rules-at s i))) adds in
+    subst Fine (sym is) (tables-fine t (broken-after clash t) before f (more .0) (more .1 .same-steps) (level-after clash t))
+does-fine (Push n) s k w before after f named met (w-is, is) =
+    subst Fine (sym is)
+    (tables-fine (with-marks n (before .tables)) (before .notes .broken) before f (kept-of (with-marks-border n (tables-border f) (push-met n s before met))) (steps-same n (before .tables))
+    (omega (arith, marks-more n (before .tables), f .sound .level-open)))
+does-fine (Pop n) s k w before after f named met (w-is, (t, (p, is))) =
+    subst Fine (sym is)
+    (tables-fine t (broken-left (before .notes .broken) t) before f (kept-of (popped-border n (tables-border f) (pop-met n s before met) p)) (popped-steps n (before .tables) t p) (level-left (before .notes .broken) t))
+does-fine CheckSat s k w before after f named met (w-is, is) =
+    subst Fine (sym is) (with-record _ (before .notes .logic) (eqb (before .notes .broken) 0) (before .notes .broken) (other-fine _ before f) (f .sound .level-open) (ne-eqb (before .notes .broken) 0))
+does-fine (GetValue i) s k w before after f named met (w-is, is) = subst Fine (sym is) (other-fine _ before f)
+does-fine Exit s k w before after f named met (w-is, is) =
+    subst Fine (sym is) (with-record before (before .notes .logic) false (before .notes .broken) f (f .sound .level-open) (λ other. refl))
+does-fine Unsupported s k w before after f named met (w-is, is) = subst Fine (sym is) (other-fine _ before f)
+does-fine Syntax s k w before after f named met impossible = absurd impossible
+does-fine Oversize s k w before after f named met impossible = absurd impossible

@@ -1,0 +1,164 @@
+-- No promise of a script call is empty: every input has an outcome that is allowed. What a call needs is told need by need; where all is met, each rule of a term is added or clashes, and
+-- a pop finds the earliest plan of the rules left, as Add and Back do.
+use Prim.Native.Nat.{ℕ, zero, suc, _+_, _≤_}
+use native.Mathlib.Omega.{arith}
+use native.Mathlib.Decide.{ℕ-discrete, decLe}
+use mathlib.Core.Path.{_≡_, refl, sym, ap, subst}
+use mathlib.Core.Bool.{Bool, true, false}
+use mathlib.Core.List.{List, [], _∷_, map}
+use mathlib.Core.Logic.{_⊎_, inl, inr}
+use lib.ListN.{length, replicate, length-replicate}
+use Rattle.meaning.specs.Bounds.{STEPS, RULES, DONE, SHORT, CONFLICT}
+use Rattle.meaning.specs.Rules.{Rule, InBounds, Earliest, Refutes}
+use Rattle.meaning.specs.Tables.{Tables}
+use Rattle.meaning.specs.Promise.{First}
+use Rattle.meaning.specs.Calls.{rules-of, held-in, next-in, rules-and, held-and, back-meaning}
+use Rattle.meaning.proofs.Theory.{ring-excludes}
+use Rattle.meaning.proofs.Needs.{all-met, first-same}
+use Rattle.meaning.proofs.Sequences.{Kept}
+use Rattle.meaning.proofs.Possible.{Allowed, Outcome, allowed-outcome, refusal-met, Asked, plan-fits, plan-or-ring, open-met, add-met, back-possible}
+use Rattle.lent.specs.Promises.{Border}
+use Rattle.span.specs.Span.{span}
+use Rattle.form.specs.declared.Command.{Command}
+use Rattle.form.specs.declared.Command.the-variants.{SetLogic, Declare, Assert, Push, Pop, CheckSat, GetValue, Exit, Unsupported, Syntax, Oversize}
+use Rattle.form.specs.Form.{form}
+use Rattle.atoms.specs.Atoms.{rules-at}
+use Rattle.levels.specs.Levels.{Popped, fewer-marks}
+use Rattle.levels.proofs.Laws.{popped-none, fewer-border}
+use Rattle.script_meaning.specs.Record.{Lent, StartRoom, ScriptRoom, ScriptSound, step-of, no-notes}
+use Rattle.script_meaning.specs.Effect.{Does, Holds, AddsAll, resolved}
+use Rattle.script_meaning.specs.Commands.{own, command-needs, command-meaning, start-meaning}
+use Rattle.script_meaning.proofs.Granted.{assert-met, pop-met, granted}
+use Rattle.script_meaning.proofs.Refusing.{never-conflict}
+use Rattle.script_meaning.proofs.Adding.{Each, holds-kept}
+use Rattle.script_meaning.proofs.Keeping.{Fine, tables-kept, tables-border, rules-in, map-length}
+use Rattle.script_meaning.proofs.Decided.{start-room?, script-room?, script-sound?, first-told, command-told}
+
+-- ---- commands whose needs are met
+
+-- Rules within bounds, as many as there are places for, are added up to the first that does not fit.
+adds-some :
+    (l : List Rule) (t : Tables) → Kept t → Each (InBounds (t .counts .steps)) l → t .counts .rules + length l ≤ RULES → (clash : Bool) × ((u : Tables) × AddsAll l t clash u)
+adds-some [] t k good room = (false, (t, (refl, refl)))
+adds-some (r ∷ l) t k (here, there) room = tell (adds-some l) (plan-or-ring r t asked)
+  where
+    asked : Asked r t
+    asked = record { room = k .room; sound = k .sound; steps-in = here .steps-in; amount-in = here .amount-in; not-full = omega (arith, room) }
+
+    tell :
+        ((v : Tables) → Kept v → Each (InBounds (v .counts .steps)) l → v .counts .rules + length l ≤ RULES → (clash : Bool) × ((u : Tables) × AddsAll l v clash u)) →
+        ((p : ℕ → ℕ) × Earliest (t .counts .steps) (rules-and r t) (held-and t) p) ⊎ ((ring : List ℕ) × Refutes (rules-of t) (held-in t) (next-in t) r ring) →
+        (clash : Bool) × ((u : Tables) × AddsAll (r ∷ l) t clash u)
+    tell rest (inr (ring, refutes)) = (true, (t, inl (ring-excludes (rules-of t) (held-in t) (next-in t) r ring refutes, (refl, refl))))
+    tell rest (inl (p, earliest)) =
+        let a = add-met r t (replicate STEPS 0) asked (omega (arith, length-replicate {A = ℕ} STEPS 0)) p earliest in
+        let x = a .keeps .when-done (a .number-is) in
+        let v : Tables = a .after .tables in
+        let h : Holds r t v = record { fits = plan-fits r t asked p earliest; rule-held = x .rule-held; planned = x .planned } in
+        let steps : v .counts .steps ≡ t .counts .steps = ap (λ (z : Tables). z .counts .steps) (x .rule-held) in
+        let rules : v .counts .rules ≡ t .counts .rules + 1 = ap (λ (z : Tables). z .counts .rules) (x .rule-held) in
+        let more = rest v (holds-kept r t v k here (omega (arith, room)) h) (subst (λ (n : ℕ). Each (InBounds n) l) (sym steps) there) (omega (arith, room, rules)) in
+        (more .0, (more .1 .0, inr (v, (h, more .1 .1))))
+
+-- As many marks as are open can be dropped.
+pop-some : (n : ℕ) (t : Tables) → Border t → n ≤ t .counts .marks → (u : Tables) × Popped n t u
+pop-some zero t b few = (t, popped-none zero refl (b .sound))
+pop-some (suc n) t b few =
+    let f : Border (fewer-marks n t) = fewer-border b (omega arith) in
+    let a = back-possible (fewer-marks n t) in
+    let done =
+    first-same (back-meaning (fewer-marks n t) .asks) (a .answer .number) DONE (a .keeps .first-unmet)
+    (all-met (back-meaning (fewer-marks n t) .asks) (f .room, (f .sound, (omega arith, tt)))) in
+    let x = a .keeps .when-done done in
+    (a .after, record { dropped = x .dropped; planned = x .planned })
+
+-- A command whose needs are all met can be carried out.
+pub does-some : (c : Command) (s : List ℕ) (k : ℕ) (l : Lent) → Fine l → First (command-needs c s l) DONE → (w : ℕ) × ((m : Lent) × Does c s k l w m)
+does-some SetLogic s k l f met = (_, (_, (refl, refl)))
+does-some (Declare a b) s k l f met = (_, (_, (refl, refl)))
+does-some (Assert i) s k l f met = tell (ℕ-discrete (l .notes .broken) 0)
+  where
+    tell : Dec (l .notes .broken ≡ 0) → (w : ℕ) × ((m : Lent) × Does (Assert i) s k l w m)
+    tell (no some) = (0, (_, (refl, inl (some, refl))))
+    tell (yes none) =
+        let g = assert-met i s l met in
+        let a = adds-some (map (resolved (step-of l)) (rules-at s i)) (l .tables) (tables-kept f) (rules-in l f (rules-at s i) (g .0))
+        (omega (arith, g .1 none, map-length (step-of l) (rules-at s i))) in
+        (0, (_, (refl, inr (none, (a .1 .0, (a .0, (a .1 .1, refl)))))))
+does-some (Push n) s k l f met = (_, (_, (refl, refl)))
+does-some (Pop n) s k l f met =
+    let p = pop-some n (l .tables) (tables-border f) (pop-met n s l met) in
+    (0, (_, (refl, (p .0, (p .1, refl)))))
+does-some CheckSat s k l f met = (_, (_, (refl, refl)))
+does-some (GetValue i) s k l f met = (_, (_, (refl, refl)))
+does-some Exit s k l f met = (_, (_, (refl, refl)))
+does-some Unsupported s k l f met = (_, (_, (refl, refl)))
+does-some Syntax s k l f (inl (e, none)) = absurd (omega (arith, e))
+does-some Syntax s k l f (inr (impossible, rest)) = absurd impossible
+does-some Oversize s k l f (inl (e, none)) = absurd (omega (arith, e))
+does-some Oversize s k l f (inr (impossible, rest)) = absurd impossible
+
+-- ---- the calls, where all is met
+
+-- **Command can be met**: where all its needs are met DONE is allowed.
+pub command-met :
+    (text : List ℕ) (l : Lent) → ScriptRoom 0 l → ScriptSound l → 1 ≤ span text → First (command-needs (form (own text)) (own text) l) DONE →
+    Allowed (command-meaning text l) l DONE
+command-met text l room sound spans met =
+    let d = does-some (form (own text)) (own text) 0 l (record { room = room .start-room; sound = sound }) met in
+    record {
+      answer = record { number = DONE; one = span text; two = d .0 };
+      after = d .1 .0;
+      keeps = record {
+        first-unmet = inr (room, inr (sound, inr (spans, met)));
+        when-done = λ e. record { bytes-read = refl; done = d .1 .1 };
+        on-conflict = λ e. absurd (omega (arith, e));
+        when-refused = λ refused. absurd (refused refl);
+      };
+      number-is = refl;
+    }
+
+-- **Start can be met** where there is room.
+pub start-met : (l : Lent) → StartRoom l → Allowed (start-meaning l) l DONE
+start-met l room =
+    let a = open-met STEPS (l .tables) (room .tables-room) (omega arith) (omega arith) in
+    let x = a .keeps .when-done (a .number-is) in
+    record {
+      answer = record { number = DONE; one = a .answer .one; two = a .answer .two };
+      after = record { tables = a .after; notes = no-notes; names = l .names; lens = l .lens; out = l .out };
+      keeps = record {
+        first-unmet = inr (room, refl);
+        when-done = λ e. record { opened = x; emptied = refl; names-stay = refl; lens-stay = refl; out-stays = refl };
+        on-conflict = λ e. absurd (omega (arith, e));
+        when-refused = λ refused. absurd (refused refl);
+      };
+      number-is = refl;
+    }
+
+-- ---- every input has an outcome
+
+-- **Every input of start** has an outcome that its promise allows.
+pub start-possible : (l : Lent) → Outcome (start-meaning l) l
+start-possible l = tell (start-room? l)
+  where
+    tell : Dec (StartRoom l) → Outcome (start-meaning l) l
+    tell (yes room) = allowed-outcome (start-met l room)
+    tell (no short) = allowed-outcome (refusal-met (start-meaning l) l SHORT (λ e. omega (arith, e)) (λ e. omega (arith, e)) (inl (refl, short)))
+
+-- **Every input of command** has an outcome that its promise allows.
+pub command-possible : (text : List ℕ) (l : Lent) → Outcome (command-meaning text l) l
+command-possible text l =
+    let first = first-told (command-meaning text l .asks) (script-room? 0 l, (script-sound? l, (decLe 1 (span text), command-told (form (own text)) (own text) l))) in
+    tell (first .0) (first .1) (ℕ-discrete (first .0) DONE)
+  where
+    not-conflict : (g : ℕ) → First (command-meaning text l .asks) g → g ≡ CONFLICT → ⊥
+    not-conflict g (inl (is, unmet)) e = omega (arith, is, e)
+    not-conflict g (inr (room, inl (is, unmet))) e = omega (arith, is, e)
+    not-conflict g (inr (room, inr (sound, inl (is, unmet)))) e = omega (arith, is, e)
+    not-conflict g (inr (room, inr (sound, inr (spans, first)))) e = never-conflict (form (own text)) (own text) l g first e
+
+    tell : (g : ℕ) → First (command-meaning text l .asks) g → Dec (g ≡ DONE) → Outcome (command-meaning text l) l
+    tell g first (no refuses) = allowed-outcome (refusal-met (command-meaning text l) l g refuses (not-conflict g first) first)
+    tell g first (yes done) =
+        let x = granted text l (subst (First (command-meaning text l .asks)) done first) in
+        allowed-outcome (command-met text l (x .room) (x .sound) (x .spans) (x .met))

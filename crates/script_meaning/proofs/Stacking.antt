@@ -1,0 +1,206 @@
+-- Levels put on and taken off: a `push` puts empty levels on, whose marks are the number of rules held; a `pop` leaves the older levels with the rules below their marks.
+use Prim.Native.Nat.{ℕ, zero, suc, _+_, _-_, _≤_, _<_}
+use native.Mathlib.Omega.{arith}
+use native.Mathlib.Decide.{decLt}
+use mathlib.Core.Path.{_≡_, refl, sym, _∙_, ap, subst}
+use mathlib.Core.List.{List, [], _∷_}
+use mathlib.Core.Logic.{_↔_}
+use lib.ListN.{length, drop, length-drop}
+use lib.Seq.{drop-nil}
+use lib.IntN.{ℤ}
+use borrow.Author.Tests.{lt-ltb, le-ltb}
+use Rattle.meaning.specs.Bounds.{MARKS}
+use Rattle.meaning.specs.Tables.{Tables, Columns, at}
+use Rattle.levels.specs.Levels.{with-marks, marked, more-marks, Popped}
+use Rattle.levels.proofs.Laws.{with-marks-is}
+use Rattle.levels.proofs.Pushing.{marked-old, marked-new}
+use Rattle.script_meaning.specs.Record.{Lent, Known}
+use Rattle.script_meaning.specs.Effect.{with-tables, broken-left}
+use Rattle.script_meaning.specs.Traces.{History, with-levels, Agrees}
+use Rattle.script_meaning.proofs.Keeping.{Fine}
+use Rattle.script_meaning.proofs.Named.{of-with-levels, of-drop, agrees-levels}
+use Rattle.script_meaning.proofs.InForce.{InForce, cut-at, cut-older, KeptBelow, Clear, by-name}
+
+-- ---- levels put on
+
+-- Of the newest levels some are taken off again, or all and older ones too.
+newest-off : (n k : ℕ) (h : History) → k ≤ n → drop k (with-levels n h) ≡ with-levels (n - k) h
+newest-off n zero h below = ap (λ (m : ℕ). with-levels m h) same
+  where
+    same : n ≡ n - 0
+    same = omega arith
+newest-off zero (suc k) h below = absurd (omega arith)
+newest-off (suc n) (suc k) h below = newest-off n k h (omega arith) ∙ ap (λ (m : ℕ). with-levels m h) same
+  where
+    same : n - k ≡ suc n - suc k
+    same = omega arith
+
+all-off : (n k : ℕ) (h : History) → n ≤ k → drop k (with-levels n h) ≡ drop (k - n) h
+all-off zero k h above = ap (λ (m : ℕ). drop m h) same
+  where
+    same : k ≡ k - 0
+    same = omega arith
+all-off (suc n) zero h above = absurd (omega arith)
+all-off (suc n) (suc k) h above = all-off n k h (omega arith) ∙ ap (λ (m : ℕ). drop m h) same
+  where
+    same : k - n ≡ suc k - suc n
+    same = omega arith
+
+-- How many levels there are then.
+levels-longer : (n : ℕ) (h : History) → length (with-levels n h) ≡ length h + n
+levels-longer zero h = omega arith
+levels-longer (suc n) h = omega (arith, levels-longer n h)
+
+module _ (n : ℕ) (l : Lent) (h : History) (i : InForce l h) (few : l .tables .counts .marks + n ≤ MARKS) where
+  -- The tables with n marks more.
+  abbrev pushed : Tables
+  pushed = record {
+    counts = more-marks n (l .tables .counts);
+    rules = l .tables .rules;
+    days = l .tables .days;
+    marks = marked n (l .tables .counts .rules) (l .tables .counts .marks) (l .tables .marks);
+    watched = l .tables .watched;
+  }
+
+  -- The marks that were there, and the new ones.
+  old-mark : (j : ℕ) → j < l .tables .counts .marks → at (pushed .marks) j ≡ at (l .tables .marks) j
+  old-mark j older = marked-old n (l .tables .counts .rules) (l .tables .counts .marks) (l .tables .marks) j older
+
+  new-cut : (k j : ℕ) → k + j ≡ l .tables .counts .marks + n → l .tables .counts .marks ≤ j → cut-at pushed k j ≡ l .tables .counts .rules
+  new-cut zero j levels newer = refl
+  new-cut (suc k) j levels newer =
+      marked-new n (l .tables .counts .rules) (l .tables .counts .marks) (l .tables .marks) j newer (omega arith) (omega (arith, i .fine .room .tables-room .marks-room))
+
+  -- An older level has its mark and its terms; a new one has all rules, and no term of its own.
+  pushed-exact :
+      (k j : ℕ) → k + j ≡ l .tables .counts .marks + n → Clear (l .notes .broken) j →
+      (e : ℕ → ℤ) → KeptBelow pushed (cut-at pushed k j) e ↔ Agrees (by-name l e) (drop k (with-levels n h))
+  pushed-exact k j levels clear e = tell (decLt j (l .tables .counts .marks))
+    where
+      tell : Dec (j < l .tables .counts .marks) → KeptBelow pushed (cut-at pushed k j) e ↔ Agrees (by-name l e) (drop k (with-levels n h))
+      tell (yes older) =
+          let was = i .exact (k - n) j (omega arith) clear e in
+          let cut : cut-at (l .tables) (k - n) j ≡ cut-at pushed k j = cut-older (l .tables) (k - n) j (omega arith) ∙ sym (old-mark j older) ∙ sym (cut-older pushed k j (omega arith)) in
+          let off : drop (k - n) h ≡ drop k (with-levels n h) = sym (all-off n k h (omega arith)) in (
+            (λ kept. subst (Agrees (by-name l e)) off (was .0 (subst (λ (c : ℕ). KeptBelow (l .tables) c e) (sym cut) kept))),
+            (λ agrees. subst (λ (c : ℕ). KeptBelow (l .tables) c e) cut (was .1 (subst (Agrees (by-name l e)) (sym off) agrees))),
+          )
+      tell (no newer) =
+          let was = i .exact 0 (l .tables .counts .marks) (omega arith) (λ some. omega (arith, clear some)) e in
+          let cut : cut-at pushed k j ≡ l .tables .counts .rules = new-cut k j levels (omega arith) in
+          let off : drop k (with-levels n h) ≡ with-levels (n - k) h = newest-off n k h (omega arith) in
+          let empty = agrees-levels (by-name l e) (n - k) h in (
+            (λ kept. subst (Agrees (by-name l e)) (sym off) (empty .1 (was .0 (subst (λ (c : ℕ). KeptBelow (l .tables) c e) cut kept)))),
+            (λ agrees. subst (λ (c : ℕ). KeptBelow (l .tables) c e) (sym cut) (was .1 (empty .0 (subst (Agrees (by-name l e)) off agrees)))),
+          )
+
+  pushed-none :
+      (k j : ℕ) → k + j ≡ l .tables .counts .marks + n → j + 1 ≡ l .notes .broken → (e : ℕ → ℤ) → Agrees (by-name l e) (drop k (with-levels n h)) → ⊥
+  pushed-none k j levels level e agrees =
+      let deep = i .fine .sound .level-open in
+      i .none (k - n) j (omega (arith, levels, level, deep)) level e (subst (Agrees (by-name l e)) (all-off n k h (omega (arith, levels, level, deep))) agrees)
+
+  -- **Push** keeps the link.
+  pub push-in-force : Fine (with-tables (with-marks n (l .tables)) (l .notes .broken) l) → InForce (with-tables (with-marks n (l .tables)) (l .notes .broken) l) (with-levels n h)
+  push-in-force g = subst (λ (t : Tables). InForce (with-tables t (l .notes .broken) l) (with-levels n h)) (with-marks-is n (l .tables)) now
+    where
+      now : InForce (with-tables pushed (l .notes .broken) l) (with-levels n h)
+      now = record {
+        fine = subst (λ (t : Tables). Fine (with-tables t (l .notes .broken) l)) (sym (with-marks-is n (l .tables))) g;
+        as-many = omega (arith, levels-longer n h, i .as-many);
+        declared = of-with-levels (Known l) n h (i .declared);
+        exact = pushed-exact;
+        none = pushed-none;
+      }
+
+-- ---- levels taken off
+
+-- What is left of tables where n marks are dropped.
+record Left (n : ℕ) (t u : Tables) : Type 0 where
+  marks-left : u .counts .marks + n ≡ t .counts .marks
+  rules-left : u .counts .rules ≡ cut-at t n (u .counts .marks)
+  same-rules : u .rules ≡ t .rules
+  same-marks : u .marks ≡ t .marks
+
+-- The rules left are those of the level that is now the newest.
+left-of : (n : ℕ) (t u : Tables) → n ≤ t .counts .marks → Popped n t u → Left n t u
+left-of zero t u few p = subst (Left zero t) (sym (p .dropped)) (record { marks-left = omega arith; rules-left = refl; same-rules = refl; same-marks = refl })
+left-of (suc n) t u few p = subst (Left (suc n) t) (sym (p .dropped)) (record { marks-left = omega arith; rules-left = refl; same-rules = refl; same-marks = refl })
+
+-- Levels taken off in two steps.
+drop-drop : (n k : ℕ) (h : History) → drop k (drop n h) ≡ drop (n + k) h
+drop-drop zero k h = ap (λ (m : ℕ). drop m h) same
+  where
+    same : k ≡ zero + k
+    same = omega arith
+drop-drop (suc n) k [] = drop-nil k ∙ sym (drop-nil (suc n + k))
+drop-drop (suc n) k (l ∷ h) = drop-drop n k h ∙ ap (λ (m : ℕ). drop m (l ∷ h)) same
+  where
+    same : suc (n + k) ≡ suc n + k
+    same = omega arith
+
+module _ (n : ℕ) (l : Lent) (h : History) (i : InForce l h) (few : n ≤ l .tables .counts .marks) (u : Tables) (left : Left n (l .tables) u) where
+  -- A level left is clear where it was, and the contradictory level is left only where it was it.
+  left-clear : (j : ℕ) → j ≤ u .counts .marks → Clear (broken-left (l .notes .broken) u) j → Clear (l .notes .broken) j
+  left-clear j in-it clear some = tell (decLt (u .counts .marks + 1) (l .notes .broken))
+    where
+      tell : Dec (u .counts .marks + 1 < l .notes .broken) → j + 1 < l .notes .broken
+      tell (yes deeper) = omega arith
+      tell (no stays) =
+          let same : broken-left (l .notes .broken) u ≡ l .notes .broken = rw (le-ltb (u .counts .marks + 1) (l .notes .broken) (omega arith)) refl in
+          omega (arith, same, clear (λ z. some (sym same ∙ z)))
+
+  left-level : (j : ℕ) → j + 1 ≡ broken-left (l .notes .broken) u → j + 1 ≡ l .notes .broken
+  left-level j level = tell (decLt (u .counts .marks + 1) (l .notes .broken))
+    where
+      tell : Dec (u .counts .marks + 1 < l .notes .broken) → j + 1 ≡ l .notes .broken
+      tell (yes deeper) =
+          let gone : broken-left (l .notes .broken) u ≡ 0 = rw (lt-ltb (u .counts .marks + 1) (l .notes .broken) deeper) refl in
+          absurd (omega (arith, gone, level))
+      tell (no stays) =
+          let same : broken-left (l .notes .broken) u ≡ l .notes .broken = rw (le-ltb (u .counts .marks + 1) (l .notes .broken) (omega arith)) refl in
+          level ∙ same
+
+  -- Each level that is left has the rules that it had.
+  left-cut : (k j : ℕ) → k + j ≡ u .counts .marks → cut-at (l .tables) (n + k) j ≡ cut-at u k j
+  left-cut zero j levels = ap (λ (m : ℕ). cut-at (l .tables) m j) same ∙ ap (cut-at (l .tables) n) here ∙ sym (left .rules-left)
+    where
+      same : n + 0 ≡ n
+      same = omega arith
+
+      here : j ≡ u .counts .marks
+      here = omega arith
+  left-cut (suc k) j levels = cut-older (l .tables) (n + suc k) j (omega arith) ∙ ap (λ (m : List ℕ). at m j) (sym (left .same-marks))
+
+  same-kept : (c : ℕ) (e : ℕ → ℤ) → KeptBelow (l .tables) c e ↔ KeptBelow u c e
+  same-kept c e =
+      let back = left .same-rules in (
+        (λ kept. subst (λ (x : Columns). KeptBelow (record { counts = u .counts; rules = x; days = u .days; marks = u .marks; watched = u .watched }) c e) (sym back) kept),
+        (λ kept. subst (λ (x : Columns). KeptBelow (record { counts = u .counts; rules = x; days = u .days; marks = u .marks; watched = u .watched }) c e) back kept),
+      )
+
+  left-exact :
+      (k j : ℕ) → k + j ≡ u .counts .marks → Clear (broken-left (l .notes .broken) u) j →
+      (e : ℕ → ℤ) → KeptBelow u (cut-at u k j) e ↔ Agrees (by-name l e) (drop k (drop n h))
+  left-exact k j levels clear e =
+      let was = i .exact (n + k) j (omega (arith, levels, left .marks-left)) (left-clear j (omega arith) clear) e in
+      let same = same-kept (cut-at u k j) e in (
+        (λ kept. subst (Agrees (by-name l e)) (sym (drop-drop n k h)) (was .0 (subst (λ (c : ℕ). KeptBelow (l .tables) c e) (sym (left-cut k j levels)) (same .1 kept)))),
+        (λ agrees. same .0 (subst (λ (c : ℕ). KeptBelow (l .tables) c e) (left-cut k j levels) (was .1 (subst (Agrees (by-name l e)) (drop-drop n k h) agrees)))),
+      )
+
+  pop-left-in-force : Fine (with-tables u (broken-left (l .notes .broken) u) l) → InForce (with-tables u (broken-left (l .notes .broken) u) l) (drop n h)
+  pop-left-in-force g = record {
+    fine = g;
+    as-many = omega (arith, length-drop n h, i .as-many, left .marks-left);
+    declared = of-drop (Known l) n h (i .declared);
+    exact = left-exact;
+    none = λ k j levels level e agrees.
+        i .none (n + k) j (omega (arith, levels, left .marks-left)) (left-level j level) e (subst (Agrees (by-name l e)) (drop-drop n k h) agrees);
+  }
+
+-- **Pop** keeps the link.
+pub pop-in-force :
+    (n : ℕ) (l : Lent) (h : History) → InForce l h → n ≤ l .tables .counts .marks → (u : Tables) → Popped n (l .tables) u →
+    Fine (with-tables u (broken-left (l .notes .broken) u) l) → InForce (with-tables u (broken-left (l .notes .broken) u) l) (drop n h)
+pop-in-force n l h i few u p = pop-left-in-force n l h i few u (left-of n (l .tables) u few p)

@@ -1,0 +1,86 @@
+-- Fresh tables are sound: no rule, mark or name is there that could be out of bounds, every chain is empty, and every day is 0.
+use Prim.Native.Nat.{ℕ, _*_, _≤_, _<_}
+use native.Mathlib.Omega.{arith}
+use mathlib.Core.Path.{_≡_, refl, sym, subst}
+use mathlib.Core.Bool.{false}
+use mathlib.Core.List.{List}
+use lib.ListN.{length, replicate, length-replicate, getD-replicate}
+use Rattle.meaning.specs.Bounds.{STEPS, RULES, MARKS, NAME-BYTES}
+use Rattle.meaning.specs.Tables.{at}
+use Rattle.chains.specs.Chains.{Empty}
+use Rattle.chains.proofs.Laws.{chained-none}
+use Rattle.names.specs.Names.{BUCKETS, IndexRoom}
+use Rattle.lent.specs.Idle.{idle}
+use Rattle.script_meaning.specs.Record.{Lent, StartRoom}
+use Rattle.script_meaning.specs.Whole.{blank}
+use Rattle.script_meaning.proofs.Playing.{blank-fresh}
+use lib.IntN.{ℤ, pos}
+use Rattle.meaning.specs.declared.Counts.{Counts}
+use Rattle.script_meaning.specs.declared.Notes.{Notes}
+use Rattle.script_command.specs.Carrying.{in-hand, Maintained}
+
+-- The counts and the record at the start.
+abbrev pub first-counts : Counts
+first-counts = record { steps = STEPS; rules = 0; marks = 0; watched = 0 }
+
+abbrev pub first-notes : Notes
+first-notes = record { names = 0; logic = false; broken = 0; sat = false }
+
+pub fresh-maintained :
+    (xs ys : List ℕ) (cs : List ℤ) (days marks names lens out heads nexts kept hashes name-heads name-nexts : List ℕ) →
+    StartRoom (in-hand first-counts xs ys cs days marks first-notes names lens out) →
+    ((v : ℕ) → v < STEPS → at days v ≡ 0) → Empty STEPS heads → STEPS ≤ length heads → RULES ≤ length nexts →
+    IndexRoom hashes name-heads name-nexts → Empty BUCKETS name-heads →
+    Maintained (in-hand first-counts xs ys cs days marks first-notes names lens out) heads nexts kept hashes name-heads name-nexts
+fresh-maintained xs ys cs days marks names lens out heads nexts kept hashes name-heads name-nexts room zeros none heads-room nexts-room index-room no-names =
+    record {
+      room = room;
+      sound = record {
+        tables-sound = record {
+          counts-in = record { some-step = omega arith; steps-in = omega arith; rules-in = omega arith; marks-in = omega arith; watched-in = omega arith };
+          rules-good = λ i h. absurd (omega arith);
+          watched-good = λ i h. absurd (omega arith);
+          marks-never-fall = λ i j h g. absurd (omega arith);
+          marks-held = λ i h. absurd (omega arith);
+          days-earliest = record { plan = λ i h. absurd (omega arith); no-later = λ q p v h. omega (arith, zeros v h) };
+        };
+        all-steps = refl;
+        names-in = omega arith;
+        names-short = λ k h. absurd (omega arith);
+        names-in-form = λ k h. absurd (omega arith);
+        names-different = λ j k h g. absurd (omega arith);
+        level-open = omega arith;
+        no-sat = λ d. refl;
+      };
+      chained = record { chained = chained-none STEPS xs heads nexts none; heads-room = heads-room; nexts-room = omega arith };
+      nexts-room = nexts-room;
+      days-kept = record { kept-earliest = λ k held h. absurd (omega arith) };
+      indexed = record { room = index-room; hashes-are = λ k h. absurd (omega arith); chained = chained-none BUCKETS hashes name-heads name-nexts no-names };
+    }
+
+-- A table of n zeros.
+abbrev pub zeros : ℕ → List ℕ
+zeros n = replicate {A = ℕ} n 0
+
+long : (n : ℕ) → n ≤ length (zeros n)
+long n = omega (arith, length-replicate {A = ℕ} n 0)
+
+none-set : (v : ℕ) → v < 256 → at (zeros 256) v ≡ 0
+none-set v h = getD-replicate {A = ℕ} 256 v 0 0 h
+
+-- What a script's own tables are, in hand.
+abbrev pub first-hand : List ℕ → Lent
+first-hand out =
+    in-hand first-counts (zeros RULES) (zeros RULES) (replicate RULES (pos 0)) (zeros STEPS) (zeros MARKS) first-notes (zeros (NAME-BYTES * STEPS)) (zeros STEPS) out
+
+pub first-is : (out : List ℕ) → first-hand out ≡ blank out
+unfolding idle
+first-is out = refl
+
+-- Tables of zeros are sound, with the links and the index of the names that are lent beside them, and any table for kept days: no mark is open.
+pub fresh-tables : (out : List ℕ) {kept : List ℕ} → Maintained (first-hand out) (zeros 256) (zeros 4096) kept (zeros 256) (zeros 256) (zeros 256)
+fresh-tables out {kept} =
+    fresh-maintained (zeros RULES) (zeros RULES) (replicate RULES (pos 0)) (zeros STEPS) (zeros MARKS) (zeros (NAME-BYTES * STEPS)) (zeros STEPS) out (zeros 256) (zeros 4096) kept
+    (zeros 256) (zeros 256) (zeros 256)
+    (subst StartRoom (sym (first-is out)) (blank-fresh out .room)) (blank-fresh out .day-0) none-set (long 256) (long 4096)
+    (record { hashes-room = long 256; heads-room = long 256; nexts-room = long 256 }) none-set

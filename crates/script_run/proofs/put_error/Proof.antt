@@ -1,0 +1,47 @@
+-- `script_run::put_error` meets its contract: three words, each written where the one before it ended, are one.
+use mathlib.Core.List.{[], _∷_, _++_}
+use Rattle.write.specs.Written.{decimal}
+use Rattle.values.proofs.Wrote.{wrote-both}
+use borrow.Author.Needs.{needs}
+use Rattle.script_run.proofs.put_error.Statement.{statement}
+use Rattle.script_run.proofs.put_error.Tie as tie
+use Rattle.script_run.proofs.put_error.Reads as reads
+use Rattle.script_run.proofs.put_error.Lts as lts
+use Rattle.write.proofs.number.Reads as number-reads
+use Rattle.write.proofs.word.Reads as word-reads
+
+slice-aggregate-word : tie.Need-slice-aggregate-word
+slice-aggregate-word c = search needs
+
+word-requires : tie.Need-word-requires
+word-requires c κs = search needs
+
+number-requires : tie.Need-number-requires
+number-requires c κs = search needs
+
+slice-aggregate-word-2 : tie.Need-slice-aggregate-word-2
+slice-aggregate-word-2 c = search needs
+
+word-requires-2 : tie.Need-word-requires-2
+word-requires-2 c κs = search needs
+
+same-length : tie.Need-same-length
+same-length c = search needs
+
+returns : tie.Need-returns
+returns c =
+    let digits = decimal (c .before .before .before .before .before .before .before .before .before .before .before .before .before .before .before .args .number) in
+    wrote-both (c .before .before .before .before .before .before .before .before .before .before .before .before .before .before .before .args .out .now) (c .before .before .before .before .before .before .before .before .before .before .before .before .before .before .before .args .at) (40 ∷ 101 ∷ 114 ∷ 114 ∷ 111 ∷ 114 ∷ 32 ∷ 34 ∷ []) (digits ++ (34 ∷ 41 ∷ 10 ∷ [])) (c .before .before .before .before .before .before .before .before .before .before .before .word .ensures)
+    (wrote-both (c .before .before .before .before .before .before .before .before .before .before .before .word .last .0) (c .before .before .before .before .before .before .before .before .before .before .before .word .result) digits (34 ∷ 41 ∷ 10 ∷ []) (c .before .before .before .before .before .before .before .number .ensures) (c .before .before .word2 .ensures))
+
+pub put-error-spec : {M : Type 1} → statement M
+put-error-spec =
+    tie.close
+    (tie.spec
+    slice-aggregate-word
+    word-requires
+    number-requires
+    slice-aggregate-word-2
+    word-requires-2
+    same-length
+    returns)
