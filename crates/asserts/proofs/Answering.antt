@@ -8,19 +8,18 @@ use lib.IntN.{ℤ, pos}
 use native.Mathlib.Omega.{arith}
 use Rattle.meaning.specs.declared.Counts.{Counts}
 use Rattle.meaning.specs.Bounds.{RULES}
-use Rattle.meaning.specs.Rules.{InBounds}
+use Rattle.meaning.specs.Rules.{InBounds, rule}
 use Rattle.meaning.specs.Tables.{Tables, at}
 use Rattle.meaning.specs.Calls.{rules-of, held-in}
 use Rattle.meaning.proofs.Theory.{more-fits}
-use Rattle.chains.specs.Chains.{number, Linkable, Pushed}
+use Rattle.chains.specs.Chains.{number, Linkable, Pushed, LentChains}
 use Rattle.lent.specs.Lent.{columns, first}
 use Rattle.lent.specs.Idle.{idle, unwatched}
-use Rattle.lent.specs.Promises.{rule}
 use Rattle.inner_watch.proofs.Equal.{tables-equal}
-use Rattle.inner_add.specs.Lending.{Ready, LentChains}
+use Rattle.inner_add.specs.Lending.{Holdable}
 use Rattle.inner_add.specs.Fit.{Tells, one-more}
 use Rattle.inner_add.proofs.Answers.{base}
-use Rattle.script_meaning.specs.Effect.{Holds}
+use Rattle.script_meaning.specs.Effect.{HeldNow}
 use Rattle.asserts.specs.One.{WithMarks, AddsOne}
 use Rattle.asserts.proofs.Linking.{linkable, chains-pushed}
 
@@ -33,7 +32,7 @@ module _
   before = unwatched counts xs ys cs days
 
   -- The rule can be tried.
-  pub ready : Ready (counts .steps) (first (counts .rules)) number (counts .rules) xs ys cs days heads nexts x y c
+  pub ready : Holdable (counts .steps) (first (counts .rules)) number (counts .rules) xs ys cs days heads nexts x y c
   ready = record {
     base = base counts xs ys cs days (asked .0 .0) (idle .firsts) (idle .seconds) (idle .amounts) (asked .0 .1) heads nexts (asked .1 .0);
     new-good = asked .1 .1 .0;
@@ -45,7 +44,7 @@ module _
       (fits : Bool) (moved : ℕ) (xs′ ys′ : List ℕ) (cs′ : List ℤ) (days′ : List ℕ)
       (tells : Tells (counts .steps) (first (counts .rules)) (counts .rules) (rule x y c) (columns xs ys cs) days fits moved (columns xs′ ys′ cs′) days′) where
     -- Where it fits, it is held with one more rule counted, whatever the marks are.
-    holds : fits ≡ true → (after : Counts) → after ≡ one-more counts → (marks : List ℕ) → Holds (rule x y c) (before marks) (unwatched after xs′ ys′ cs′ days′ marks)
+    holds : fits ≡ true → (after : Counts) → after ≡ one-more counts → (marks : List ℕ) → HeldNow (rule x y c) (before marks) (unwatched after xs′ ys′ cs′ days′ marks)
     holds is after counted marks = record {
       fits = more-fits (rules-of (before marks)) (held-in (before marks)) (counts .rules) (rule x y c) (λ h. omega arith) (λ v. pos (at days′ v)) (tells .when-fits is .planned .earliest .plan);
       rule-held = tables-equal _ _ counted (tells .when-fits is .written) refl refl refl;

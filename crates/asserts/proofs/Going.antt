@@ -8,19 +8,19 @@ use mathlib.Core.Logic.{_⊎_, inl, inr}
 use lib.ListN.{length}
 use lib.IntN.{ℤ}
 use Rattle.meaning.specs.Bounds.{RULES, DONE}
-use Rattle.meaning.specs.Rules.{Rule, InBounds, InAmount}
+use Rattle.meaning.specs.Rules.{Rule, InBounds, InAmount, rule}
 use Rattle.meaning.specs.Tables.{Tables}
 use Rattle.meaning.specs.Promise.{First}
 use Rattle.meaning.proofs.Sequences.{Kept}
 use Rattle.lent.specs.Idle.{idle}
-use Rattle.lent.specs.Promises.{Border, rule}
+use Rattle.lent.specs.Promises.{Border}
 use Rattle.text.specs.Lexicon.{bytes}
 use Rattle.names.specs.Names.{Found, AllDifferent}
 use Rattle.atoms.specs.declared.Atom.{Atom}
 use Rattle.atoms.specs.Atoms.{Named, rules-at, atom-rule, Next}
 use Rattle.script_meaning.specs.Record.{KnownIn, step-in}
-use Rattle.script_meaning.specs.Effect.{resolved, Holds, AddsAll}
-use Rattle.script_meaning.specs.Commands.{rule-needs}
+use Rattle.script_meaning.specs.Effect.{resolved, HeldNow, AddsAll}
+use Rattle.script_meaning.specs.Commands.{term-needs}
 use Rattle.script_meaning.proofs.Adding.{holds-kept}
 use Rattle.script_meaning.proofs.Beside.{beside, adds-beside}
 use Rattle.script_meaning.proofs.Seeking.{step-is}
@@ -44,14 +44,14 @@ in-steps n names lens = resolved (step-in n names lens)
 pub record Left (n : ℕ) (names lens : List ℕ) (all : List Named) (start : Tables) (rs : List Named) (t : Tables) : Type 0 where
   pub border : Border t
   pub named-steps : n ≤ t .counts .steps
-  pub needed : First (rule-needs (KnownIn n names lens) rs []) DONE
+  pub needed : First (term-needs (KnownIn n names lens) rs []) DONE
   pub places : t .counts .rules + length rs ≤ RULES
   pub goes-on :
       (clash : Bool) (u : Tables) → AddsAll (map (in-steps n names lens) rs) t clash u → AddsAll (map (in-steps n names lens) all) start clash u
 
 module _ (n : ℕ) (names lens : List ℕ) where
   pub left-start :
-      (all : List Named) (start : Tables) → Border start → n ≤ start .counts .steps → First (rule-needs (KnownIn n names lens) all []) DONE →
+      (all : List Named) (start : Tables) → Border start → n ≤ start .counts .steps → First (term-needs (KnownIn n names lens) all []) DONE →
       start .counts .rules + length all ≤ RULES → Left n names lens all start all start
   left-start all start border named needed places =
       record { border = border; named-steps = named; needed = needed; places = places; goes-on = λ clash u h. h }
@@ -70,12 +70,12 @@ module _ (n : ℕ) (names lens : List ℕ) where
 
     module _ (a : Named) (rs : List Named) (t : Tables) (left : Left n names lens all start (a ∷ rs) t) where
       -- The needs of the next rule are met.
-      met : KnownIn n names lens (a .first) × (KnownIn n names lens (a .second) × (InAmount (a .amount) × First (rule-needs (KnownIn n names lens) rs []) DONE))
+      met : KnownIn n names lens (a .first) × (KnownIn n names lens (a .second) × (InAmount (a .amount) × First (term-needs (KnownIn n names lens) rs []) DONE))
       met = pass (left .needed)
         where
           pass :
-              First (rule-needs (KnownIn n names lens) (a ∷ rs) []) DONE →
-              KnownIn n names lens (a .first) × (KnownIn n names lens (a .second) × (InAmount (a .amount) × First (rule-needs (KnownIn n names lens) rs []) DONE))
+              First (term-needs (KnownIn n names lens) (a ∷ rs) []) DONE →
+              KnownIn n names lens (a .first) × (KnownIn n names lens (a .second) × (InAmount (a .amount) × First (term-needs (KnownIn n names lens) rs []) DONE))
           pass (inl name) = absurd (omega (arith, name .0))
           pass (inr (x, inl name)) = absurd (omega (arith, name .0))
           pass (inr (x, inr (y, inl amount))) = absurd (omega (arith, amount .0))
@@ -107,7 +107,7 @@ module _ (n : ℕ) (names lens : List ℕ) where
             goes-on = λ clash v rest. left .goes-on clash v (inr (u, (held, rest)));
           }
         where
-          held : Holds (in-steps n names lens a) t u
+          held : HeldNow (in-steps n names lens a) t u
           held = one .held-now is
 
           kept : Kept u

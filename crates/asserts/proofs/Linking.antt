@@ -8,14 +8,13 @@ use lib.Seq.{getD-set-same, getD-set-other}
 use Rattle.meaning.specs.Bounds.{RULES}
 use Rattle.meaning.specs.Rules.{Rule, InBounds}
 use Rattle.meaning.specs.Tables.{Tables, at}
-use Rattle.chains.specs.Chains.{Chained, Linkable, Pushed}
+use Rattle.chains.specs.Chains.{Chained, Linkable, Pushed, LentChains}
 use Rattle.chains.proofs.Laws.{chained-agree, chained-more}
 use Rattle.lent.specs.Promises.{Border}
-use Rattle.inner_add.specs.Lending.{LentChains}
-use Rattle.script_meaning.specs.Effect.{Holds}
+use Rattle.script_meaning.specs.Effect.{HeldNow}
 
 -- The tables t before the rule r was added, and u after it.
-module _ (r : Rule) (t u : Tables) (held : Holds r t u) where
+module _ (r : Rule) (t u : Tables) (held : HeldNow r t u) where
   firsts-are : u .rules .firsts ≡ set (t .rules .firsts) (t .counts .rules) (r .first)
   firsts-are = ap (λ (v : Tables). v .rules .firsts) (held .rule-held)
 

@@ -4,17 +4,16 @@ ghost use mathlib.Core.List.{List, [], map};
 ghost use Prim.Native.Nat.{ℕ, _+_, _≤_, _<_};
 ghost use lib.ListN.{length};
 ghost use Rattle.meaning.specs.Bounds.{RULES, DONE};
-ghost use Rattle.meaning.specs.Rules.{InBounds};
+ghost use Rattle.meaning.specs.Rules.{InBounds, rule};
 ghost use Rattle.meaning.specs.Promise.{First};
 ghost use Rattle.text.specs.Table.{TABLE};
 ghost use Rattle.lent.specs.Idle.{unwatched};
-ghost use Rattle.lent.specs.Promises.{rule};
-ghost use Rattle.inner_add.specs.Lending.{LentChains};
+ghost use Rattle.chains.specs.Chains.{LentChains};
 ghost use Rattle.names.specs.Names.{Shelved, Indexed, AllDifferent};
 ghost use Rattle.atoms.specs.Atoms.{rules-at};
 ghost use Rattle.script_meaning.specs.Record.{KnownIn, step-in};
 ghost use Rattle.script_meaning.specs.Effect.{resolved, AddsAll};
-ghost use Rattle.script_meaning.specs.Commands.{rule-needs};
+ghost use Rattle.script_meaning.specs.Commands.{term-needs};
 ghost use Rattle.asserts.specs.One.{WithMarks, AddsOne};
 use meaning::Counts;
 
@@ -88,7 +87,7 @@ pub fn add_rules(
     requires { ⌜ Indexed n (now names) (now lens) (now hashes) (now «name_heads») (now «name_nexts») ⌝ }
     requires { ⌜ AllDifferent n (now names) (now lens) ⌝ }
     requires { ⌜ n ≤ counts .steps ⌝ }
-    requires { ⌜ First (rule-needs (KnownIn n (now names) (now lens)) (rules-at (now s) at) []) DONE ⌝ }
+    requires { ⌜ First (term-needs (KnownIn n (now names) (now lens)) (rules-at (now s) at) []) DONE ⌝ }
     requires { ⌜ counts .rules + length (rules-at (now s) at) ≤ RULES ⌝ }
     requires { ⌜ WithMarks counts (now xs) (now ys) (now cs) (now days) ⌝ }
     requires { ⌜ LentChains (counts .steps) (counts .rules) (now xs) (now heads) (now nexts) ⌝ }

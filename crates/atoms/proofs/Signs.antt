@@ -11,7 +11,8 @@ use mir.Val.{SFits, toZ, ofZ}
 use mir.ValLaws.{toZ-pos, toZ-ofZ}
 use borrow.Author.Needs.{sfits-of}
 use Rattle.atoms.specs.Reading.{final}
-use Rattle.meaning.proofs.Whole.{up, dn, →eq, up-neg, dn-neg, minus-is}
+use Rattle.meaning.specs.Reckoning.{up, dn}
+use Rattle.meaning.proofs.Whole.{→eq, up-neg, dn-neg, minus-is}
 
 pub swapped : (a b : ℕ) → negℤ (pos a -ℤ pos b) ≡ (pos b -ℤ pos a)
 swapped a b =

@@ -32,6 +32,12 @@ number i = i
 abbrev pub Chained : ℕ → ℕ → List ℕ → List ℕ → List ℕ → Type 0
 Chained n m = ChainsOf n (first m) number
 
+-- The chains of the first m rules over n steps, with a place for each.
+pub record LentChains (n m : ℕ) (xs heads nexts : List ℕ) : Type 0 where
+  pub chained : Chained n m xs heads nexts
+  pub heads-room : n ≤ length heads
+  pub nexts-room : m ≤ length nexts
+
 -- Rule m can be put on its chain, or taken off it: it has a place in each list, its first step has a head, and its link fits a u16.
 pub record Linkable (m : ℕ) (xs heads nexts : List ℕ) : Type 0 where
   pub first-place : m < length xs

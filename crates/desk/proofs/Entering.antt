@@ -11,7 +11,7 @@ use Rattle.meaning.specs.Promise.{Need, needs, First, Meaning, Obeys, bare}
 use Rattle.meaning.proofs.Needs.{AllMet, done-met, not-given, obeys-refused}
 use Rattle.lent.specs.Decides.{Decides, yes-or-no}
 use Rattle.lent.specs.Promises.{Border}
-use Rattle.inner_add.specs.Lending.{LentChains}
+use Rattle.chains.specs.Chains.{LentChains}
 use Rattle.desk.specs.Entry.{entry-needs, Entered}
 
 -- What decides a thing that holds says yes.

@@ -10,7 +10,7 @@ use lib.IntN.{ℤ}
 use Rattle.meaning.specs.declared.Counts.{Counts}
 use Rattle.meaning.specs.declared.Reply.{Reply}
 use Rattle.meaning.specs.Bounds.{DONE}
-use Rattle.meaning.specs.Rules.{Rule, InSteps, Refutes}
+use Rattle.meaning.specs.Rules.{Rule, InSteps, Refutes, rule}
 use Rattle.meaning.specs.Tables.{Tables, at}
 use Rattle.meaning.specs.Promise.{Given, given}
 use Rattle.meaning.specs.Calls.{WithLists, trial-meaning, rules-of, held-in, next-in, rules-and, held-and}
@@ -19,7 +19,7 @@ use Rattle.meaning.proofs.More.{more-all}
 use Rattle.meaning.proofs.Lists.{filled-length}
 use Rattle.meaning.proofs.Theory.{earliest-ext}
 use Rattle.lent.specs.Lent.{tables}
-use Rattle.lent.specs.Promises.{rule, Tries}
+use Rattle.lent.specs.Promises.{Tries}
 use Rattle.desk.specs.Part.{PartOf, TrialPart, Handed}
 
 module _

@@ -7,7 +7,7 @@ use lib.ListN.{length, take}
 use Rattle.meaning.specs.Bounds.{ROOM, TEXT}
 use Rattle.meaning.specs.Promise.{Given}
 use Rattle.script_meaning.specs.Whole.{rest, RunsScript}
-use Rattle.script_meaning.specs.ByCalls.{CallsAt, Goes, RunsByCalls}
+use Rattle.script_meaning.specs.ByCalls.{CallsAt, Goes, RunsByCalls, GoesBy}
 use Rattle.script_meaning.proofs.ByCalls.{caller-script}
 use Rattle.text.specs.Lexicon.{token-at}
 use Rattle.export_record.specs.Records.{FlagsFit, LentByC, seen}
@@ -20,11 +20,11 @@ module _ (s : List ℕ) where
   calls-seen i l a m fits c = record { some = c .some; out = c .out; room = c .room; keeps = command-seen (rest s i) (with-out (c .out) l) a m fits (c .keeps) }
 
   goes-seen : (i : ℕ) (l : LentByC) (g : ℕ) (b : List ℕ) → FlagsFit (l .kept) → GoesByC s i l g b → Goes s i (seen l) g b
-  goes-seen i l g b fits (GoesByC.at-end _ _ over-here) = Goes.at-end i (seen l) over-here
-  goes-seen i l g b fits (GoesByC.refused _ _ a m c refuses) = Goes.refused i (seen l) a (seen m) (calls-seen i l a m fits c) refuses
-  goes-seen i l g b fits (GoesByC.exited _ _ a m c done exit) = Goes.exited i (seen l) a (seen m) (calls-seen i l a m fits c) done exit
-  goes-seen i l g b fits (GoesByC.goes-on _ _ a m c done stays _ d on) =
-      Goes.goes-on i (seen l) a (seen m) (calls-seen i l a m fits c) done stays g d (goes-seen (token-at s i .from + a .one) m g d (c .keeps .when-done done .flags-fit) on)
+  goes-seen i l g b fits (GoesBy.at-end _ _ over-here) = GoesBy.at-end i (seen l) over-here
+  goes-seen i l g b fits (GoesBy.refused _ _ a m c refuses) = GoesBy.refused i (seen l) a (seen m) (calls-seen i l a m fits c) refuses
+  goes-seen i l g b fits (GoesBy.exited _ _ a m c done exit) = GoesBy.exited i (seen l) a (seen m) (calls-seen i l a m fits c) done exit
+  goes-seen i l g b fits (GoesBy.goes-on _ _ a m c done stays _ d on) =
+      GoesBy.goes-on i (seen l) a (seen m) (calls-seen i l a m fits c) done stays g d (goes-seen (token-at s i .from + a .one) m g d (c .keeps .when-done done .flags-fit) on)
 
   pub runs-seen : (l : LentByC) (g : ℕ) (b : List ℕ) → RunsByC s l g b → RunsByCalls s (seen l) g b
   runs-seen l g b x = record {

@@ -13,7 +13,7 @@ use Rattle.meaning.specs.Calls.{Split}
 use Rattle.meaning.specs.Runs.{Call, Made}
 use Rattle.meaning.proofs.Sequences.{Kept}
 use Rattle.script_meaning.specs.Commands.{start-meaning, command-meaning}
-use Rattle.script_meaning.specs.Mixed.{MixedRun}
+use Rattle.script_meaning.specs.Mixed.{MixedRun, MixedOf}
 use Rattle.script_meaning.proofs.Mixing.{mixed-kept, mixed-splits}
 use Rattle.export_record.specs.declared.Record.{Record}
 use Rattle.export_record.specs.Records.{FlagsFit, LentByC, seen, start-by-c, command-by-c}
@@ -62,14 +62,14 @@ command-unfit text l g after unfit x =
 
 -- **A sequence over what C lends is one over what is seen of it.**
 pub mixed-seen : (l : LentByC) → MixedByC l → MixedRun (seen l)
-mixed-seen l (MixedByC.from-open n m g t made done) = MixedRun.from-open n (seen m) g t made done
-mixed-seen l (MixedByC.from-start m g after x done) = MixedRun.from-start (seen m) g (seen l) (start-seen m g l x) done
-mixed-seen l (MixedByC.then-call m run c g t made) = MixedRun.then-call (seen m) (mixed-seen m run) c g t made
-mixed-seen l (MixedByC.then-start m run g after x) = MixedRun.then-start (seen m) (mixed-seen m run) g (seen l) (start-seen m g l x)
-mixed-seen l (MixedByC.then-command m run text g after x) = tell (mixed-seen m run) (flags-fit? (m .kept))
+mixed-seen l (MixedOf.from-open n m g t made done) = MixedOf.from-open n (seen m) g t made done
+mixed-seen l (MixedOf.from-start m g after x done) = MixedOf.from-start (seen m) g (seen l) (start-seen m g l x) done
+mixed-seen l (MixedOf.then-call m run c g t made) = MixedOf.then-call (seen m) (mixed-seen m run) c g t made
+mixed-seen l (MixedOf.then-start m run g after x) = MixedOf.then-start (seen m) (mixed-seen m run) g (seen l) (start-seen m g l x)
+mixed-seen l (MixedOf.then-command m run text g after x) = tell (mixed-seen m run) (flags-fit? (m .kept))
   where
     tell : MixedRun (seen m) → Dec (FlagsFit (m .kept)) → MixedRun (seen l)
-    tell before (yes fits) = MixedRun.then-command (seen m) before text g (seen l) (command-seen text m g l fits x)
+    tell before (yes fits) = MixedOf.then-command (seen m) before text g (seen l) (command-seen text m g l fits x)
     tell before (no unfit) = subst (λ (z : LentByC). MixedRun (seen z)) (sym (command-unfit text m g l unfit x)) before
 
 -- **After any sequence of calls the tables are sound**, and have room.

@@ -1,14 +1,13 @@
 -- A whole script by the two calls over C's record: what a caller does who starts it and then hands over one command after the other.
-use Prim.Native.Nat.{ℕ, _+_, _≤_}
+use Prim.Native.Nat.{ℕ, _≤_}
 use mathlib.Core.Path.{_≡_}
-use mathlib.Core.Bool.{true, false}
-use mathlib.Core.List.{List, [], _++_}
-use lib.ListN.{length, take}
+use mathlib.Core.List.{List}
+use lib.ListN.{length}
 use Rattle.meaning.specs.Bounds.{ROOM, DONE}
 use Rattle.meaning.specs.Promise.{Given, Obeys}
 use Rattle.text.specs.Lexicon.{END, token-at}
-use Rattle.form.specs.Form.{form}
-use Rattle.script_meaning.specs.Whole.{exits, error-line, rest, command-at}
+use Rattle.script_meaning.specs.Whole.{rest}
+use Rattle.script_meaning.specs.ByCalls.{GoesBy}
 use Rattle.export_record.specs.Records.{LentByC, start-by-c, command-by-c}
 
 -- The same lent, with other bytes for the answers.
@@ -22,15 +21,9 @@ pub record CallsByC (s : List ℕ) (i : ℕ) (l : LentByC) (answer : Given) (aft
   pub room : ROOM ≤ length out
   pub keeps : Obeys (command-by-c (rest s i) (with-out out l)) (with-out out l) answer after
 
--- With l lent, the caller goes through the script s from place i on, prints the bytes b from there on and ends with the number g: as `Goes` says.
-pub data GoesByC (s : List ℕ) : ℕ → LentByC → (g : ℕ) → (b : List ℕ) → Type 0 where
-  at-end : (i : ℕ) (l : LentByC) → token-at s i .kind ≡ END → GoesByC s i l DONE []
-  refused : (i : ℕ) (l : LentByC) (a : Given) (m : LentByC) → CallsByC s i l a m → (a .number ≡ DONE → ⊥) → GoesByC s i l (a .number) (error-line (a .number))
-  exited :
-      (i : ℕ) (l : LentByC) (a : Given) (m : LentByC) → CallsByC s i l a m → a .number ≡ DONE → exits (form (command-at s i)) ≡ true → GoesByC s i l DONE (take (a .two) (m .out))
-  goes-on :
-      (i : ℕ) (l : LentByC) (a : Given) (m : LentByC) → CallsByC s i l a m → a .number ≡ DONE → exits (form (command-at s i)) ≡ false →
-      (g : ℕ) (b : List ℕ) → GoesByC s (token-at s i .from + a .one) m g b → GoesByC s i l g (take (a .two) (m .out) ++ b)
+-- With l lent, the caller goes through the script s from place i on, as `GoesBy` says.
+abbrev pub GoesByC : List ℕ → ℕ → LentByC → (g : ℕ) → (b : List ℕ) → Type 0
+GoesByC s = GoesBy (λ l. l .out) (CallsByC s) s
 
 -- **The whole script by calls over C's record**: l, whatever stands in it, is lent to a start that is carried out; then the caller goes through the script.
 pub record RunsByC (s : List ℕ) (l : LentByC) (g : ℕ) (b : List ℕ) : Type 0 where

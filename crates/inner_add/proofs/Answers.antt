@@ -7,7 +7,7 @@ use lib.ListN.{length, take, replicate, getD-replicate, length-replicate}
 use lib.IntN.{ℤ, pos}
 use Rattle.meaning.specs.declared.Counts.{Counts}
 use Rattle.meaning.specs.Bounds.{STEPS, RULES, LARGEST, DONE, CONFLICT}
-use Rattle.meaning.specs.Rules.{Keeps, InBounds, Earliest, Refutes, more, plus}
+use Rattle.meaning.specs.Rules.{Keeps, InBounds, Earliest, Refutes, more, plus, rule}
 use Rattle.meaning.specs.Tables.{Columns, ColumnsRoom, rule-at, put, at}
 use Rattle.meaning.specs.Promise as promise
 use Rattle.meaning.proofs.More.{more-all}
@@ -16,16 +16,17 @@ use Rattle.meaning.proofs.Counting.{ring-length}
 use Rattle.meaning.proofs.Lists.{past-refl, filled-length}
 use Rattle.meaning.proofs.DayBound.{day-bound}
 use Rattle.meaning.proofs.Needs.{obeys-done, obeys-conflict}
-use Rattle.meaning.proofs.Possible.{Asked, plan-fits, first-conflict}
+use Rattle.meaning.specs.Calls.{Asked}
+use Rattle.meaning.proofs.Possible.{plan-fits, first-conflict}
 use Rattle.lent.specs.Lent.{columns, tables, Placed, first}
-use Rattle.chains.specs.Chains.{number}
-use Rattle.lent.specs.Promises.{rule, Border}
+use Rattle.chains.specs.Chains.{number, LentChains}
+use Rattle.lent.specs.Promises.{Border}
 use Rattle.inner_watch.proofs.Equal.{tables-equal}
 use Rattle.spread.specs.Ground.{rules, Ground}
 use Rattle.spread.specs.Ring.{RingIn}
 use Rattle.spread.proofs.Uses.{kept-earliest}
 use Rattle.inner_add.specs.Planning.{Base, NoGains, Raised, Raisable}
-use Rattle.inner_add.specs.Lending.{Ready, LentChains}
+use Rattle.inner_add.specs.Lending.{Holdable}
 use Rattle.inner_add.specs.Fit.{Taken, Left, one-more}
 use Rattle.inner_add.specs.Kept.{BothRoom, TrialKept, AddKept}
 use Rattle.inner_add.proofs.Raising.{moved-self}
@@ -74,7 +75,7 @@ placed xs ys cs m room more-fit = record {
 }
 
 module _
-    (n : ℕ) (H : ℕ → Type 0) (order : ℕ → ℕ) (k : ℕ) (xs ys : List ℕ) (cs : List ℤ) (days heads nexts : List ℕ) (x y : ℕ) (c : ℤ) (r : Ready n H order k xs ys cs days heads nexts x y c)
+    (n : ℕ) (H : ℕ → Type 0) (order : ℕ → ℕ) (k : ℕ) (xs ys : List ℕ) (cs : List ℤ) (days heads nexts : List ℕ) (x y : ℕ) (c : ℤ) (r : Holdable n H order k xs ys cs days heads nexts x y c)
     (gains : List ℕ) (e : Earliest n (more (rules xs ys cs) k (rule x y c)) (plus H k) (λ v. at days v + at gains v)) where
   -- All rules held with the new one are within bounds.
   bounds : (i : ℕ) → plus H k i → InBounds n (more (rules xs ys cs) k (rule x y c) i)
@@ -112,7 +113,7 @@ module _
 
 -- The days keep the rule: they are the earliest plan with it, and none moves.
 pub taken-at-once :
-    (n : ℕ) (H : ℕ → Type 0) (order : ℕ → ℕ) (k : ℕ) (xs ys : List ℕ) (cs : List ℤ) (days heads nexts : List ℕ) (x y : ℕ) (c : ℤ) → Ready n H order k xs ys cs days heads nexts x y c →
+    (n : ℕ) (H : ℕ → Type 0) (order : ℕ → ℕ) (k : ℕ) (xs ys : List ℕ) (cs : List ℤ) (days heads nexts : List ℕ) (x y : ℕ) (c : ℤ) → Holdable n H order k xs ys cs days heads nexts x y c →
     Keeps (λ v. pos (at days v)) (rule x y c) → (after : Columns) → after ≡ put (columns xs ys cs) k (rule x y c) →
     Taken n H k (rule x y c) (columns xs ys cs) days 0 after days
 taken-at-once n H order k xs ys cs days heads nexts x y c r kept after written = record {
@@ -128,7 +129,7 @@ taken-at-once n H order k xs ys cs days heads nexts x y c r kept after written =
 
 module _
     (counts : Counts) (xs ys : List ℕ) (cs : List ℤ) (days heads nexts : List ℕ) (x y : ℕ) (c : ℤ)
-    (ready : Ready (counts .steps) (first (counts .rules)) number (counts .rules) xs ys cs days heads nexts x y c) where
+    (ready : Holdable (counts .steps) (first (counts .rules)) number (counts .rules) xs ys cs days heads nexts x y c) where
   -- On sound tables the rule can be asked for.
   asked :
       (marks wxs wys : List ℕ) (wcs : List ℤ) → Border (tables counts xs ys cs days marks wxs wys wcs) →
@@ -199,7 +200,7 @@ ring-before H m xs ys cs xs′ ys′ cs′ x y c k list list′ same =
 
 -- A ring has no more rules than there are steps.
 pub ring-short :
-    (n : ℕ) (H : ℕ → Type 0) (order : ℕ → ℕ) (m : ℕ) (xs ys : List ℕ) (cs : List ℤ) (days heads nexts : List ℕ) (x y : ℕ) (c : ℤ) → Ready n H order m xs ys cs days heads nexts x y c →
+    (n : ℕ) (H : ℕ → Type 0) (order : ℕ → ℕ) (m : ℕ) (xs ys : List ℕ) (cs : List ℤ) (days heads nexts : List ℕ) (x y : ℕ) (c : ℤ) → Holdable n H order m xs ys cs days heads nexts x y c →
     (k : ℕ) (before after : List ℕ) → RingIn H m xs ys cs x y c k before after → k ≤ STEPS
 ring-short n H order m xs ys cs days heads nexts x y c r k before after ring =
     omega (

@@ -7,19 +7,18 @@ use mathlib.Core.Bool.{Bool, true, false, true≢false, false≢true}
 use mathlib.Core.List.{List}
 use lib.ListN.{length}
 use lib.IntN.{ℤ, pos}
-use Rattle.meaning.specs.Rules.{Rule, Keeps, InSteps, Earliest, Fits, more, plus}
+use Rattle.meaning.specs.Rules.{Rule, Keeps, InSteps, Earliest, Fits, more, plus, rule}
 use Rattle.meaning.specs.Tables.{at}
-use Rattle.meaning.proofs.Whole.{up, dn}
+use Rattle.meaning.specs.Reckoning.{up, dn}
 use Rattle.meaning.proofs.More.{more-all}
 use Rattle.meaning.proofs.Theory.{earliest-ext}
-use Rattle.lent.specs.Promises.{rule}
 use Rattle.spread.specs.Ground.{rules, Ground}
 use Rattle.spread.specs.Trace.{Traced}
 use Rattle.spread.specs.Contracts.{alone, Spread}
 use Rattle.spread.specs.Ring.{Reached, Lacks}
 use Rattle.spread.proofs.Collecting.{alone-there, alone-elsewhere}
 use Rattle.spread.proofs.Uses.{gains-bounded, kept-earliest, added-earliest, reached-unfit}
-use Rattle.inner_add.specs.Planning.{Lack, Plannable, Planned}
+use Rattle.inner_add.specs.Planning.{Lack, Plannable, RulePlanned}
 
 module _ (n : ℕ) (H : ℕ → Type 0) (order : ℕ → ℕ) (k : ℕ) (xs ys : List ℕ) (cs : List ℤ) (days heads nexts gains by : List ℕ) (x y : ℕ) (c : ℤ) (p : Plannable n H order k xs ys cs days heads nexts gains by x y c) where
   -- The steps of the rules held, and of the new rule, are below n.
@@ -27,7 +26,7 @@ module _ (n : ℕ) (H : ℕ → Type 0) (order : ℕ → ℕ) (k : ℕ) (xs ys :
   all-in = more-all (InSteps n) (rules xs ys cs) H k (rule x y c) (p .new-in) (p .base .ground .in-steps)
 
   -- The days keep the rule: with no gain they are the earliest plan with it.
-  pub fits-at-once : Keeps (λ v. pos (at days v)) (rule x y c) → (by′ : List ℕ) → Planned n H k xs ys cs days gains by′ x y c true
+  pub fits-at-once : Keeps (λ v. pos (at days v)) (rule x y c) → (by′ : List ℕ) → RulePlanned n H k xs ys cs days gains by′ x y c true
   fits-at-once kept by′ =
       record {
         earliest =
@@ -107,7 +106,7 @@ module _ (n : ℕ) (H : ℕ → Type 0) (order : ℕ → ℕ) (k : ℕ) (xs ys :
         }
 
     -- A test that tells whether it has reached x tells whether the rule fits.
-    pub planned : (fits : Bool) → (fits ≡ true → at gains′ x ≡ 0) → (fits ≡ false → 0 < at gains′ x) → Planned n H k xs ys cs days gains′ by′ x y c fits
+    pub planned : (fits : Bool) → (fits ≡ true → at gains′ x ≡ 0) → (fits ≡ false → 0 < at gains′ x) → RulePlanned n H k xs ys cs days gains′ by′ x y c fits
     planned fits none some = record {
       earliest = λ e. earliest-where (none e);
       unfit = λ e. unfit-where (some e);

@@ -8,16 +8,15 @@ use lib.ListN.{length}
 use lib.IntN.{ℤ}
 use Rattle.meaning.specs.declared.Counts.{Counts}
 use Rattle.meaning.specs.Bounds.{STEPS, RULES, DONE, CONFLICT}
-use Rattle.meaning.specs.Rules.{InBounds, Fits}
+use Rattle.meaning.specs.Rules.{InBounds, Fits, rule}
 use Rattle.meaning.specs.Tables.{Tables}
 use Rattle.meaning.specs.Promise.{Need, needs, First, reply}
 use Rattle.meaning.specs.Calls.{rules-of, held-in}
 use Rattle.meaning.proofs.Needs.{AllMet, done-met, first-stops, not-given, obeys-refused}
 use Rattle.lent.specs.Lent.{tables, first}
 use Rattle.chains.specs.Chains.{number}
-use Rattle.lent.specs.Promises.{rule}
 use Rattle.inner_add.specs.Planning.{Base}
-use Rattle.inner_add.specs.Lending.{Ready}
+use Rattle.inner_add.specs.Lending.{Holdable}
 use Rattle.inner_add.specs.Kept.{BothRoom, hold-needs, TrialKept, AddKept}
 
 module _ (counts : Counts) (x y : ℕ) (c : ℤ) (g : ℕ) (f : First (hold-needs counts (rule x y c)) g) where
@@ -32,7 +31,7 @@ module _ (counts : Counts) (x y : ℕ) (c : ℤ) (g : ℕ) (f : First (hold-need
 
   pub hold-ready :
       (xs ys : List ℕ) (cs : List ℤ) (days heads nexts : List ℕ) → Base (counts .steps) (first (counts .rules)) number xs ys cs days heads nexts → g ≡ DONE →
-      Ready (counts .steps) (first (counts .rules)) number (counts .rules) xs ys cs days heads nexts x y c
+      Holdable (counts .steps) (first (counts .rules)) number (counts .rules) xs ys cs days heads nexts x y c
   hold-ready xs ys cs days heads nexts base e = record { base = base; new-good = hold-good e; free = λ h. omega arith; not-full = hold-place e }
 
   module _ (xs ys : List ℕ) (cs : List ℤ) (days : List ℕ) (some : 0 < g) where

@@ -6,11 +6,10 @@ use mathlib.Core.Bool.{Bool, true, false}
 use mathlib.Core.List.{List}
 use lib.IntN.{ℤ}
 use Rattle.meaning.specs.declared.Counts.{Counts}
-use Rattle.meaning.specs.Rules.{Rule, Fits, more, plus}
+use Rattle.meaning.specs.Rules.{Rule, Fits, more, plus, rule}
 use Rattle.meaning.specs.Tables.{Columns, rule-at, put, rules-now}
 use Rattle.meaning.specs.Promise as promise
 use Rattle.lent.specs.Lent.{columns}
-use Rattle.lent.specs.Promises.{rule}
 use Rattle.spread.specs.Ring.{Reached, Lacks}
 
 -- The rule r is written under k, the days are the earliest plan with it, and `moved` is how many steps have a day different from before.

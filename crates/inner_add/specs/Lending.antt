@@ -1,23 +1,14 @@
 -- What a new rule needs to be held: the rules and days, their chains, and a place.
-use Prim.Native.Nat.{ℕ, _≤_, _<_}
+use Prim.Native.Nat.{ℕ, _<_}
 use mathlib.Core.List.{List}
-use lib.ListN.{length}
 use lib.IntN.{ℤ}
 use Rattle.meaning.specs.Bounds.{RULES}
-use Rattle.meaning.specs.Rules.{InBounds}
-use Rattle.chains.specs.Chains.{Chained}
-use Rattle.lent.specs.Promises.{rule}
+use Rattle.meaning.specs.Rules.{InBounds, rule}
 use Rattle.inner_add.specs.Planning.{Base}
 
 -- The rule x, y, c is within bounds, and the number k is free for it. H says which numbers are held.
-pub record Ready (n : ℕ) (H : ℕ → Type 0) (order : ℕ → ℕ) (k : ℕ) (xs ys : List ℕ) (cs : List ℤ) (days heads nexts : List ℕ) (x y : ℕ) (c : ℤ) : Type 0 where
+pub record Holdable (n : ℕ) (H : ℕ → Type 0) (order : ℕ → ℕ) (k : ℕ) (xs ys : List ℕ) (cs : List ℤ) (days heads nexts : List ℕ) (x y : ℕ) (c : ℤ) : Type 0 where
   pub base : Base n H order xs ys cs days heads nexts
   pub new-good : InBounds n (rule x y c)
   pub free : H k → ⊥
   pub not-full : k < RULES
-
--- The chains of the first m rules over n steps, with a place for each.
-pub record LentChains (n m : ℕ) (xs heads nexts : List ℕ) : Type 0 where
-  pub chained : Chained n m xs heads nexts
-  pub heads-room : n ≤ length heads
-  pub nexts-room : m ≤ length nexts

@@ -6,12 +6,11 @@ use mathlib.Core.List.{List}
 use lib.ListN.{length}
 use lib.IntN.{ℤ, pos}
 use Rattle.meaning.specs.Bounds.{STEPS, RULES}
-use Rattle.meaning.specs.Rules.{Rule, Keeps, InSteps, InBounds, Earliest, Fits, more, plus}
+use Rattle.meaning.specs.Rules.{Rule, Keeps, InSteps, InBounds, Earliest, Fits, more, plus, rule}
 use Rattle.meaning.specs.Tables.{ColumnsRoom, at}
 use Rattle.meaning.specs.Promise.{Past, moved}
-use Rattle.meaning.proofs.Whole.{up, dn}
+use Rattle.meaning.specs.Reckoning.{up, dn}
 use Rattle.lent.specs.Lent.{columns}
-use Rattle.lent.specs.Promises.{rule}
 use Rattle.spread.specs.Ground.{rules, Ground}
 use Rattle.spread.specs.Ring.{Reached, Lacks}
 
@@ -58,7 +57,7 @@ pub record Raisable (n : ℕ) (days gains list : List ℕ) : Type 0 where
 
 -- The rule x, y, c was planned. It fits: the days with their gains are the earliest plan of the rules held and of it. Or it does not: the gain
 -- that it asks of y has reached x.
-pub record Planned (n : ℕ) (H : ℕ → Type 0) (k : ℕ) (xs ys : List ℕ) (cs : List ℤ) (days gains by : List ℕ) (x y : ℕ) (c : ℤ) (fits : Bool) : Type 0 where
+pub record RulePlanned (n : ℕ) (H : ℕ → Type 0) (k : ℕ) (xs ys : List ℕ) (cs : List ℤ) (days gains by : List ℕ) (x y : ℕ) (c : ℤ) (fits : Bool) : Type 0 where
   pub earliest : fits ≡ true → Earliest n (more (rules xs ys cs) k (rule x y c)) (plus H k) (λ v. at days v + at gains v)
   pub unfit : fits ≡ false → Fits (rules xs ys cs) H (rule x y c) → ⊥
   pub reached : fits ≡ false → Reached n H k xs ys cs days gains by x y

@@ -6,10 +6,10 @@ ghost use lib.ListN.{length};
 ghost use Rattle.meaning.specs.Bounds.{STEPS, RULES};
 ghost use Rattle.meaning.specs.Promise.{First};
 ghost use Rattle.lent.specs.Lent.{columns, first};
-ghost use Rattle.lent.specs.Promises.{rule};
+ghost use Rattle.meaning.specs.Rules.{rule};
 ghost use Rattle.chains.specs.Chains.{number};
-ghost use Rattle.inner_add.specs.Planning.{Lack, Base, NoGains, Plannable, Planned, Raised, Raisable};
-ghost use Rattle.inner_add.specs.Lending.{Ready};
+ghost use Rattle.inner_add.specs.Planning.{Lack, Base, NoGains, Plannable, RulePlanned, Raised, Raisable};
+ghost use Rattle.inner_add.specs.Lending.{Holdable};
 ghost use Rattle.inner_add.specs.Fit.{Tells, TellsWhy, one-more};
 ghost use Rattle.inner_add.specs.Kept.{BothRoom, hold-needs, TrialKept, AddKept};
 use meaning::Counts;
@@ -21,7 +21,7 @@ fn lack(days: &[u32], x: usize, y: usize, c: i32) -> u64
     requires { ⌜ y < length (now days) ⌝ }
     ensures { λ r. ⌜ Lack (now (days .entry)) x y c r ⌝ }
 {
-    let asked = lent::day_at(days, x) + 2147483648;
+    let asked = lent::day_at(days, x) + lent::BIAS;
     let given = lent::day_at(days, y) + lent::biased(c);
     if asked <= given {
         return 0;
@@ -47,7 +47,7 @@ fn plan(
     by: &mut [u16],
 ) -> bool
     requires { ⌜ Plannable n (first m) number m (now xs) (now ys) (now cs) (now days) (now heads) (now nexts) (now gains) (now by) x y c ⌝ }
-    ensures { λ r. ⌜ Planned n (first m) m (now (xs .entry)) (now (ys .entry)) (now (cs .entry)) (now (days .entry)) (now (gains .exit)) (now (by .exit)) x y c r ⌝ }
+    ensures { λ r. ⌜ RulePlanned n (first m) m (now (xs .entry)) (now (ys .entry)) (now (cs .entry)) (now (days .entry)) (now (gains .exit)) (now (by .exit)) x y c r ⌝ }
 {
     let lacks = lack(days, x, y, c);
     if lacks == 0 {
@@ -113,7 +113,7 @@ fn fit_with(
     gains: &mut [u64],
     by: &mut [u16],
 ) -> Fitted
-    requires { ⌜ Ready n (first m) number m (now xs) (now ys) (now cs) (now days) (now heads) (now nexts) x y c ⌝ }
+    requires { ⌜ Holdable n (first m) number m (now xs) (now ys) (now cs) (now days) (now heads) (now nexts) x y c ⌝ }
     requires { ⌜ NoGains n (now gains) (now by) ⌝ }
     ensures { λ r. ⌜
         TellsWhy n (first m) m (now (xs .entry)) (now (ys .entry)) (now (cs .entry)) (now (days .entry)) x y c (r .fits) (r .moved)
@@ -162,7 +162,7 @@ pub fn fit(
     y: u16,
     c: i32,
 ) -> Fitted
-    requires { ⌜ Ready n (first m) number m (now xs) (now ys) (now cs) (now days) (now heads) (now nexts) x y c ⌝ }
+    requires { ⌜ Holdable n (first m) number m (now xs) (now ys) (now cs) (now days) (now heads) (now nexts) x y c ⌝ }
     ensures { λ r. ⌜
         Tells n (first m) m (rule x y c) (columns (now (xs .entry)) (now (ys .entry)) (now (cs .entry))) (now (days .entry)) (r .fits) (r .moved)
         (columns (now (xs .exit)) (now (ys .exit)) (now (cs .exit))) (now (days .exit)) ⌝ }
@@ -233,7 +233,7 @@ fn trial_fine(
     y: u16,
     c: i32,
 ) -> Reply
-    requires { ⌜ Ready (counts .steps) (first (counts .rules)) number (counts .rules) (now xs) (now ys) (now cs) (now days) (now heads) (now nexts) x y c ⌝ }
+    requires { ⌜ Holdable (counts .steps) (first (counts .rules)) number (counts .rules) (now xs) (now ys) (now cs) (now days) (now heads) (now nexts) x y c ⌝ }
     requires { ⌜ NoGains (counts .steps) (now gains) (now by) ⌝ }
     requires { ⌜ BothRoom (now one) (now two) ⌝ }
     ensures { λ r. ⌜
@@ -293,7 +293,7 @@ fn add_fine(
     y: u16,
     c: i32,
 ) -> Reply
-    requires { ⌜ Ready (counts .steps) (first (counts .rules)) number (counts .rules) (now xs) (now ys) (now cs) (now days) (now heads) (now nexts) x y c ⌝ }
+    requires { ⌜ Holdable (counts .steps) (first (counts .rules)) number (counts .rules) (now xs) (now ys) (now cs) (now days) (now heads) (now nexts) x y c ⌝ }
     requires { ⌜ NoGains (counts .steps) (now gains) (now by) ⌝ }
     requires { ⌜ STEPS ≤ length (now list) ⌝ }
     ensures { λ r. ⌜

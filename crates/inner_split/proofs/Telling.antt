@@ -9,7 +9,8 @@ use lib.IntN.{ℤ, pos, negsuc, negℤ}
 use Rattle.meaning.specs.Bounds.{LARGEST}
 use Rattle.meaning.specs.Rules.{Rule, InAmount, InSteps, InBounds, negation, Plan, Always, Never}
 use Rattle.meaning.specs.Tables.{at}
-use Rattle.meaning.proofs.Whole.{up, dn, le→, up-neg, dn-neg, minus-is}
+use Rattle.meaning.specs.Reckoning.{up, dn}
+use Rattle.meaning.proofs.Whole.{le→, up-neg, dn-neg, minus-is}
 use Rattle.meaning.proofs.DayBound.{amount-down}
 use Rattle.meaning.proofs.Theory.{never-is-always-not}
 use Rattle.spread.specs.Least.{EarliestFrom}
@@ -17,7 +18,7 @@ use Rattle.spread.specs.Contracts.{alone, Spread}
 use Rattle.spread.specs.Ground.{rules}
 use Rattle.spread.proofs.Collecting.{alone-there, alone-elsewhere}
 use Rattle.spread.proofs.Uses.{gains-bounded, always-by-gain, gain-by-always}
-use Rattle.inner_split.specs.Carries.{ASKED, Carries, Near, Telling}
+use Rattle.inner_split.specs.Carries.{GAIN, Carries, Near, Telling}
 
 -- No more than the gain is asked for anywhere.
 alone-at-most : (a k v : ℕ) → alone a k v ≤ k
@@ -29,31 +30,31 @@ alone-at-most a k v = tell (ℕ-discrete v a)
 
 -- Over n steps, where the days are near, and the gain was asked for at step a alone and spread.
 module _
-    (n : ℕ) (R : ℕ → Rule) (H : ℕ → Type 0) (d : ℕ → ℕ) (near : (v : ℕ) → v < n → d v + LARGEST < ASKED) (plan : Plan R H d)
-    (a : ℕ) (g : ℕ → ℕ) (from : EarliestFrom n R H (λ v. d v + alone a ASKED v) (λ v. d v + g v)) where
+    (n : ℕ) (R : ℕ → Rule) (H : ℕ → Type 0) (d : ℕ → ℕ) (near : (v : ℕ) → v < n → d v + LARGEST < GAIN) (plan : Plan R H d)
+    (a : ℕ) (g : ℕ → ℕ) (from : EarliestFrom n R H (λ v. d v + alone a GAIN v) (λ v. d v + g v)) where
   -- What the gains carry holds always. It has a gain, since no day and amount alone come to what was asked for.
   carried-always : (r : Rule) → r .first ≡ a → InSteps n r → up (r .amount) ≤ LARGEST → Carries d g r → Always R H r
   carried-always r of-a steps small carries =
-      always-by-gain n R H d (alone a ASKED) g ASKED r steps plan (alone-there a ASKED (r .first) of-a)
-      (λ v below other. alone-elsewhere a ASKED v (λ e. other (e ∙ sym of-a))) from
+      always-by-gain n R H d (alone a GAIN) g GAIN r steps plan (alone-there a GAIN (r .first) of-a)
+      (λ v below other. alone-elsewhere a GAIN v (λ e. other (e ∙ sym of-a))) from
       (omega (arith, near (r .second) (steps .second-in))) carries
 
   -- What holds always the gains carry.
   always-carried : (r : Rule) → r .first ≡ a → InSteps n r → Always R H r → Carries d g r
   always-carried r of-a steps always =
-      gain-by-always n R H d (alone a ASKED) g ASKED r steps plan (alone-there a ASKED (r .first) of-a) from always
+      gain-by-always n R H d (alone a GAIN) g GAIN r steps plan (alone-there a GAIN (r .first) of-a) from always
 
   -- So the gains tell.
   pub telling : Telling n R H d a g
   telling = record {
-    bounded = gains-bounded n R H d (alone a ASKED) g ASKED plan (from .forced) (λ v below. alone-at-most a ASKED v);
+    bounded = gains-bounded n R H d (alone a GAIN) g GAIN plan (from .forced) (λ v below. alone-at-most a GAIN v);
     tells = λ r of-a steps small. (always-carried r of-a steps, carried-always r of-a steps small);
   }
 
 -- A spread of the gain from step a with no goal tells.
 pub spread-tells :
     (n : ℕ) (H : ℕ → Type 0) (xs ys : List ℕ) (cs : List ℤ) (days : List ℕ) (a : ℕ) (before gains by : List ℕ) → Near n days → Plan (rules xs ys cs) H (at days) →
-    Spread n H xs ys cs days n (λ v. at days v + alone a ASKED v) before gains by → Telling n (rules xs ys cs) H (at days) a (at gains)
+    Spread n H xs ys cs days n (λ v. at days v + alone a GAIN v) before gains by → Telling n (rules xs ys cs) H (at days) a (at gains)
 spread-tells n H xs ys cs days a before gains by near plan s =
     telling n (rules xs ys cs) H (at days) near plan a (at gains)
     (record { plan = s .plan (λ below. absurd (omega arith)); forced = s .forced })

@@ -6,18 +6,18 @@ use lib.ListN.{length, getD}
 use lib.IntN.{ℤ, pos}
 use Rattle.meaning.specs.Rules.{InSteps, InBounds, Always, Never}
 use Rattle.meaning.specs.Tables.{ColumnsRoom, at}
-use Rattle.meaning.proofs.Whole.{up, dn}
+use Rattle.meaning.specs.Reckoning.{up, dn}
 use Rattle.lent.specs.Lent.{columns}
 use Rattle.chains.specs.Chains.{Chained}
 use Rattle.spread.specs.Ground.{rules}
-use Rattle.inner_split.specs.Carries.{ASKED}
+use Rattle.inner_split.specs.Carries.{GAIN}
 use Rattle.inner_split.specs.Verdicts.{Decided, Judged}
 
 -- Step v has a day and a gain, and the gain is no larger than what is asked for.
 pub record Gained (days gains : List ℕ) (v : ℕ) : Type 0 where
   pub day-place : v < length days
   pub gain-place : v < length gains
-  pub bounded : at gains v ≤ ASKED
+  pub bounded : at gains v ≤ GAIN
 
 -- r is the day of step v with its gain.
 pub record Reach (days gains : List ℕ) (v r : ℕ) : Type 0 where

@@ -12,14 +12,14 @@ ghost use Rattle.lent.specs.Lent.{tables, first};
 ghost use Rattle.lent.specs.Promises.{Border, Splits};
 ghost use Rattle.chains.specs.Chains.{Chained, number};
 ghost use Rattle.spread.specs.Ground.{Ground, rules};
-ghost use Rattle.inner_split.specs.Carries.{ASKED, Carries, Near, Telling};
+ghost use Rattle.inner_split.specs.Carries.{GAIN, Carries, Near, Telling};
 ghost use Rattle.inner_split.specs.Verdicts.{Verdict, Judged, Picked};
 ghost use Rattle.inner_split.specs.Contracts.{Gained, Reach, Testable, Within, Broken, ChainsBy, Judgeable, Watching, Places, JudgedStep, JudgedAll};
 use meaning::Counts;
 use meaning::Reply;
 
 // The gain that is asked for at a step: more than a day and an amount come to.
-const ASKED: u64 = 2147483648;
+const GAIN: u64 = 2147483648;
 
 // Takes the gain of every step below n away.
 fn clear(n: usize, gains: &mut [u64])
@@ -56,7 +56,7 @@ fn gains_from(
         (at (now (gains .exit))) ⌝ }
 {
     clear(n, gains);
-    spread::spread_one(n, m, xs, ys, cs, days, heads, nexts, a, ASKED, n, gains, by);
+    spread::spread_one(n, m, xs, ys, cs, days, heads, nexts, a, GAIN, n, gains, by);
 }
 
 // The day of step v with its gain.
@@ -74,7 +74,7 @@ fn holds(far: u64, wys: &[u16], wcs: &[i32], days: &[u32], gains: &[u64], j: usi
     ensures { λ r. ⌜ Verdict r (Within far (now (wys .entry)) (now (wcs .entry)) (now (days .entry)) (now (gains .entry)) j) ⌝ }
 {
     let reach = carried(days, gains, lent::number_at(wys, j));
-    if far + 2147483648 <= reach + lent::amount_at(wcs, j) {
+    if far + lent::BIAS <= reach + lent::amount_at(wcs, j) {
         1
     } else {
         0
@@ -88,7 +88,7 @@ fn breaks(far: u64, wxs: &[u16], wcs: &[i32], days: &[u32], gains: &[u64], j: us
     ensures { λ r. ⌜ Verdict r (Broken far (now (wxs .entry)) (now (wcs .entry)) (now (days .entry)) (now (gains .entry)) j) ⌝ }
 {
     let reach = carried(days, gains, lent::number_at(wxs, j));
-    if far + lent::amount_at(wcs, j) < reach + 2147483648 {
+    if far + lent::amount_at(wcs, j) < reach + lent::BIAS {
         1
     } else {
         0
@@ -118,7 +118,7 @@ fn judge_firsts(
         Judged (λ j. Carries (at (now (days .entry))) (at (now (gains .entry))) (rules (now (wxs .entry)) (now (wys .entry)) (now (wcs .entry)) j))
         w (now (wxs .entry)) a (now (always .entry)) (now (always .exit)) ⌝ }
 {
-    let far = lent::day_at(days, a) + ASKED;
+    let far = lent::day_at(days, a) + GAIN;
     let mut link = lent::number_at(heads, a);
     while 0 < link {
         let j = link - 1;
@@ -150,7 +150,7 @@ fn judge_seconds(
         Judged (λ j. Carries (at (now (days .entry))) (at (now (gains .entry))) (negation (rules (now (wxs .entry)) (now (wys .entry)) (now (wcs .entry)) j)))
         w (now (wys .entry)) a (now (never .entry)) (now (never .exit)) ⌝ }
 {
-    let far = lent::day_at(days, a) + ASKED;
+    let far = lent::day_at(days, a) + GAIN;
     let mut link = lent::number_at(heads, a);
     while 0 < link {
         let j = link - 1;

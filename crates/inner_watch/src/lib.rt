@@ -9,7 +9,8 @@ ghost use Rattle.meaning.specs.Promise.{First};
 ghost use Rattle.meaning.specs.Calls.{rule-needs};
 ghost use Rattle.meaning.specs.Tables.{put};
 ghost use Rattle.lent.specs.Lent.{columns, tables, Placed};
-ghost use Rattle.lent.specs.Promises.{rule, Border, Watches, Marks};
+ghost use Rattle.meaning.specs.Rules.{rule};
+ghost use Rattle.lent.specs.Promises.{Border, Watches, Marks};
 use meaning::Counts;
 use meaning::Reply;
 

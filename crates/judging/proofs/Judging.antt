@@ -15,7 +15,7 @@ use Rattle.atoms.specs.Atoms.{Named, rules-at}
 use Rattle.script_meaning.specs.declared.Notes.{Notes}
 use Rattle.script_meaning.specs.Record.{Lent, KnownIn}
 use Rattle.script_meaning.specs.Effect.{asked}
-use Rattle.script_meaning.specs.Commands.{rule-needs, name-needs}
+use Rattle.script_meaning.specs.Commands.{term-needs, name-needs}
 use Rattle.script_meaning.proofs.Needed.{rules-met, rules-passed}
 use Rattle.judging.specs.declared.Judged.{Judged}
 use Rattle.judging.specs.Judged.{JudgedName, JudgedRules, Judges}
@@ -26,18 +26,18 @@ behind n l m g f (inl refused) = inl refused
 behind n l m g f (inr met) = inr (met .0, f (met .1))
 
 -- Where a rule's need is not met, what is needed behind the rules does not matter.
-rules-refused : (K : List ℕ → Type 0) (rs : List Named) (rest : List Need) (g : ℕ) → (g ≡ DONE → ⊥) → First (rule-needs K rs []) g → First (rule-needs K rs rest) g
+rules-refused : (K : List ℕ → Type 0) (rs : List Named) (rest : List Need) (g : ℕ) → (g ≡ DONE → ⊥) → First (term-needs K rs []) g → First (term-needs K rs rest) g
 rules-refused K [] rest g d h = absurd (d h)
 rules-refused K (r ∷ rs) rest g d h =
-    let some = rule-needs K rs [] in
-    let all = rule-needs K rs rest in
+    let some = term-needs K rs [] in
+    let all = term-needs K rs rest in
     let amount = needs AMOUNT (InAmount (r .amount)) in
     let second = needs NAME (K (r .second)) in
     behind (needs NAME (K (r .first))) (second ∷ amount ∷ some) (second ∷ amount ∷ all) g
     (behind second (amount ∷ some) (amount ∷ all) g (behind amount some all g (rules-refused K rs rest g d))) h
 
 -- Where the rules have all they need, what is needed behind them decides.
-rules-fine : (K : List ℕ → Type 0) (rs : List Named) (rest : List Need) (g : ℕ) → First (rule-needs K rs []) DONE → First rest g → First (rule-needs K rs rest) g
+rules-fine : (K : List ℕ → Type 0) (rs : List Named) (rest : List Need) (g : ℕ) → First (term-needs K rs []) DONE → First rest g → First (term-needs K rs rest) g
 rules-fine K rs rest g h = rules-passed K rs rest g (rules-met K rs [] h .0)
 
 -- The logic is not set in what is lent.
@@ -84,7 +84,7 @@ module _ (s : List ℕ) (counts : Counts) (notes : Notes) (names lens : List ℕ
       assert-refused d l ec en ea el = rw (en, ea, el, ec) (inr (set, rules-refused _ (rules-at s i) _ (j .number) d (judged .first-unmet)))
 
       module _ (fine : j .number ≡ DONE) where
-        met : First (rule-needs (KnownIn (notes .names) names lens) (rules-at s i) []) DONE
+        met : First (term-needs (KnownIn (notes .names) names lens) (rules-at s i) []) DONE
         met = rw fine at (judged .first-unmet)
 
         pub assert-full : notes .broken ≡ 0 → RULES < counts .rules + j .rules → Judges (Assert i) s counts notes names lens FULL

@@ -9,7 +9,7 @@ use Rattle.meaning.specs.Bounds.{DONE, AMOUNT, NAME}
 use Rattle.meaning.specs.Rules.{InAmount}
 use Rattle.meaning.specs.Promise.{Need, needs, First}
 use Rattle.atoms.specs.Atoms.{Named}
-use Rattle.script_meaning.specs.Commands.{rule-needs, name-needs}
+use Rattle.script_meaning.specs.Commands.{term-needs, name-needs}
 use Rattle.judging.specs.declared.Judged.{Judged}
 use Rattle.judging.specs.Judged.{JudgedRules}
 
@@ -19,7 +19,7 @@ Onward all left = (g : ℕ) → First left g → First all g
 
 -- Of all the rules `count` were passed, and these are left.
 pub record Passed (K : List ℕ → Type 0) (all left : List Named) (count : ℕ) : Type 0 where
-  pub onward : Onward (rule-needs K all []) (rule-needs K left [])
+  pub onward : Onward (term-needs K all []) (term-needs K left [])
   pub counted : count + length left ≡ length all
 
 module _ (K : List ℕ → Type 0) (all : List Named) where
@@ -30,13 +30,13 @@ module _ (K : List ℕ → Type 0) (all : List Named) where
     -- No rule is left.
     pub all-passed : left ≡ [] → JudgedRules K all (record { number = 0; rules = count })
     all-passed e = record {
-      first-unmet = passed .onward 0 (subst (λ (rs : List Named). First (rule-needs K rs []) 0) (sym e) refl);
+      first-unmet = passed .onward 0 (subst (λ (rs : List Named). First (term-needs K rs []) 0) (sym e) refl);
       counted = λ z. omega (arith, passed .counted, ap length e);
     }
 
     module _ (r : Named) (rs : List Named) (is : left ≡ r ∷ rs) where
-      on : (g : ℕ) → First (rule-needs K (r ∷ rs) []) g → First (rule-needs K all []) g
-      on g h = passed .onward g (subst (λ (l : List Named). First (rule-needs K l []) g) (sym is) h)
+      on : (g : ℕ) → First (term-needs K (r ∷ rs) []) g → First (term-needs K all []) g
+      on g h = passed .onward g (subst (λ (l : List Named). First (term-needs K l []) g) (sym is) h)
 
       pub one-passed : K (r .first) → K (r .second) → InAmount (r .amount) → Passed K all rs (count + 1)
       one-passed x y c = record {

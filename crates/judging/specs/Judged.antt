@@ -10,7 +10,7 @@ use Rattle.form.specs.declared.Command.{Command}
 use Rattle.atoms.specs.Atoms.{Named}
 use Rattle.script_meaning.specs.declared.Notes.{Notes}
 use Rattle.script_meaning.specs.Record.{Lent, KnownIn}
-use Rattle.script_meaning.specs.Commands.{rule-needs, command-needs}
+use Rattle.script_meaning.specs.Commands.{term-needs, command-needs}
 use Rattle.judging.specs.declared.Judged.{Judged}
 
 -- The name w to be declared as number n was judged: it is not declared yet, and there is a place for it.
@@ -19,7 +19,7 @@ JudgedName n names lens w g = First (needs NAME (KnownIn n names lens w → ⊥)
 
 -- The rules of a term were judged: the number is that of the first need not met; where all are met, the rules were counted.
 pub record JudgedRules (K : List ℕ → Type 0) (rs : List Named) (j : Judged) : Type 0 where
-  pub first-unmet : First (rule-needs K rs []) (j .number)
+  pub first-unmet : First (term-needs K rs []) (j .number)
   pub counted : j .number ≡ DONE → j .rules ≡ length rs
 
 -- The number is that of the first need of the command that is not met, for whatever is lent with these counts, this record and these names.

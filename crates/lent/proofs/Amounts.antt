@@ -9,11 +9,12 @@ use lib.Signed.{mag, nonNeg, leZ, _≤ℤ_}
 use mir.Syntax.{w32, w64}
 use mir.Val.{Fits, SFits, ofZ, toZ}
 use mir.ValLaws.{toZ-ofZ}
-use Rattle.meaning.proofs.Whole.{up, dn, add-is, →eq}
+use Rattle.meaning.specs.Reckoning.{up, dn}
+use Rattle.meaning.proofs.Whole.{add-is, →eq}
 use Rattle.meaning.specs.Bounds.{LARGEST}
 use Rattle.meaning.specs.Rules.{InAmount}
 use Rattle.lent.specs.Decides.{Decides, decides-no}
-use Rattle.lent.specs.Lent.{Biased}
+use Rattle.lent.specs.Lent.{Biased, BIAS}
 
 -- What w bits hold is neither far above 0 nor far below.
 sides : (z : ℤ) (h : ℕ) → mag z < h → (up z < h) × (dn z ≤ h)
@@ -31,35 +32,35 @@ widened c = toZ w64 (ofZ w64 (toZ w32 (ofZ w32 c)))
 widened-is : (c : ℤ) → SFits w32 c → widened c ≡ c
 widened-is c f = toZ-ofZ w64 (toZ w32 (ofZ w32 c)) (wide c f) ∙ toZ-ofZ w32 c f
 
--- The amount counted from 2147483648 below 0.
+-- The amount counted from BIAS below 0.
 abbrev from-below : ℤ → ℕ
-from-below c = up c + 2147483648 - dn c
+from-below c = up c + BIAS - dn c
 
-sum-is : (c : ℤ) → SFits w32 c → (widened c +ℤ pos 2147483648) ≡ pos (from-below c)
+sum-is : (c : ℤ) → SFits w32 c → (widened c +ℤ pos BIAS) ≡ pos (from-below c)
 sum-is c f =
     rw (widened-is c f)
-    (→eq (c +ℤ pos 2147483648) (pos (from-below c)) (omega (arith, add-is c (pos 2147483648), sides c 2147483648 (f .sfits))))
+    (→eq (c +ℤ pos BIAS) (pos (from-below c)) (omega (arith, add-is c (pos BIAS), sides c BIAS (f .sfits))))
 
 -- The sum is an i64.
-pub sum-fits : (c : ℤ) → SFits w32 c → SFits w64 (widened c +ℤ pos 2147483648)
-sum-fits c f = rw (sum-is c f) (record { sfits = omega (arith, sides c 2147483648 (f .sfits)) })
+pub sum-fits : (c : ℤ) → SFits w32 c → SFits w64 (widened c +ℤ pos BIAS)
+sum-fits c f = rw (sum-is c f) (record { sfits = omega (arith, sides c BIAS (f .sfits)) })
 
-sum-read : (c : ℤ) → SFits w32 c → toZ w64 (ofZ w64 (widened c +ℤ pos 2147483648)) ≡ pos (from-below c)
+sum-read : (c : ℤ) → SFits w32 c → toZ w64 (ofZ w64 (widened c +ℤ pos BIAS)) ≡ pos (from-below c)
 sum-read c f = toZ-ofZ w64 _ (sum-fits c f) ∙ sum-is c f
 
 -- The sum is a u64.
-pub sum-unsigned : (c : ℤ) → SFits w32 c → T (nonNeg (toZ w64 (ofZ w64 (widened c +ℤ pos 2147483648)))) × Fits w64 (natAbs (toZ w64 (ofZ w64 (widened c +ℤ pos 2147483648))))
+pub sum-unsigned : (c : ℤ) → SFits w32 c → T (nonNeg (toZ w64 (ofZ w64 (widened c +ℤ pos BIAS)))) × Fits w64 (natAbs (toZ w64 (ofZ w64 (widened c +ℤ pos BIAS))))
 sum-unsigned c f =
     rw (sum-read c f)
-    (tt, record { fits = omega (arith, sides c 2147483648 (f .sfits)) })
+    (tt, record { fits = omega (arith, sides c BIAS (f .sfits)) })
 
--- The sum is the amount counted from 2147483648 below 0.
-pub sum-biased : (c : ℤ) → SFits w32 c → Biased c (natAbs (toZ w64 (ofZ w64 (widened c +ℤ pos 2147483648))))
+-- The sum is the amount counted from BIAS below 0.
+pub sum-biased : (c : ℤ) → SFits w32 c → Biased c (natAbs (toZ w64 (ofZ w64 (widened c +ℤ pos BIAS))))
 sum-biased c f =
     rw (sum-read c f)
     (record {
-      is = omega (arith, sides c 2147483648 (f .sfits));
-      narrow = omega (arith, sides c 2147483648 (f .sfits));
+      is = omega (arith, sides c BIAS (f .sfits));
+      narrow = omega (arith, sides c BIAS (f .sfits));
     })
 
 -- The machine's test of two whole numbers decides their order.

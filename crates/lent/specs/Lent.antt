@@ -6,7 +6,7 @@ use lib.ListN.{length, getD}
 use lib.IntN.{ℤ, pos}
 use Rattle.meaning.specs.declared.Counts.{Counts}
 use Rattle.meaning.specs.Rules.{Keeps}
-use Rattle.meaning.proofs.Whole.{up, dn}
+use Rattle.meaning.specs.Reckoning.{up, dn}
 use Rattle.meaning.specs.Tables.{Columns, Tables, rule-at, at}
 
 -- The table of rules whose columns are lent: first steps, second steps and amounts.
@@ -27,18 +27,22 @@ tables counts xs ys cs days marks wxs wys wcs = record {
 abbrev pub first : ℕ → ℕ → Type 0
 first m i = i < m
 
--- r is the amount c counted from 2147483648 below 0.
+-- An amount is counted from so far below 0: no i32 is lower, so that what is counted is a natural number.
+abbrev pub BIAS : ℕ
+BIAS = 2147483648
+
+-- r is the amount c counted from BIAS below 0.
 pub record Biased (c : ℤ) (r : ℕ) : Type 0 where
-  pub is : r + dn c ≡ up c + 2147483648
+  pub is : r + dn c ≡ up c + BIAS
   pub narrow : r < 4294967296
 
 -- The days keep the rule under i.
 abbrev pub KeptAt : List ℕ → List ℕ → List ℤ → List ℕ → ℕ → Type 0
 KeptAt xs ys cs days i = Keeps (λ v. pos (at days v)) (rule-at (columns xs ys cs) i)
 
--- r is the latest day that the rule under i leaves its first step, counted from 2147483648 below 0.
+-- r is the latest day that the rule under i leaves its first step, counted from BIAS below 0.
 abbrev pub Limit : List ℕ → List ℤ → List ℕ → ℕ → ℕ → Type 0
-Limit ys cs days i r = r + dn (getD cs i (pos 0)) ≡ at days (getD ys i 0) + up (getD cs i (pos 0)) + 2147483648
+Limit ys cs days i r = r + dn (getD cs i (pos 0)) ≡ at days (getD ys i 0) + up (getD cs i (pos 0)) + BIAS
 
 -- r is how many days the rule under i has to spare.
 abbrev pub Spare : List ℕ → List ℕ → List ℤ → List ℕ → ℕ → ℕ → Type 0

@@ -7,26 +7,16 @@ use mathlib.Core.List.{List}
 use lib.IntN.{ℤ}
 use Rattle.meaning.specs.declared.Counts.{Counts}
 use Rattle.meaning.specs.declared.Reply.{Reply}
-use Rattle.meaning.specs.Rules.{Rule}
+use Rattle.meaning.specs.Rules.{rule}
 use Rattle.meaning.specs.Tables.{Tables, Room, Sound}
 use Rattle.meaning.specs.Promise.{Given, Obeys, given}
-use Rattle.meaning.specs.Calls.{WithList, WithLists, open-meaning, watch-meaning, add-meaning, mark-meaning, back-meaning, trial-meaning, consequences-meaning, ring-check-meaning}
+use Rattle.meaning.specs.Calls.{with-list, with-lists, open-meaning, watch-meaning, add-meaning, mark-meaning, back-meaning, trial-meaning, consequences-meaning, ring-check-meaning}
 use Rattle.lent.specs.Lent.{tables}
-
--- The rule x, y, c.
-abbrev pub rule : ℕ → ℕ → ℤ → Rule
-rule x y c = record { first = x; second = y; amount = c }
 
 -- The tables have room and are sound: what the inner calls may rely on.
 pub record Border (t : Tables) : Type 0 where
   pub room : Room t
   pub sound : Sound t
-
-abbrev with-list : Tables → List ℕ → WithList
-with-list t l = record { tables = t; list = l }
-
-abbrev with-lists : Tables → List ℕ → List ℕ → WithLists
-with-lists t l m = record { tables = t; one = l; two = m }
 
 module _ (counts : Counts) (xs ys : List ℕ) (cs : List ℤ) (days marks wxs wys : List ℕ) (wcs : List ℤ) where
   -- The tables as they were lent.

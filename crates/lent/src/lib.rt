@@ -1,4 +1,4 @@
-// Reading the lent tables, and the exact test of one rule. An amount c is read as c + 2147483648, which is never below 0, so that
+// Reading the lent tables, and the exact test of one rule. An amount c is read as c + BIAS, which is never below 0, so that
 // every sum and every comparison of days and amounts is one of u64.
 ghost use mathlib.Core.Path.{_≡_};
 ghost use Prim.Native.Nat.{_<_};
@@ -8,6 +8,11 @@ ghost use Rattle.meaning.specs.Rules.{InAmount, InBounds};
 ghost use Rattle.meaning.specs.Tables.{rule-at};
 ghost use Rattle.lent.specs.Decides.{Decides};
 ghost use Rattle.lent.specs.Lent.{columns, Biased, KeptAt, Placed, Limited, Dated, Limit, Spare};
+
+// An amount is counted from so far below 0; no i32 is lower.
+pub const BIAS: u64 = 2147483648;
+
+const SIGNED_BIAS: i64 = BIAS as i64;
 
 // The number at place i: a step, or a link of a chain.
 pub fn number_at(list: &[u16], i: usize) -> usize
@@ -25,14 +30,14 @@ pub fn day_at(list: &[u32], i: usize) -> u64
     list[i] as u64
 }
 
-// The amount c as c + 2147483648.
+// The amount c as c + BIAS.
 pub fn biased(c: i32) -> u64
     ensures { λ r. ⌜ Biased c r ⌝ }
 {
-    (c as i64 + 2147483648) as u64
+    (c as i64 + SIGNED_BIAS) as u64
 }
 
-// The amount c at place i, as c + 2147483648.
+// The amount c at place i, as c + BIAS.
 pub fn amount_at(list: &[i32], i: usize) -> u64
     requires { ⌜ i < length (now list) ⌝ }
     ensures { λ r. ⌜ Biased (getD (now (list .entry)) i (pos 0)) r ⌝ }
@@ -69,7 +74,7 @@ pub fn rule_in(n: usize, xs: &[u16], ys: &[u16], cs: &[i32], i: usize) -> bool
     amount_in(cs, i)
 }
 
-// The latest day that the rule under i leaves its first step, as that day + 2147483648: the day of the second step plus the amount.
+// The latest day that the rule under i leaves its first step, as that day + BIAS: the day of the second step plus the amount.
 pub fn latest(ys: &[u16], cs: &[i32], days: &[u32], i: usize) -> u64
     requires { ⌜ Limited (now ys) (now cs) (now days) i ⌝ }
     ensures { λ r. ⌜ Limit (now (ys .entry)) (now (cs .entry)) (now (days .entry)) i r ⌝ }
@@ -82,7 +87,7 @@ pub fn kept(xs: &[u16], ys: &[u16], cs: &[i32], days: &[u32], i: usize) -> bool
     requires { ⌜ Dated (now xs) (now ys) (now cs) (now days) i ⌝ }
     ensures { λ r. ⌜ Decides r (KeptAt (now (xs .entry)) (now (ys .entry)) (now (cs .entry)) (now (days .entry)) i) ⌝ }
 {
-    day_at(days, number_at(xs, i)) + 2147483648 <= latest(ys, cs, days, i)
+    day_at(days, number_at(xs, i)) + BIAS <= latest(ys, cs, days, i)
 }
 
 // How many days the rule under i, which the days keep, has to spare.
@@ -91,5 +96,5 @@ pub fn slack(xs: &[u16], ys: &[u16], cs: &[i32], days: &[u32], i: usize) -> u64
     requires { ⌜ KeptAt (now xs) (now ys) (now cs) (now days) i ⌝ }
     ensures { λ r. ⌜ Spare (now (xs .entry)) (now (ys .entry)) (now (cs .entry)) (now (days .entry)) i r ⌝ }
 {
-    latest(ys, cs, days, i) - (day_at(days, number_at(xs, i)) + 2147483648)
+    latest(ys, cs, days, i) - (day_at(days, number_at(xs, i)) + BIAS)
 }

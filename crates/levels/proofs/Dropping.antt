@@ -5,9 +5,8 @@ use mathlib.Core.Path.{_≡_, subst}
 use mathlib.Core.List.{List}
 use lib.ListN.{length}
 use Rattle.meaning.specs.Tables.{at}
-use Rattle.chains.specs.Chains.{Chained, Linkable, Dropped}
+use Rattle.chains.specs.Chains.{Chained, Linkable, Dropped, LentChains}
 use Rattle.chains.proofs.Laws.{chained-less}
-use Rattle.inner_add.specs.Lending.{LentChains}
 
 module _ {n m i : ℕ} {xs heads nexts : List ℕ} (newest : m ≡ i + 1) (chains : LentChains n m xs heads nexts) (first-in : at xs i < n) where
   pub linkable : i < length xs → i < 65535 → Linkable i xs heads nexts

@@ -8,7 +8,7 @@ use lib.ListN.{length, set, length-set}
 use lib.Seq.{getD-set-same, getD-set-other}
 use Rattle.meaning.specs.Bounds.{STEPS}
 use Rattle.meaning.specs.Tables.{at}
-use Rattle.levels.specs.Levels.{ROWS, ROW, row-of, Holds, Copied, Filed}
+use Rattle.levels.specs.Levels.{ROWS, ROW, row-of, RowNamed, Copied, Filed}
 
 -- The days are copied to the row, and then the mark is named after them.
 pub filed-by :
@@ -56,13 +56,13 @@ module _ {n k : ℕ} {days kept kept′ : List ℕ} (f : Filed n days k kept kep
       told (yes lower) = f .below (row-of j + v) (row-below (j % ROWS) (k % ROWS) v v-in lower)
       told (no higher) = f .above (row-of j + v) (row-above (j % ROWS) (k % ROWS) v (not-lower (j % ROWS) (k % ROWS) apart higher))
 
-  module _ (j : ℕ) (apart : j ≡ k → ⊥) (held : Holds j kept′) where
+  module _ (j : ℕ) (apart : j ≡ k → ⊥) (held : RowNamed j kept′) where
     -- A row that names another mark is another row.
     rows-apart : j % ROWS ≡ k % ROWS → ⊥
     rows-apart same = apart (next-same j k (sym (held .named) ∙ ap (λ (x : ℕ). at kept′ (ROW * x + STEPS)) same ∙ f .names))
 
     -- It named that mark before.
-    pub held-before : Holds j kept
+    pub held-before : RowNamed j kept
     held-before = record {
       has-row = omega (arith, held .has-row, f .same-length);
       named = sym (other-row j STEPS (omega arith) rows-apart) ∙ held .named;

@@ -6,7 +6,7 @@ use mathlib.Core.List.{List}
 use lib.ListN.{set}
 use Rattle.meaning.specs.Bounds.{MARKS, DONE}
 use Rattle.meaning.specs.Rules.{Rule, Earliest}
-use Rattle.meaning.specs.Tables.{Tables, at, Sound, with-rule, with-mark, with-days}
+use Rattle.meaning.specs.Tables.{Tables, at, Sound, with-rule, with-mark, with-days, marks-now, rules-now}
 use Rattle.meaning.specs.Promise.{Given, Planned}
 use Rattle.meaning.specs.Calls.{rules-of, mark-meaning, back-meaning}
 use Rattle.meaning.specs.Runs.{Call}
@@ -30,14 +30,14 @@ pub with-marks-is : (n : ℕ) (t : Tables) → record {
 } ≡ with-marks n t
 unfolding with-marks marked
 with-marks-is zero t = ap (λ (m : ℕ). record {
-  counts = record { steps = t .counts .steps; rules = t .counts .rules; marks = m; watched = t .counts .watched };
+  counts = marks-now m (t .counts);
   rules = t .rules;
   days = t .days;
   marks = t .marks;
   watched = t .watched;
 }) (omega arith)
 with-marks-is (suc n) t = ap (λ (m : ℕ). record {
-  counts = record { steps = t .counts .steps; rules = t .counts .rules; marks = m; watched = t .counts .watched };
+  counts = marks-now m (t .counts);
   rules = t .rules;
   days = t .days;
   marks = marked n (t .counts .rules) (t .counts .marks + 1) (set (t .marks) (t .counts .marks) (t .counts .rules));
@@ -72,7 +72,7 @@ with-marks-border (suc n) b few = with-marks-border n (marked-border b (omega ar
 -- The tables where k marks are open.
 abbrev with-open : ℕ → Tables → Tables
 with-open k t = record {
-  counts = record { steps = t .counts .steps; rules = t .counts .rules; marks = k; watched = t .counts .watched };
+  counts = marks-now k (t .counts);
   rules = t .rules;
   days = t .days;
   marks = t .marks;
@@ -110,7 +110,7 @@ fewer-border {k} {t} b fewer = record {
 -- The tables cut back to the mark at place k, with other days.
 abbrev cut : ℕ → List ℕ → Tables → Tables
 cut k days t = record {
-  counts = record { steps = t .counts .steps; rules = at (t .marks) k; marks = k; watched = t .counts .watched };
+  counts = marks-now k (rules-now (at (t .marks) k) (t .counts));
   rules = t .rules;
   days = days;
   marks = t .marks;

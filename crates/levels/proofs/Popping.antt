@@ -13,7 +13,7 @@ use Rattle.lent.specs.Lent.{first}
 use Rattle.spread.specs.Ground.{rules}
 use Rattle.inner_back.specs.Replan.{Droppable}
 use Rattle.inner_back.proofs.Dropping.{plannable}
-use Rattle.levels.specs.Levels.{row-of, Holds, KeptFor, Copied}
+use Rattle.levels.specs.Levels.{row-of, RowNamed, KeptFor, Copied}
 use Rattle.levels.proofs.Copying.{planned-copy}
 
 -- The rules after an open mark of sound tables can be dropped.
@@ -22,7 +22,7 @@ pub droppable-at :
     Droppable (t .counts .steps) (first (t .counts .rules)) (first m) (t .rules .firsts) (t .rules .seconds) (t .rules .amounts) (t .days)
 droppable-at {t} {m} {k} b k-in is = record { plannable = plannable b; earliest = b .sound .days-earliest; stay = λ i h. omega (arith, h, is, b .sound .marks-held k k-in) }
 
-module _ {n m l k row : ℕ} {xs ys : List ℕ} {cs : List ℤ} {days kept : List ℕ} (drop : Droppable n (first m) (first l) xs ys cs days) (held : Holds k kept) (is-row : row ≡ row-of k) where
+module _ {n m l k row : ℕ} {xs ys : List ℕ} {cs : List ℤ} {days kept : List ℕ} (drop : Droppable n (first m) (first l) xs ys cs days) (held : RowNamed k kept) (is-row : row ≡ row-of k) where
   -- The days kept of the mark have their places.
   pub kept-places : row + n ≤ length kept
   kept-places = omega (arith, held .has-row, is-row, drop .plannable .steps-in)

@@ -11,7 +11,7 @@ use Rattle.meaning.specs.Bounds.{STEPS, MARKS}
 use Rattle.meaning.specs.Rules.{Earliest}
 use Rattle.meaning.specs.Tables.{rule-at, at}
 use Rattle.meaning.proofs.Theory.{earliest-ext}
-use Rattle.levels.specs.Levels.{marked, more-marks, row-of, HasRow, Holds, KeepsDays, Filed}
+use Rattle.levels.specs.Levels.{marked, more-marks, row-of, HasRow, RowNamed, KeepsDays, Filed}
 use Rattle.levels.proofs.Filing.{held-before, days-before}
 
 -- Marks that are set keep the length of their list.
@@ -57,9 +57,9 @@ marked-end r k marks e = ap (λ (x : ℕ). marked x r k marks) e
 -- Where a row names one of the marks from first up to k, it holds the days; where it names an older mark, it did so before and its days stayed.
 pub record KeptFrom (steps first k : ℕ) (days kept kept′ : List ℕ) : Type 0 where
   pub same-length : length kept′ ≡ length kept
-  pub older-held : (j : ℕ) → j < first → Holds j kept′ → Holds j kept
-  pub older : (j v : ℕ) → j < first → Holds j kept′ → v < STEPS → at kept′ (row-of j + v) ≡ at kept (row-of j + v)
-  pub newer : (j v : ℕ) → first ≤ j → j < k → Holds j kept′ → v < steps → at kept′ (row-of j + v) ≡ at days v
+  pub older-held : (j : ℕ) → j < first → RowNamed j kept′ → RowNamed j kept
+  pub older : (j v : ℕ) → j < first → RowNamed j kept′ → v < STEPS → at kept′ (row-of j + v) ≡ at kept (row-of j + v)
+  pub newer : (j v : ℕ) → first ≤ j → j < k → RowNamed j kept′ → v < steps → at kept′ (row-of j + v) ≡ at days v
 
 -- Before the first of them every row is as it was.
 pub kept-none : (steps first : ℕ) (days kept : List ℕ) → KeptFrom steps first first days kept kept
@@ -76,7 +76,7 @@ module _ {steps first k : ℕ} {days kept kept′ : List ℕ} (passed : KeptFrom
     newer = λ j v from j-in held v-in. told j v from j-in held v-in (ℕ-discrete j k);
   }
     where
-      told : (j v : ℕ) → first ≤ j → j < k + 1 → Holds j kept′ → v < steps → Dec (j ≡ k) → at kept′ (row-of j + v) ≡ at days v
+      told : (j v : ℕ) → first ≤ j → j < k + 1 → RowNamed j kept′ → v < steps → Dec (j ≡ k) → at kept′ (row-of j + v) ≡ at days v
       told j v from j-in held v-in (yes e) = absurd (no-row (subst (λ (x : ℕ). HasRow x (length kept′)) e (held .has-row)))
       told j v from j-in held v-in (no e) = passed .newer j v from (omega arith) held v-in
 
@@ -89,7 +89,7 @@ module _ {steps first k : ℕ} {days kept kept′ : List ℕ} (passed : KeptFrom
     newer = λ j v from j-in held v-in. told j v from j-in held v-in (ℕ-discrete j k);
   }
     where
-      told : (j v : ℕ) → first ≤ j → j < k + 1 → Holds j kept″ → v < steps → Dec (j ≡ k) → at kept″ (row-of j + v) ≡ at days v
+      told : (j v : ℕ) → first ≤ j → j < k + 1 → RowNamed j kept″ → v < steps → Dec (j ≡ k) → at kept″ (row-of j + v) ≡ at days v
       told j v from j-in held v-in (yes e) = ap (λ (x : ℕ). at kept″ (row-of x + v)) e ∙ f .filed v v-in
       told j v from j-in held v-in (no e) = days-before f j e held v (omega arith) ∙ passed .newer j v from (omega arith) (held-before f j e held) v-in
 
@@ -112,7 +112,7 @@ keeps-days n {c} {days} {marks} {kept} {kept′} room few passed rules watched s
     same-plan : (m : ℕ) (p q : ℕ → ℕ) → m ≤ c .rules → ((v : ℕ) → v < c .steps → p v ≡ q v) → plan m p → plan m q
     same-plan m p q held = earliest-ext (c .steps) (rule-at rules) (λ i. i < m) p q (λ i i-in. sound .rules-good i (omega arith) .steps-in)
 
-    told : (k : ℕ) → Holds k kept′ → k < c .marks + n → Dec (k < c .marks) → plan (at marks′ k) (λ v. at kept′ (row-of k + v))
+    told : (k : ℕ) → RowNamed k kept′ → k < c .marks + n → Dec (k < c .marks) → plan (at marks′ k) (λ v. at kept′ (row-of k + v))
     told k held k-in (yes older) =
         subst (λ (m : ℕ). plan m (λ v. at kept′ (row-of k + v))) (sym (marked-old n (c .rules) (c .marks) marks k older))
         (same-plan (at marks k) (λ v. at kept (row-of k + v)) (λ v. at kept′ (row-of k + v)) (sound .marks-held k older)

@@ -6,7 +6,7 @@ use lib.ListN.{length, set}
 use Rattle.meaning.specs.declared.Counts.{Counts}
 use Rattle.meaning.specs.Bounds.{STEPS}
 use Rattle.meaning.specs.Rules.{Rule, Earliest}
-use Rattle.meaning.specs.Tables.{Columns, Tables, rule-at, at, Sound, with-mark, without-mark, with-days}
+use Rattle.meaning.specs.Tables.{Columns, Tables, rule-at, at, Sound, with-mark, without-mark, with-days, marks-now}
 use Rattle.meaning.specs.Promise.{Planned}
 use Rattle.meaning.specs.Calls.{rules-of, held-in}
 
@@ -21,12 +21,12 @@ marked zero r k marks = marks
 marked (suc n) r k marks = marked n r (k + 1) (set marks k r)
 
 abbrev pub more-marks : ℕ → Counts → Counts
-more-marks n c = record { steps = c .steps; rules = c .rules; marks = c .marks + n; watched = c .watched }
+more-marks n c = marks-now (c .marks + n) c
 
 -- The tables with the newest n marks forgotten, and no rule dropped.
 abbrev pub fewer-marks : ℕ → Tables → Tables
 fewer-marks n t = record {
-  counts = record { steps = t .counts .steps; rules = t .counts .rules; marks = t .counts .marks - n; watched = t .counts .watched };
+  counts = marks-now (t .counts .marks - n) (t .counts);
   rules = t .rules;
   days = t .days;
   marks = t .marks;
@@ -60,13 +60,13 @@ abbrev pub HasRow : (k room : ℕ) → Type 0
 HasRow k room = row-of k + STEPS < room
 
 -- The mark at place k has a row, and the row names it: after the days stands k + 1, so that 0 names no mark.
-pub record Holds (k : ℕ) (kept : List ℕ) : Type 0 where
+pub record RowNamed (k : ℕ) (kept : List ℕ) : Type 0 where
   pub has-row : HasRow k (length kept)
   pub named : at kept (row-of k + STEPS) ≡ k + 1
 
 -- Where its row names the mark at place k, the days in the row are the earliest plan of the first m rules.
 abbrev pub KeptFor : (R : ℕ → Rule) (steps m k : ℕ) (kept : List ℕ) → Type 0
-KeptFor R steps m k kept = Holds k kept → Earliest steps R (λ i. i < m) (λ v. at kept (row-of k + v))
+KeptFor R steps m k kept = RowNamed k kept → Earliest steps R (λ i. i < m) (λ v. at kept (row-of k + v))
 
 -- Where the row of an open mark names it, the days in the row are the earliest plan of the rules held when the mark was set. A row that names no open mark tells nothing.
 pub record KeptDays (R : ℕ → Rule) (steps open-marks : ℕ) (marks kept : List ℕ) : Type 0 where

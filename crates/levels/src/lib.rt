@@ -11,9 +11,9 @@ ghost use Rattle.lent.specs.Idle.{unwatched};
 ghost use Rattle.lent.specs.Promises.{Border};
 ghost use Rattle.lent.specs.Decides.{Decides};
 ghost use Rattle.spread.specs.Ground.{rules};
-ghost use Rattle.inner_add.specs.Lending.{LentChains};
+ghost use Rattle.chains.specs.Chains.{LentChains};
 ghost use Rattle.inner_back.specs.Replan.{Droppable};
-ghost use Rattle.levels.specs.Levels.{marked, more-marks, row-of, Popped, HasRow, Holds, KeptFor, KeptDays, KeepsDays, Copied, Filed};
+ghost use Rattle.levels.specs.Levels.{marked, more-marks, row-of, Popped, HasRow, RowNamed, KeptFor, KeptDays, KeepsDays, Copied, Filed};
 use meaning::Counts;
 
 // So many rows of kept days are used in turn.
@@ -42,7 +42,7 @@ fn has_row(k: usize, room: usize) -> bool
 // Whether the days of mark k are kept: it has a row, which names it.
 fn holds(k: usize, kept: &[u32]) -> bool
     requires { ⌜ k < MARKS ⌝ }
-    ensures { λ r. ⌜ Decides r (Holds k (now (kept .entry))) ⌝ }
+    ensures { λ r. ⌜ Decides r (RowNamed k (now (kept .entry))) ⌝ }
 {
     if has_row(k, kept.len()) {
         return kept[row_of(k) + meaning::STEPS] == (k + 1) as u32;
@@ -92,12 +92,7 @@ pub fn push(counts: Counts, days: &[u32], marks: &mut [u32], kept: &mut [u32], n
             keep_days(steps, days, kept, k);
         }
     }
-    Counts {
-        steps: counts.steps,
-        rules: counts.rules,
-        marks: (first + n) as u32,
-        watched: counts.watched,
-    }
+    meaning::marks_now(counts, (first + n) as u32)
 }
 
 // Takes the rules from number k up to m off their chains, newest first.
@@ -147,12 +142,7 @@ pub fn pop(
     let rules = counts.rules as usize;
     drop_rules(m as usize, rules, steps, xs, heads, nexts);
     days_at(steps, rules, m as usize, xs, ys, cs, days, kept, k);
-    Counts {
-        steps: counts.steps,
-        rules: m,
-        marks: k as u32,
-        watched: counts.watched,
-    }
+    meaning::marks_now(meaning::rules_now(counts, m), k as u32)
 }
 
 // Brings the days of n steps, which are the earliest plan of m rules, to the earliest plan of the first l of them, those held when mark k was set: a copy where

@@ -11,7 +11,8 @@ use lib.Dec.{eqb}
 use lib.IntN.{ℤ, pos}
 use borrow.Author.Tests.{eq-eqb, ne-eqb}
 use Rattle.meaning.specs.Rules.{Rule, Keeps, InSteps, Arrangement, Plan, Earliest, Fits, more, plus}
-use Rattle.meaning.proofs.Whole.{up, dn, plan→, →plan, keeps?}
+use Rattle.meaning.specs.Reckoning.{up, dn}
+use Rattle.meaning.proofs.Whole.{plan→, →plan, keeps?}
 use Rattle.meaning.proofs.Below.{both?, either?, not?, some-below?}
 use Rattle.meaning.proofs.More.{more-all}
 use Rattle.meaning.proofs.Theory.{fits-more}

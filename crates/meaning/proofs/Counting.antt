@@ -10,12 +10,8 @@ use lib.Dec.{eqb}
 use lib.ListN.{length, length-map}
 use borrow.Author.Tests.{eq-eqb, ne-eqb}
 use Rattle.meaning.specs.Rules.{Rule, InSteps, All, Different, Refutes, more}
+use Rattle.meaning.specs.Reckoning.{count}
 use Rattle.meaning.proofs.More.{more-new, more-either}
-
--- How many numbers below n pass the test.
-unfoldable pub count : (ℕ → Bool) → ℕ → ℕ
-count f zero = 0
-count f (suc n) = count f n + cond (f n) 1 0
 
 -- Below 0 there is none.
 pub count-none : (f : ℕ → Bool) → count f 0 ≡ 0

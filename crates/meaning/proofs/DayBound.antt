@@ -11,9 +11,10 @@ use lib.Signed.{_≤ℤ_}
 use borrow.Author.Tests.{leb-true, leb-false, le-leb, lt-leb}
 use Rattle.meaning.specs.Bounds.{LARGEST}
 use Rattle.meaning.specs.Rules.{Rule, InSteps, InBounds, Plan, Earliest}
-use Rattle.meaning.proofs.Whole.{dn, le→, up-neg, dn-neg}
+use Rattle.meaning.specs.Reckoning.{dn, count}
+use Rattle.meaning.proofs.Whole.{le→, up-neg, dn-neg}
 use Rattle.meaning.proofs.Below.{both?, some-below?}
-use Rattle.meaning.proofs.Counting.{count, count-more, count-all}
+use Rattle.meaning.proofs.Counting.{count-more, count-all}
 use Rattle.meaning.proofs.Lowering.{lowered, nothing-lowers, lowered-keeps}
 
 -- An amount not below -A lies at most A below 0.

@@ -8,7 +8,8 @@ use mathlib.Core.Bool.{Bool, true, false, not, cond, true≢false}
 use lib.IntN.{pos}
 use borrow.Author.Tests.{not-true, not-false}
 use Rattle.meaning.specs.Rules.{Rule, Keeps, InSteps, Plan, Earliest, Tight, Grounded, on-day-0, forced}
-use Rattle.meaning.proofs.Whole.{up, dn, plan→, →plan, tight→, →tight}
+use Rattle.meaning.specs.Reckoning.{up, dn}
+use Rattle.meaning.proofs.Whole.{plan→, →plan, tight→, →tight}
 
 -- The days with those of the steps in S lowered by one.
 abbrev pub lowered : (ℕ → Bool) → (ℕ → ℕ) → ℕ → ℕ

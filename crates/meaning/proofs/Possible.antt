@@ -14,7 +14,7 @@ use Rattle.meaning.specs.Bounds.{STEPS, RULES, MARKS, WATCHED, DONE, SHO
 use Rattle.meaning.specs.Rules.{Rule, InSteps, InAmount, negation, Different, Earliest, Always, Never, Fits, Refutes}
 use Rattle.meaning.specs.Tables.{Tables, rule-at, at, Room, Sound, opened, with-watched, with-rule, with-mark, newest-mark, without-mark, with-days}
 use Rattle.meaning.specs.Promise.{Given, bare, Meaning, Need, needs, First, Obeys, Past, Planned, moved, Rising, Exactly}
-use Rattle.meaning.specs.Calls.{WithList, WithLists, rules-of, held-in, next-in, rules-and, held-and, RingIn, WatchedThat, IsRingFor, rule-needs, open-meaning, watch-meaning, add-needs, add-meaning, mark-meaning, back-meaning, trial-meaning, consequences-meaning, ring-check-meaning}
+use Rattle.meaning.specs.Calls.{WithList, WithLists, rules-of, held-in, next-in, rules-and, held-and, RingIn, WatchedThat, IsRingFor, rule-needs, open-meaning, watch-meaning, add-needs, add-meaning, mark-meaning, back-meaning, trial-meaning, consequences-meaning, ring-check-meaning, Asked}
 use Rattle.meaning.proofs.More.{more-all}
 use Rattle.meaning.proofs.Theory.{all-implies, earliest-ext, ring-excludes, more-fits, always-is, never-is}
 use Rattle.meaning.proofs.Counting.{different-short, ring-length}
@@ -118,14 +118,6 @@ back-met t room sound some p e =
           (λ i h. sound .rules-good i (omega (arith, sound .marks-held (t .counts .marks - 1) (omega arith))) .steps-in)
           e;
     })
-
--- What Add and Trial need before the last need, that the rule fits.
-pub record Asked (r : Rule) (t : Tables) : Type 0 where
-  pub room : Room t
-  pub sound : Sound t
-  pub steps-in : InSteps (t .counts .steps) r
-  pub amount-in : InAmount (r .amount)
-  pub not-full : t .counts .rules < RULES
 
 module _ (r : Rule) (t : Tables) (a : Asked r t) where
   -- The steps of all rules held with the new one are below n.

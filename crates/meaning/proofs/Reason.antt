@@ -14,7 +14,8 @@ use lib.IntN.{ℤ, pos, _+ℤ_, _-ℤ_}
 use lib.Signed.{_<ℤ_}
 use borrow.Author.Tests.{eq-eqb, ne-eqb}
 use Rattle.meaning.specs.Rules.{Rule, InSteps, Arrangement, Plan, Earliest, Fits, Leads, All, Different, total, more, plus, Refutes}
-use Rattle.meaning.proofs.Whole.{up, dn, →lt, add-is, minus-is, →keeps, plan→}
+use Rattle.meaning.specs.Reckoning.{up, dn}
+use Rattle.meaning.proofs.Whole.{→lt, add-is, minus-is, →keeps, plan→}
 use Rattle.meaning.proofs.Below.{both?, not?, some-below?}
 use Rattle.meaning.proofs.More.{more-new, more-old}
 use Rattle.meaning.proofs.Theory.{walk-bound, all-implies, ring-excludes}

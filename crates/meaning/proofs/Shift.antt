@@ -6,7 +6,8 @@ use mathlib.Core.Path.{_≡_}
 use mathlib.Core.Logic.{_↔_}
 use lib.IntN.{ℤ, pos, _+ℤ_}
 use Rattle.meaning.specs.Rules.{Rule, Keeps, InSteps, Arrangement, Plan}
-use Rattle.meaning.proofs.Whole.{up, dn, →eq, add-is, keeps→, →keeps, →plan}
+use Rattle.meaning.specs.Reckoning.{up, dn}
+use Rattle.meaning.proofs.Whole.{→eq, add-is, keeps→, →keeps, →plan}
 use Rattle.meaning.proofs.Below.{largest, largest-over}
 
 -- Days that keep a rule keep it with one whole number added to all of them.

@@ -18,7 +18,8 @@ use Rattle.meaning.specs.Tables.{Tables, Columns, rule-at, at, ColumnsRo
 use Rattle.meaning.specs.Promise.{Given, bare, Meaning, Obeys, Past, In, Exactly}
 use Rattle.meaning.specs.Calls.{WithList, WithLists, rules-of, held-in, next-in, rules-and, held-and, add-meaning, back-meaning, consequences-meaning}
 use Rattle.meaning.specs.Cases.{Row, Days, Done, Says}
-use Rattle.meaning.proofs.Whole.{up, dn, keeps→, →plan, keeps?}
+use Rattle.meaning.specs.Reckoning.{up, dn}
+use Rattle.meaning.proofs.Whole.{keeps→, →plan, keeps?}
 use Rattle.meaning.proofs.More.{more-new, more-old}
 use Rattle.meaning.proofs.Counting.{refutes-different}
 use Rattle.meaning.proofs.Rings.{leads-same, total-same}

@@ -15,7 +15,7 @@ use Rattle.meaning.specs.Bounds.{STEPS, RULES, MARKS, WATCHED, DONE, CON
 use Rattle.meaning.specs.Rules.{Rule, Keeps, All, InSteps, InBounds, negation, Arrangement, Earliest, Always, Never, Fits, total, more, plus, Refutes}
 use Rattle.meaning.specs.Tables.{Tables, Columns, rule-at, put, at, ColumnsRoom, Room, Sound, opened, with-watched, with-rule, with-mark, newest-mark, without-mark, with-days}
 use Rattle.meaning.specs.Promise.{Given, First, Exactly, moved}
-use Rattle.meaning.specs.Calls.{WithList, WithLists, rules-of, held-in, next-in, rules-and, held-and, Opened, Added, WatchedThat, open-meaning, watch-meaning, add-meaning, mark-meaning, back-meaning, consequences-meaning}
+use Rattle.meaning.specs.Calls.{WithList, WithLists, rules-of, held-in, next-in, rules-and, held-and, Opened, Added, WatchedThat, open-meaning, watch-meaning, add-meaning, mark-meaning, back-meaning, consequences-meaning, Asked}
 use Rattle.meaning.specs.Runs.{Call, Made, Run}
 use Rattle.meaning.specs.Cases.{Row, Case, Days, Done, Possible, Says, Claim, Proved, starred}
 use Rattle.meaning.proofs.Whole.{le→, →eq}
@@ -27,7 +27,7 @@ use Rattle.meaning.proofs.Lists.{exactly-same, filled-length, moved-sam
 use Rattle.meaning.proofs.Put.{put-new, put-old}
 use Rattle.meaning.proofs.Sequences.{Kept, call-keeps, run-kept}
 use Rattle.meaning.proofs.Possible as can
-use Rattle.meaning.proofs.Possible.{Allowed, Asked}
+use Rattle.meaning.proofs.Possible.{Allowed}
 use Rattle.meaning.proofs.Tests.{both, either, nth, Below, every, every-at, in-bounds, in-bounds→, earliest-test, earliest-test→, all-below, all-below→, always-test, walk-test→, fits-test, fits-test→, passing, passing-exactly}
 use Rattle.meaning.proofs.Rings.{more-same, total-same, refutes-same, same-test→, same-test, ring-test, ring-test→, only-test, only-test→}
 

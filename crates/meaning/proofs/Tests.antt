@@ -14,7 +14,8 @@ use Rattle.meaning.specs.Bounds.{LARGEST}
 use Rattle.meaning.specs.Rules.{Rule, Keeps, InSteps, InAmount, InBounds, negation, Plan, Earliest, Always, Never, Fits, Leads, All, Different, total, Negative, Tight, Grounded}
 use Rattle.meaning.specs.Tables.{at}
 use Rattle.meaning.specs.Promise.{Exactly}
-use Rattle.meaning.proofs.Whole.{up, dn, le→, →le, minus-is, up-neg, dn-neg, add-is, keeps→, →keeps, plan→, →plan, →tight}
+use Rattle.meaning.specs.Reckoning.{up, dn}
+use Rattle.meaning.proofs.Whole.{le→, →le, minus-is, up-neg, dn-neg, add-is, keeps→, →keeps, plan→, →plan, →tight}
 use Rattle.meaning.proofs.Theory.{not-both, never-is-always-not}
 use Rattle.meaning.proofs.Lowering.{grounded-earliest}
 use Rattle.meaning.proofs.Lists.{exactly-none, exactly-take, exactly-leave}

@@ -8,7 +8,8 @@ use lib.IntN.{ℤ, pos, negsuc, negℤ, _+ℤ_, _-ℤ_}
 use lib.Signed.{_≤ℤ_, _<ℤ_}
 use Rattle.meaning.specs.Rules.{Rule, Keeps, InSteps, negation, Arrangement, Plan, Earliest, Always, Never, Fits, Leads, All, total, more, plus, Refutes, RefutesBy}
 use Rattle.meaning.proofs.More.{more-new, more-either, more-arrangement, arrangement-new, arrangement-old}
-use Rattle.meaning.proofs.Whole.{up, dn, le→, →le, lt→, →eq, add-is, minus-is, up-neg, dn-neg, keeps→, →keeps, plan→, →plan, keeps?}
+use Rattle.meaning.specs.Reckoning.{up, dn}
+use Rattle.meaning.proofs.Whole.{le→, →le, lt→, →eq, add-is, minus-is, up-neg, dn-neg, keeps→, →keeps, plan→, →plan, keeps?}
 
 -- ---- the earliest plan
 

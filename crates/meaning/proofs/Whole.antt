@@ -8,15 +8,8 @@ use lib.Dec.{T, leb, ltb, leb→le, le→leb, ltb→lt, lt→ltb, nltb→le, not
 use lib.IntN.{ℤ, pos, negsuc, negℤ, subℕ, _+ℤ_, _-ℤ_}
 use lib.Signed.{_≤ℤ_, _<ℤ_, leZ, ltZ}
 use Rattle.meaning.specs.Rules.{Rule, Keeps, Tight}
+use Rattle.meaning.specs.Reckoning.{up, dn}
 use Rattle.meaning.proofs.Below.{in-words?}
-
-abbrev pub up : ℤ → ℕ
-up (pos n) = n
-up (negsuc n) = 0
-
-abbrev pub dn : ℤ → ℕ
-dn (pos n) = 0
-dn (negsuc n) = suc n
 
 leZ→ : (a b : ℤ) → T (leZ a b) → up a + dn b ≤ up b + dn a
 leZ→ (pos a) (pos b) h = omega (arith, leb→le a b h)

@@ -19,6 +19,12 @@ pub record WithLists : Type 0 where
   pub one : List ℕ
   pub two : List ℕ
 
+abbrev pub with-list : Tables → List ℕ → WithList
+with-list t l = record { tables = t; list = l }
+
+abbrev pub with-lists : Tables → List ℕ → List ℕ → WithLists
+with-lists t l m = record { tables = t; one = l; two = m }
+
 -- The rules of the tables by number, and which numbers are held.
 abbrev pub rules-of : Tables → ℕ → Rule
 rules-of t = rule-at (t .rules)
@@ -72,6 +78,14 @@ abbrev pub add-needs : Rule → Tables → Type 0 → List Need
 add-needs r t room =
     needs SHORT room ∷ needs DAMAGED (Sound t) ∷ rule-needs (t .counts .steps) r
     (needs FULL (t .counts .rules < RULES) ∷ needs CONFLICT (Fits (rules-of t) (held-in t) r) ∷ [])
+
+-- What Add and Trial need before the last need, that the rule fits.
+pub record Asked (r : Rule) (t : Tables) : Type 0 where
+  pub room : Room t
+  pub sound : Sound t
+  pub steps-in : InSteps (t .counts .steps) r
+  pub amount-in : InAmount (r .amount)
+  pub not-full : t .counts .rules < RULES
 
 -- The ring of a conflict, in the list lent for it.
 abbrev pub RingIn : Rule → Tables → ℕ → List ℕ → List ℕ → Type 0

@@ -5,7 +5,7 @@ use mathlib.Core.List.{List, [], _∷_}
 use lib.IntN.{ℤ, pos, negℤ}
 use lib.ListN.{length, take}
 use Rattle.meaning.specs.Bounds.{STEPS, DONE, CONFLICT}
-use Rattle.meaning.specs.Rules.{Rule, negation, total}
+use Rattle.meaning.specs.Rules.{Rule, rule, negation, total}
 use Rattle.meaning.specs.Tables.{Tables, at, Room}
 use Rattle.meaning.specs.Promise.{Given}
 use Rattle.meaning.specs.Calls.{next-in, rules-and}
@@ -89,10 +89,6 @@ Proved c =
     → ((g : Given) (u : Tables) → Made (Call.opens (length (c .fresh))) t g u → Done 0 0 g × Days u (c .fresh) × Claim u (c .rows))
     × Possible (Call.opens (length (c .fresh))) t
 
--- x, y, c.
-abbrev rule : ℕ → ℕ → ℤ → Rule
-rule x y c = record { first = x; second = y; amount = c }
-
 abbrev minus : ℕ → ℤ
 minus n = negℤ (pos n)
 
@@ -100,43 +96,74 @@ minus n = negℤ (pos n)
 abbrev fresh : List ℕ
 fresh = 0 ∷ 0 ∷ 0 ∷ 0 ∷ []
 
--- Cases 2 and 3, which others go on from.
-abbrev after-2 : List Row → List Row
-after-2 rows = Row.add (rule 0 1 (minus 2)) 1 (0 ∷ 2 ∷ 0 ∷ 0 ∷ []) ∷ rows
+-- A case of four steps, fresh.
+abbrev case : ℕ → List Row → Case
+case n rows = record { number = n; fresh = fresh; rows = rows }
 
-abbrev after-3 : List Row → List Row
-after-3 rows = after-2 (Row.add (rule 1 2 (minus 3)) 1 (0 ∷ 2 ∷ 5 ∷ 0 ∷ []) ∷ rows)
+-- Adding 0,1,-2 to no rule, and 1,2,-3 after it.
+abbrev adds-2 : Row
+adds-2 = Row.add (rule 0 1 (minus 2)) 1 (0 ∷ 2 ∷ 0 ∷ 0 ∷ [])
 
--- The starred cases.
+abbrev adds-3 : Row
+adds-3 = Row.add (rule 1 2 (minus 3)) 1 (0 ∷ 2 ∷ 5 ∷ 0 ∷ [])
+
+-- Cases 1 to 3: no rule, one rule, a chain of two.
+abbrev case-1 : Case
+case-1 = case 1 []
+
+abbrev case-2 : Case
+case-2 = case 2 (adds-2 ∷ [])
+
+abbrev case-3 : Case
+case-3 = case 3 (adds-2 ∷ adds-3 ∷ [])
+
+-- Cases 4 and 5: a rule back along the chain, at the limit and past it.
+abbrev case-4 : Case
+case-4 = case 4 (adds-2 ∷ adds-3 ∷ Row.add (rule 2 0 (pos 5)) 0 (0 ∷ 2 ∷ 5 ∷ 0 ∷ []) ∷ [])
+
+abbrev case-5 : Case
+case-5 = case 5 (adds-2 ∷ adds-3 ∷ Row.refuse (rule 2 0 (pos 4)) (2 ∷ 0 ∷ 1 ∷ []) (minus 1) ∷ [])
+
+-- Cases 6 to 8: a rule of one step, a rule against the numbering, a ring of sum 0.
+abbrev case-6 : Case
+case-6 = case 6 (Row.add (rule 3 3 (pos 0)) 0 fresh ∷ Row.refuse (rule 3 3 (minus 1)) (1 ∷ []) (minus 1) ∷ [])
+
+abbrev case-7 : Case
+case-7 = case 7 (Row.add (rule 2 0 (minus 7)) 1 (7 ∷ 0 ∷ 0 ∷ 0 ∷ []) ∷ [])
+
+abbrev case-8 : Case
+case-8 = case 8 (Row.add (rule 0 1 (pos 0)) 0 fresh ∷ Row.add (rule 1 0 (pos 0)) 0 fresh ∷ [])
+
+-- Case 9: back to a mark.
+abbrev case-9 : Case
+case-9 = case 9 (adds-2 ∷ Row.mark ∷ adds-3 ∷ Row.back 1 (0 ∷ 2 ∷ 0 ∷ 0 ∷ []) ∷ [])
+
+-- Case 10: six watched rules, and which of them hold in every arrangement and in none.
+abbrev case-10 : Case
+case-10 =
+    case 10
+    (adds-2
+    ∷ adds-3
+    ∷ Row.watch (rule 0 2 (minus 5))
+    ∷ Row.watch (rule 0 2 (minus 6))
+    ∷ Row.watch (rule 2 0 (pos 4))
+    ∷ Row.watch (rule 2 0 (pos 5))
+    ∷ Row.watch (rule 3 3 (pos 0))
+    ∷ Row.watch (rule 3 3 (minus 1))
+    ∷ Row.split (0 ∷ 4 ∷ []) (2 ∷ 5 ∷ [])
+    ∷ [])
+
+-- Case 11: a negation, and back again.
+abbrev case-11 : Case
+case-11 = case 11 (Row.negate (rule 0 1 (minus 2)) (rule 1 0 (pos 1)) ∷ [])
+
+-- The starred cases: adding, back along the chain, single rules, back to a mark, consequences, negation.
 abbrev pub starred : List Case
 starred =
-    record { number = 1; fresh = fresh; rows = [] }
-    ∷ record { number = 2; fresh = fresh; rows = after-2 [] }
-    ∷ record { number = 3; fresh = fresh; rows = after-3 [] }
-    ∷ record { number = 4; fresh = fresh; rows = after-3 (Row.add (rule 2 0 (pos 5)) 0 (0 ∷ 2 ∷ 5 ∷ 0 ∷ []) ∷ []) }
-    ∷ record { number = 5; fresh = fresh; rows = after-3 (Row.refuse (rule 2 0 (pos 4)) (2 ∷ 0 ∷ 1 ∷ []) (minus 1) ∷ []) }
-    ∷ record { number = 6; fresh = fresh; rows = Row.add (rule 3 3 (pos 0)) 0 fresh ∷ Row.refuse (rule 3 3 (minus 1)) (1 ∷ []) (minus 1) ∷ [] }
-    ∷ record { number = 7; fresh = fresh; rows = Row.add (rule 2 0 (minus 7)) 1 (7 ∷ 0 ∷ 0 ∷ 0 ∷ []) ∷ [] }
-    ∷ record { number = 8; fresh = fresh; rows = Row.add (rule 0 1 (pos 0)) 0 fresh ∷ Row.add (rule 1 0 (pos 0)) 0 fresh ∷ [] }
-    ∷ record {
-      number = 9;
-      fresh = fresh;
-      rows = after-2 (Row.mark ∷ Row.add (rule 1 2 (minus 3)) 1 (0 ∷ 2 ∷ 5 ∷ 0 ∷ []) ∷ Row.back 1 (0 ∷ 2 ∷ 0 ∷ 0 ∷ []) ∷ []);
-    }
-    ∷ record {
-      number = 10;
-      fresh = fresh;
-      rows =
-          after-3
-          (Row.watch (rule 0 2 (minus 5))
-          ∷ Row.watch (rule 0 2 (minus 6))
-          ∷ Row.watch (rule 2 0 (pos 4))
-          ∷ Row.watch (rule 2 0 (pos 5))
-          ∷ Row.watch (rule 3 3 (pos 0))
-          ∷ Row.watch (rule 3 3 (minus 1))
-          ∷ Row.split (0 ∷ 4 ∷ []) (2 ∷ 5 ∷ [])
-          ∷ []
-          );
-    }
-    ∷ record { number = 11; fresh = fresh; rows = Row.negate (rule 0 1 (minus 2)) (rule 1 0 (pos 1)) ∷ [] }
+    case-1 ∷ case-2 ∷ case-3
+    ∷ case-4 ∷ case-5
+    ∷ case-6 ∷ case-7 ∷ case-8
+    ∷ case-9
+    ∷ case-10
+    ∷ case-11
     ∷ []

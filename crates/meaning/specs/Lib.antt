@@ -1,4 +1,4 @@
--- The meaning, in reading order. What follows from it stands in proofs/.
+-- The meaning, in reading order; Reckoning is what inner contracts alone cite. What follows from it stands in proofs/.
 pub mod Bounds
 pub mod Rules
 pub mod Tables
@@ -6,3 +6,4 @@ pub mod Promise
 pub mod Calls
 pub mod Runs
 pub mod Cases
+pub mod Reckoning

@@ -16,6 +16,10 @@ pub record Rule : Type 0 where
   pub second : ℕ
   pub amount : ℤ
 
+-- The rule x, y, c.
+abbrev pub rule : ℕ → ℕ → ℤ → Rule
+rule x y c = record { first = x; second = y; amount = c }
+
 -- The days d keep the rule. Days are whole numbers, negative ones too.
 abbrev pub Keeps : (ℕ → ℤ) → Rule → Type 0
 Keeps d r = (d (r .first) -ℤ d (r .second)) ≤ℤ r .amount

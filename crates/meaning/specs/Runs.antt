@@ -6,7 +6,7 @@ use Rattle.meaning.specs.Bounds.{DONE}
 use Rattle.meaning.specs.Rules.{Rule}
 use Rattle.meaning.specs.Tables.{Tables}
 use Rattle.meaning.specs.Promise.{Given, Obeys}
-use Rattle.meaning.specs.Calls.{WithList, WithLists, open-meaning, watch-meaning, add-meaning, mark-meaning, back-meaning, trial-meaning, consequences-meaning, ring-check-meaning}
+use Rattle.meaning.specs.Calls.{with-list, with-lists, open-meaning, watch-meaning, add-meaning, mark-meaning, back-meaning, trial-meaning, consequences-meaning, ring-check-meaning}
 
 -- A call as it was made: what it was asked, with each list lent as it was before and after.
 pub data Call : Type 0 where
@@ -18,12 +18,6 @@ pub data Call : Type 0 where
   tries : Rule → (days days′ ring ring′ : List ℕ) → Call
   asks-consequences : (one one′ two two′ : List ℕ) → Call
   checks-ring : Rule → (list list′ : List ℕ) → Call
-
-abbrev with-list : Tables → List ℕ → WithList
-with-list t l = record { tables = t; list = l }
-
-abbrev with-lists : Tables → List ℕ → List ℕ → WithLists
-with-lists t l m = record { tables = t; one = l; two = m }
 
 -- The call was made on tables t, gave g and left tables u, and kept its promise.
 abbrev pub Made : Call → Tables → Given → Tables → Type 0

@@ -5,10 +5,12 @@ ghost use lib.ListN.{length};
 ghost use Rattle.meaning.specs.Bounds.{STEPS, NAME-BYTES};
 ghost use Rattle.lent.specs.Decides.{Decides};
 ghost use Rattle.text.specs.Lexicon.{bytes};
-ghost use Rattle.names.specs.Names.{name-at, hash, Shelved, IndexRoom, Indexed, Linked, LinkOf, Found, FoundBelow, AllDifferent, Declared};
+ghost use Rattle.names.specs.Names.{name-at, hash, Shelved, IndexRoom, Indexed, Linked, LinkOf, Found, FoundBelow, AllDifferent, Declared, BUCKETS};
 
 // How many chains the index has.
 pub const BUCKETS: usize = 256;
+
+const FOLD: u32 = BUCKETS as u32;
 
 // How many bytes all names have: NAME_BYTES for each of STEPS.
 pub const SHELF: usize = meaning::STEPS * meaning::NAME_BYTES;
@@ -16,11 +18,11 @@ pub const SHELF: usize = meaning::STEPS * meaning::NAME_BYTES;
 // The hash of the bytes from place a to place b; of none where b is not past a.
 fn hash_of(s: &[u8], a: usize, b: usize) -> u16
     requires { ⌜ b ≤ length (now s) ⌝ }
-    ensures { λ r. ⌜ (r ≡ hash (bytes (now (s .entry)) a b)) × (r < 256) ⌝ }
+    ensures { λ r. ⌜ (r ≡ hash (bytes (now (s .entry)) a b)) × (r < BUCKETS) ⌝ }
 {
     let mut h = 0u32;
     for i in a..b {
-        h = (31 * h + s[i] as u32) % 256;
+        h = (31 * h + s[i] as u32) % FOLD;
     }
     h as u16
 }

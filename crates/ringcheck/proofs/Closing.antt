@@ -9,7 +9,7 @@ use Rattle.meaning.specs.Rules.{Rule, All, total}
 use Rattle.meaning.specs.Tables.{at}
 use Rattle.meaning.proofs.Whole.{add-is}
 use Rattle.meaning.proofs.Theory.{all-implies}
-use Rattle.lent.specs.Lent.{Biased}
+use Rattle.lent.specs.Lent.{Biased, BIAS}
 use Rattle.ringcheck.specs.Closing.{firsts, Closes, GoesOn}
 
 -- What follows from P and Q, every number of a list has where every number has both.
@@ -48,7 +48,7 @@ module _ (R : ℕ → Rule) (H : ℕ → Type 0) (x : ℕ) (met : List ℕ) (rea
 
   module _ (i b flag : ℕ) (l : List ℕ) (some : 0 < flag) (room : reached < length met) (biased : Biased (R i .amount) b) where
     -- Where number i and then l close the ring, l closes it from i's second step, with the step reached met and the amount of i in the sum.
-    pub next→ : Closes R H x met reached sum low (i ∷ l) → Closes R H x (set met reached flag) (R i .second) (sum + b) (low + 2147483648) l
+    pub next→ : Closes R H x met reached sum low (i ∷ l) → Closes R H x (set met reached flag) (R i .second) (sum + b) (low + BIAS) l
     next→ closes = record {
       rest-held = closes .rest-held .1;
       leads = closes .leads .1;
@@ -58,7 +58,7 @@ module _ (R : ℕ → Rule) (H : ℕ → Type 0) (x : ℕ) (met : List ℕ) (rea
     }
 
     -- Where number i goes on and l closes the ring from there, number i and then l close it.
-    pub →next : GoesOn (λ j. R j .first) H met reached i → Closes R H x (set met reached flag) (R i .second) (sum + b) (low + 2147483648) l → Closes R H x met reached sum low (i ∷ l)
+    pub →next : GoesOn (λ j. R j .first) H met reached i → Closes R H x (set met reached flag) (R i .second) (sum + b) (low + BIAS) l → Closes R H x met reached sum low (i ∷ l)
     →next on closes = record {
       rest-held = (on .is-held, closes .rest-held);
       leads = (on .first-is, closes .leads);

@@ -14,7 +14,7 @@ use Rattle.meaning.proofs.More.{more-new, more-old}
 use Rattle.meaning.proofs.Theory.{all-implies}
 use Rattle.meaning.proofs.Rings.{leads-same, total-same, firsts-same}
 use Rattle.lent.specs.Decides.{Decides, decides-same}
-use Rattle.lent.specs.Lent.{Biased}
+use Rattle.lent.specs.Lent.{Biased, BIAS}
 use Rattle.ringcheck.specs.Closing.{firsts, Closes}
 use Rattle.ringcheck.proofs.Closing.{flag-other, flagged-apart}
 
@@ -50,9 +50,9 @@ refutes-first R H k r [] refutes = absurd refutes
 refutes-first R H k r (j ∷ l) refutes = refutes .0
 
 -- The list closes a ring after the rule r: from its second step to its first, with only its first step met and its amount, which is
--- given as b, the amount + 2147483648, in the sum.
+-- given as b, the amount + BIAS, in the sum.
 abbrev pub ClosesAfter : (ℕ → Rule) → (ℕ → Type 0) → List ℕ → Rule → ℕ → List ℕ → Type 0
-ClosesAfter R H flags r b l = Closes R H (r .first) (set flags (r .first) 1) (r .second) b 2147483648 l
+ClosesAfter R H flags r b l = Closes R H (r .first) (set flags (r .first) 1) (r .second) b BIAS l
 
 -- Number k and then l are a negative ring exactly when l closes it after the rule under k.
 module _ (F : ℕ → Rule) (H : ℕ → Type 0) (k : ℕ) (flags : List ℕ) (none : (v : ℕ) → at flags v ≡ 0) (room : F k .first < length flags) (b : ℕ) (biased : Biased (F k .amount) b) (l : List ℕ) where
@@ -98,7 +98,7 @@ module _ (R : ℕ → Rule) (H : ℕ → Type 0) (k : ℕ) (r : Rule) (free : H 
   -- Where number k and then l refute the rule, l closes the ring.
   refutes→closes : (l : List ℕ) → RefutesBy R H k r l → ClosesAfter R H flags r b l
   refutes→closes l by =
-      closes-same F R H (r .first) (set flags (r .first) 1) (r .second) b 2147483648 l same
+      closes-same F R H (r .first) (set flags (r .first) 1) (r .second) b BIAS l same
       (subst (λ (s : Rule). ClosesAfter F H flags s b l) (more-new R k r)
       (ring→closes F H k flags none room-new b biased-new l (by .ring) (by .negative) (by .rest-held)))
 
@@ -113,7 +113,7 @@ module _ (R : ℕ → Rule) (H : ℕ → Type 0) (k : ℕ) (r : Rule) (free : H 
       over-all : ClosesAfter F H flags (F k) b l
       over-all =
           subst (λ (s : Rule). ClosesAfter F H flags s b l) (sym (more-new R k r))
-          (closes-same R F H (r .first) (set flags (r .first) 1) (r .second) b 2147483648 l (λ i held. sym (same i held)) closes)
+          (closes-same R F H (r .first) (set flags (r .first) 1) (r .second) b BIAS l (λ i held. sym (same i held)) closes)
 
   -- What decides whether the rest closes the ring decides whether the list refutes the rule.
   pub rest-decides : {t : Bool} (l : List ℕ) → (length l ≡ 0 → ⊥) → at l 0 ≡ k → Decides t (ClosesAfter R H flags r b (drop 1 l)) → Decides t (Refutes R H k r l)

@@ -1,5 +1,5 @@
 -- A walk along a list that may close a ring: at place k, what is sought holds exactly when what is left of the list closes the ring. The
--- sum so far is that of k amounts, each counted from 2147483648 below 0.
+-- sum so far is that of k amounts, each counted from BIAS below 0.
 use Prim.Native.Nat.{ℕ, _+_, _*_, _≤_, _<_}
 use native.Mathlib.Omega.{arith}
 use native.Mathlib.Numerals.{add-one}
@@ -13,18 +13,18 @@ use borrow.Author.Tests.{ltb-true, ltb-false}
 use Rattle.meaning.specs.Rules.{Rule}
 use Rattle.meaning.specs.Tables.{at}
 use Rattle.lent.specs.Decides.{Decides}
-use Rattle.lent.specs.Lent.{Biased}
+use Rattle.lent.specs.Lent.{Biased, BIAS}
 use Rattle.ringcheck.specs.Closing.{Closes, GoesOn}
 use Rattle.ringcheck.proofs.Closing.{end→, →end, next-goes-on, next→, →next}
 
 -- What is left of the list from place k on closes the ring.
 abbrev pub Left : (ℕ → Rule) → (ℕ → Type 0) → ℕ → List ℕ → ℕ → ℕ → List ℕ → ℕ → Type 0
-Left R H x met reached sum list k = Closes R H x met reached sum (k * 2147483648) (drop k list)
+Left R H x met reached sum list k = Closes R H x met reached sum (k * BIAS) (drop k list)
 
 module _ {R : ℕ → Rule} {H : ℕ → Type 0} {x : ℕ} {met : List ℕ} {reached sum : ℕ} {Sought : Type 0} (list : List ℕ) (k : ℕ) (as-left : Sought ↔ Left R H x met reached sum list k) where
   -- What the sum so far must be below for the amounts so far to add up below 0.
   abbrev low : ℕ
-  low = k * 2147483648
+  low = k * BIAS
 
   module _ (past : length list ≤ k) where
     -- Past the end of the list the step reached must be x.
@@ -32,7 +32,7 @@ module _ {R : ℕ → Rule} {H : ℕ → Type 0} {x : ℕ} {met : List ℕ} {rea
     sought-back sought = end→ R H x met reached sum low (rw (drop-of-length-le list past) at (as-left .0 sought)) .0
 
     -- Where it is, the sum decides.
-    pub sum-decides : reached ≡ x → Decides (ltb sum (k * 2147483648)) Sought
+    pub sum-decides : reached ≡ x → Decides (ltb sum (k * BIAS)) Sought
     sum-decides back = record {
       so = λ below. as-left .1 (rw (drop-of-length-le list past) (→end R H x met reached sum low back (ltb-true sum low below)));
       not-so = λ not-below sought. omega (arith, ltb-false sum low not-below, end→ R H x met reached sum low (rw (drop-of-length-le list past) at (as-left .0 sought)) .1);
@@ -54,5 +54,5 @@ module _ {R : ℕ → Rule} {H : ℕ → Type 0} {x : ℕ} {met : List ℕ} {rea
       λ further. as-left .1 (rw left-is (→next R H x met reached sum low i b flag (drop (k + 1) list) some room biased on (rw (s-is, lower) at further))),
     )
       where
-        lower : (k + 1) * 2147483648 ≡ k * 2147483648 + 2147483648
+        lower : (k + 1) * BIAS ≡ k * BIAS + BIAS
         lower = omega arith

@@ -8,7 +8,7 @@ use lib.IntN.{ℤ}
 use Rattle.meaning.specs.Bounds.{STEPS}
 use Rattle.meaning.specs.Rules.{Rule, InSteps, Leads, All, Different, total}
 use Rattle.meaning.specs.Tables.{rule-at, at}
-use Rattle.meaning.proofs.Whole.{up, dn}
+use Rattle.meaning.specs.Reckoning.{up, dn}
 use Rattle.lent.specs.Lent.{columns, Placed}
 
 -- The first steps of the rules in the list.

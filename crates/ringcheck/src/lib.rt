@@ -5,7 +5,7 @@ ghost use lib.ListN.{length, drop};
 ghost use Rattle.meaning.specs.Rules.{Refutes};
 ghost use Rattle.meaning.specs.Tables.{rule-at, at};
 ghost use Rattle.lent.specs.Decides.{Decides};
-ghost use Rattle.lent.specs.Lent.{columns, first};
+ghost use Rattle.lent.specs.Lent.{columns, first, BIAS};
 ghost use Rattle.ringcheck.specs.Closing.{Closes, GoesOn, Walkable, Checkable};
 
 // The number at place k of the list.
@@ -31,7 +31,7 @@ fn goes_on(m: usize, xs: &[u16], met: &[u8], reached: usize, i: usize) -> bool
 }
 
 // Whether the numbers of the list after its first are below m and their rules close a ring at step x from step y, where the first
-// number's amount is given as amount + 2147483648. The steps met by then are flagged in met, which is used up.
+// number's amount is given as amount + lent::BIAS. The steps met by then are flagged in met, which is used up.
 fn closes(
     m: usize,
     xs: &[u16],
@@ -44,7 +44,7 @@ fn closes(
     met: &mut [u8],
 ) -> bool
     requires { ⌜ Walkable (first m) (now xs) (now ys) (now cs) y amount (now list) (now met) ⌝ }
-    ensures { λ r. ⌜ Decides r (Closes (rule-at (columns (now (xs .entry)) (now (ys .entry)) (now (cs .entry)))) (first m) x (now (met .entry)) y amount 2147483648 (drop 1 (now (list .entry)))) ⌝ }
+    ensures { λ r. ⌜ Decides r (Closes (rule-at (columns (now (xs .entry)) (now (ys .entry)) (now (cs .entry)))) (first m) x (now (met .entry)) y amount BIAS (drop 1 (now (list .entry)))) ⌝ }
 {
     let mut reached = y;
     let mut sum = amount;
@@ -59,7 +59,7 @@ fn closes(
         reached = lent::number_at(ys, i);
         k += 1;
     }
-    reached == x && sum < (k as u64) * 2147483648
+    reached == x && sum < (k as u64) * lent::BIAS
 }
 
 // Whether the list is a negative ring of the rule x, y, c under number m and then of rules below m. Any list may be asked about: one

@@ -18,7 +18,7 @@ use Rattle.lent.specs.Promises.{Border}
 use Rattle.lent.proofs.Watching.{idle-border}
 use Rattle.script_meaning.specs.Record.{Lent, StartRoom, ScriptRoom, ScriptSound, Known}
 use Rattle.script_meaning.specs.Effect.{asked}
-use Rattle.script_meaning.specs.Commands.{rule-needs, name-needs, command-needs, own, command-meaning}
+use Rattle.script_meaning.specs.Commands.{term-needs, name-needs, command-needs, own, command-meaning}
 use Rattle.script_meaning.proofs.Alike.{needs-alike}
 use Rattle.script_meaning.proofs.Beside.{lent-watching, does-watching}
 use Rattle.script_meaning.proofs.Keeping.{Fine}
@@ -27,7 +27,7 @@ use Rattle.script_command.specs.Carrying.{Carries}
 use Rattle.script_calls.proofs.Answers.{read, read-all, read-none}
 
 -- No command is refused by CONFLICT.
-rules-never : (K : List ℕ → Type 0) (rs : List Named) (rest : List Need) → (First rest CONFLICT → ⊥) → First (rule-needs K rs rest) CONFLICT → ⊥
+rules-never : (K : List ℕ → Type 0) (rs : List Named) (rest : List Need) → (First rest CONFLICT → ⊥) → First (term-needs K rs rest) CONFLICT → ⊥
 rules-never K [] rest h f = h f
 rules-never K (r ∷ rs) rest h (inl a) = omega (arith, a .0)
 rules-never K (r ∷ rs) rest h (inr (k, inl a)) = omega (arith, a .0)

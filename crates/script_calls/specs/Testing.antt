@@ -7,7 +7,7 @@ use lib.ListN.{length}
 use Rattle.meaning.specs.declared.Counts.{Counts}
 use Rattle.meaning.specs.Bounds.{STEPS, NAME-BYTES, DONE, CONFLICT}
 use Rattle.meaning.specs.Promise.{First}
-use Rattle.inner_add.specs.Lending.{LentChains}
+use Rattle.chains.specs.Chains.{LentChains}
 use Rattle.span.specs.Span.{span}
 use Rattle.script_meaning.specs.Commands.{command-meaning}
 use Rattle.meaning.specs.Tables.{at}

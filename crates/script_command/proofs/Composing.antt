@@ -23,7 +23,7 @@ use Rattle.levels.specs.Levels.{with-marks, Popped}
 use Rattle.levels.proofs.Laws.{with-marks-border, popped-0}
 use Rattle.script_meaning.specs.declared.Notes.{Notes}
 use Rattle.script_meaning.specs.Record.{Lent, Known, step-of}
-use Rattle.script_meaning.specs.Effect.{Does, Asserts, AddsAll, resolved}
+use Rattle.script_meaning.specs.Effect.{Does, Asserts, AddsAll, resolved, at-level}
 use Rattle.script_meaning.specs.Commands.{command-needs}
 use Rattle.script_meaning.proofs.Needed.{EachRule, done-first}
 use Rattle.script_meaning.proofs.Granted.{Places, assert-met, push-met}
@@ -110,7 +110,7 @@ module _ (s : List ℕ) (k : ℕ) (before : Lent) (clash : Bool) (t v : Tables) 
                 clash,
                 (
                   subst (AddsAll (map (resolved (step-of before)) (rules-at s i)) (before .tables) clash) (sym same) adds,
-                  lent-same refl (m .noted-is ∙ ap (λ (b : ℕ). record { names = before .notes .names; logic = before .notes .logic; broken = cond clash (v .counts .marks + 1) b; sat = false }) none)
+                  lent-same refl (m .noted-is ∙ ap (λ (b : ℕ). at-level (cond clash (v .counts .marks + 1) b) (before .notes)) none)
                       (m .declared .names-same) (m .declared .lens-same) (nothing-printed (m .wrote)),
                 ),
               ),

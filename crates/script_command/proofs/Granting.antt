@@ -17,7 +17,7 @@ use Rattle.atoms.specs.Atoms.{Named, rules-at}
 use Rattle.atoms.proofs.Laws.{none-at-end}
 use Rattle.script_meaning.specs.Record.{Lent, Known, KnownIn}
 use Rattle.script_meaning.specs.Effect.{asked}
-use Rattle.script_meaning.specs.Commands.{rule-needs, name-needs, command-needs}
+use Rattle.script_meaning.specs.Commands.{term-needs, name-needs, command-needs}
 use Rattle.script_meaning.proofs.Needed.{EachRule, rules-passed}
 use Rattle.script_meaning.proofs.Granted.{Places, declare-met, assert-met, push-met, pop-met, value-met}
 use Rattle.script_meaning.proofs.Keeping.{Fine}
@@ -35,7 +35,7 @@ module _ (l : Lent) (s : List ℕ) (f : Fine l) where
   quiet c place sets drops = record {
     term-in = omega (arith, place);
     names-known = few-names;
-    rules-fine = subst (λ (rs : List Named). First (rule-needs (KnownIn (l .notes .names) (l .names) (l .lens)) rs []) DONE) (sym none) refl;
+    rules-fine = subst (λ (rs : List Named). First (term-needs (KnownIn (l .notes .names) (l .names) (l .lens)) rs []) DONE) (sym none) refl;
     places = omega (arith, ap length none, f .sound .tables-sound .counts-in .rules-in);
     marks-fit = sets;
     marks-there = drops;
@@ -61,7 +61,7 @@ module _ (l : Lent) (s : List ℕ) (f : Fine l) where
           record {
             term-in = omega (arith, place, asserted-term s i is .within);
             names-known = few-names;
-            rules-fine = subst (λ (j : ℕ). First (rule-needs (Known l) (rules-at s j) []) DONE) (sym place) (rules-passed (Known l) (rules-at s i) [] DONE (granted .0) refl);
+            rules-fine = subst (λ (j : ℕ). First (term-needs (Known l) (rules-at s j) []) DONE) (sym place) (rules-passed (Known l) (rules-at s i) [] DONE (granted .0) refl);
             places = subst (λ (j : ℕ). l .tables .counts .rules + length (rules-at s j) ≤ RULES) (sym place) (granted .1 none);
             marks-fit = few-marks;
             marks-there = omega arith;

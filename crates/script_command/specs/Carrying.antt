@@ -9,7 +9,7 @@ use Rattle.meaning.specs.Bounds.{RULES, DONE}
 use Rattle.meaning.specs.Promise.{First}
 use Rattle.meaning.specs.Calls.{rules-of}
 use Rattle.lent.specs.Idle.{unwatched}
-use Rattle.inner_add.specs.Lending.{LentChains}
+use Rattle.chains.specs.Chains.{LentChains}
 use Rattle.names.specs.Names.{Indexed}
 use Rattle.form.specs.Form.{form}
 use Rattle.levels.specs.Levels.{KeptDays}

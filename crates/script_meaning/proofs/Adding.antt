@@ -15,7 +15,7 @@ use Rattle.meaning.specs.Runs.{Call}
 use Rattle.meaning.proofs.Needs.{obeys-done}
 use Rattle.meaning.proofs.Put.{put-old}
 use Rattle.meaning.proofs.Sequences.{Kept, call-keeps}
-use Rattle.script_meaning.specs.Effect.{Holds, AddsAll}
+use Rattle.script_meaning.specs.Effect.{HeldNow, AddsAll}
 
 -- Every rule of the list has P.
 abbrev pub Each : (Rule → Type 0) → List Rule → Type 0
@@ -54,7 +54,7 @@ grown-more a b = record {
   older-rules = λ i h. b .older-rules i (omega (arith, a .more-rules)) ∙ a .older-rules i h;
 }
 
-module _ (r : Rule) (t u : Tables) (k : Kept t) (good : InBounds (t .counts .steps) r) (room : t .counts .rules < RULES) (h : Holds r t u) where
+module _ (r : Rule) (t u : Tables) (k : Kept t) (good : InBounds (t .counts .steps) r) (room : t .counts .rules < RULES) (h : HeldNow r t u) where
   ring : List ℕ
   ring = replicate STEPS 0
 
@@ -79,7 +79,7 @@ module _ (r : Rule) (t u : Tables) (k : Kept t) (good : InBounds (t .counts .ste
   unfolding ring given-back
   holds-kept = call-keeps (Call.adds r ring ring) t u given-back made k
 
-holds-grown : (r : Rule) (t u : Tables) → Holds r t u → Grown t u
+holds-grown : (r : Rule) (t u : Tables) → HeldNow r t u → Grown t u
 holds-grown r t u h = subst (Grown t) (sym (h .rule-held)) grown
   where
     grown : Grown t (with-days (u .days) (with-rule r t))
@@ -94,7 +94,7 @@ holds-grown r t u h = subst (Grown t) (sym (h .rule-held)) grown
     }
 
 -- With one rule added there is one rule more.
-one-more : (r : Rule) (t u : Tables) → Holds r t u → u .counts .rules ≡ t .counts .rules + 1
+one-more : (r : Rule) (t u : Tables) → HeldNow r t u → u .counts .rules ≡ t .counts .rules + 1
 one-more r t u h = ap (λ (v : Tables). v .counts .rules) (h .rule-held)
 
 -- Rules within bounds, as many as there are places for, leave sound tables, and what was held stays.

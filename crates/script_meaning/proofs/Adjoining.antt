@@ -14,8 +14,7 @@ use Rattle.meaning.specs.Tables.{Tables, ColumnsRoom, rule-at, put, with-rule, 
 use Rattle.meaning.specs.Calls.{rules-of, held-in}
 use Rattle.meaning.proofs.Put.{put-new, put-old, put-room}
 use Rattle.atoms.specs.Atoms.{Named, rules-at}
-use Rattle.script_meaning.specs.Effect.{AddsAll, resolved}
-use Rattle.script_meaning.specs.Effect as effect
+use Rattle.script_meaning.specs.Effect.{AddsAll, resolved, HeldNow}
 use Rattle.script_meaning.specs.Terms.{Holds, AllKept}
 use Rattle.script_meaning.proofs.Adding.{Each}
 use Rattle.script_meaning.proofs.Asserted.{Asserted, asserted-holds}
@@ -40,10 +39,10 @@ module _ (d : ℕ → ℤ) where
     new-kept : Kept-in d (with-days days (with-rule r t)) → Keeps d r
     new-kept all = subst (λ (x : Rule). Keeps d x) (put-new (t .rules) (t .counts .rules) RULES r room few) (all (t .counts .rules) (omega arith))
 
-  rooms : (r : Rule) (t v : Tables) → ColumnsRoom RULES (t .rules) → effect.Holds r t v → ColumnsRoom RULES (v .rules)
+  rooms : (r : Rule) (t v : Tables) → ColumnsRoom RULES (t .rules) → HeldNow r t v → ColumnsRoom RULES (v .rules)
   rooms r t v room h = subst (λ (x : Tables). ColumnsRoom RULES (x .rules)) (sym (h .rule-held)) (put-room (t .rules) (t .counts .rules) RULES r room)
 
-  one-more : (r : Rule) (t v : Tables) → effect.Holds r t v → v .counts .rules ≡ t .counts .rules + 1
+  one-more : (r : Rule) (t v : Tables) → HeldNow r t v → v .counts .rules ≡ t .counts .rules + 1
   one-more r t v h = ap (λ (x : Tables). x .counts .rules) (h .rule-held)
 
   -- All fit: what is held then is kept by exactly the days that kept what was held and keep the new rules.

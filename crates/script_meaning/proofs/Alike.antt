@@ -29,8 +29,8 @@ use Rattle.levels.specs.Levels.{with-marks, without-marks}
 use Rattle.write.specs.Written.{decimal}
 use Rattle.script_meaning.specs.declared.Notes.{Notes}
 use Rattle.script_meaning.specs.Record.{Lent, InForm, Known, name-of, step-of, step-in, seek}
-use Rattle.script_meaning.specs.Effect.{Does, AddsAll, resolved, with-notes, with-tables, with-name, broken-after, broken-left, either-answer, SAT, UNSAT, asked, pair, pairs, values, forgotten, at-level, one-named, logic-set, sat-told}
-use Rattle.script_meaning.specs.Commands.{rule-needs, name-needs, logic-need, command-needs}
+use Rattle.script_meaning.specs.Effect.{Does, AddsAll, resolved, with-notes, with-tables, with-name, broken-after, broken-left, either-answer, SAT, UNSAT, asked, pair, shown-pairs, values, forgotten, at-level, one-named, logic-set, sat-told, day-of}
+use Rattle.script_meaning.specs.Commands.{term-needs, name-needs, logic-need, command-needs}
 use Rattle.script_meaning.specs.Mixed.{on-tables}
 use Rattle.script_meaning.specs.Traces.{with-out}
 use Rattle.script_meaning.proofs.Needed.{EachName}
@@ -83,7 +83,7 @@ needs-by SetLogic s g l m same h = h
 needs-by (Declare a b) s g l m same h =
     subst (λ (S : List ℕ → ℕ). First (logic-need l (needs NAME (S (bytes s a b) < l .notes .names → ⊥) ∷ needs FULL (l .notes .names < STEPS) ∷ [])) g) same h
 needs-by (Assert i) s g l m same h =
-    subst (λ (S : List ℕ → ℕ). First (logic-need l (rule-needs (λ w. S w < l .notes .names) (rules-at s i) (needs FULL (Places i s l) ∷ []))) g) same h
+    subst (λ (S : List ℕ → ℕ). First (logic-need l (term-needs (λ w. S w < l .notes .names) (rules-at s i) (needs FULL (Places i s l) ∷ []))) g) same h
 needs-by (Push n) s g l m same h = h
 needs-by (Pop n) s g l m same h = h
 needs-by CheckSat s g l m same h = h
@@ -316,17 +316,17 @@ module _ (l m : Lent) (a : Alike l m) where
       days-alike (l .tables) (m .tables) (a .tables-alike) (tables-kept f) (tables-kept g) (step-of l w) (omega (arith, known, f .sound .names-in, f .sound .all-steps))
       ∙ ap (λ (S : List ℕ → ℕ). at (m .tables .days) (S w)) (step-alike l m a)
 
-  pairs-alike : Fine l → Fine m → (ws : List (List ℕ)) → EachName (Known l) ws → pairs (step-of l) (l .tables .days) ws ≡ pairs (step-of m) (m .tables .days) ws
+  pairs-alike : Fine l → Fine m → (ws : List (List ℕ)) → EachName (Known l) ws → shown-pairs (day-of (step-of l) (l .tables .days)) ws ≡ shown-pairs (day-of (step-of m) (m .tables .days)) ws
   pairs-alike f g [] each = refl
   pairs-alike f g (w ∷ ws) each =
-      ap (λ (d : ℕ). 32 ∷ ((40 ∷ (w ++ (32 ∷ (decimal d ++ (41 ∷ []))))) ++ pairs (step-of l) (l .tables .days) ws)) (day-alike f g w (each .0))
-      ∙ ap (λ (v : List ℕ). 32 ∷ (pair (step-of m) (m .tables .days) w ++ v)) (pairs-alike f g ws (each .1))
+      ap (λ (d : ℕ). 32 ∷ (pair w d ++ shown-pairs (day-of (step-of l) (l .tables .days)) ws)) (day-alike f g w (each .0))
+      ∙ ap (λ (v : List ℕ). 32 ∷ (pair w (day-of (step-of m) (m .tables .days) w) ++ v)) (pairs-alike f g ws (each .1))
 
   values-alike : Fine l → Fine m → (ws : List (List ℕ)) → EachName (Known l) ws → values (step-of l) (l .tables .days) ws ≡ values (step-of m) (m .tables .days) ws
   values-alike f g [] each = refl
   values-alike f g (w ∷ ws) each =
-      ap (λ (d : ℕ). 40 ∷ ((40 ∷ (w ++ (32 ∷ (decimal d ++ (41 ∷ []))))) ++ pairs (step-of l) (l .tables .days) ws)) (day-alike f g w (each .0))
-      ∙ ap (λ (v : List ℕ). 40 ∷ (pair (step-of m) (m .tables .days) w ++ v)) (pairs-alike f g ws (each .1))
+      ap (λ (d : ℕ). 40 ∷ (pair w d ++ shown-pairs (day-of (step-of l) (l .tables .days)) ws)) (day-alike f g w (each .0))
+      ∙ ap (λ (v : List ℕ). 40 ∷ (pair w (day-of (step-of m) (m .tables .days) w) ++ v)) (pairs-alike f g ws (each .1))
 
   -- **The same command prints the same.**
   pub printed-alike : Fine l → Fine m → (c : Command) (s : List ℕ) → First (command-needs c s l) DONE → printed c s l ≡ printed c s m

@@ -19,7 +19,7 @@ use Rattle.script_meaning.specs.Effect.{Does}
 use Rattle.script_meaning.specs.Commands.{command-needs, command-meaning}
 use Rattle.script_meaning.specs.Traces.{with-out}
 use Rattle.script_meaning.specs.Whole.{error-line, rest, command-at, after-command, exits, Plays, blank, RunsScript}
-use Rattle.script_meaning.specs.ByCalls.{CallsAt, Goes, RunsByCalls}
+use Rattle.script_meaning.specs.ByCalls.{CallsAt, Goes, RunsByCalls, GoesBy}
 use Rattle.script_meaning.proofs.Granted.{granted}
 use Rattle.script_meaning.proofs.Naming.{declared-in-form}
 use Rattle.script_meaning.proofs.Keeping.{Fine, does-fine}
@@ -120,7 +120,7 @@ module _ (s : List ℕ) where
       calls = record { some = some; out = out; room = omega (arith, length-replicate {A = ℕ} ROOM 0); keeps = x .keeps }
 
       by-exit : x .answer .number ≡ DONE → (b : Bool) → exits (form (command-at s i)) ≡ b → Gone i l
-      by-exit done true is = record { number = DONE; bytes = take (x .answer .two) (x .after .out); goes = Goes.exited i l (x .answer) (x .after) calls done is }
+      by-exit done true is = record { number = DONE; bytes = take (x .answer .two) (x .after .out); goes = GoesBy.exited i l (x .answer) (x .after) calls done is }
       by-exit done false is =
           let r = granted (rest s i) (with-out out l) (subst (First (command-meaning (rest s i) (with-out out l) .asks)) done (x .keeps .first-unmet)) in
           let d = x .keeps .when-done done in
@@ -129,24 +129,24 @@ module _ (s : List ℕ) where
             number = y .number;
             bytes = take (x .answer .two) (x .after .out) ++ y .bytes;
             goes =
-                Goes.goes-on i l (x .answer) (x .after) calls done is (y .number) (y .bytes)
+                GoesBy.goes-on i l (x .answer) (x .after) calls done is (y .number) (y .bytes)
                 (subst (λ (n : ℕ). Goes s (token-at s i .from + n) (x .after) (y .number) (y .bytes)) (sym (d .bytes-read)) (y .goes));
           }
 
       by-number : Dec (x .answer .number ≡ DONE) → Gone i l
-      by-number (no refuses) = record { number = x .answer .number; bytes = error-line (x .answer .number); goes = Goes.refused i l (x .answer) (x .after) calls refuses }
+      by-number (no refuses) = record { number = x .answer .number; bytes = error-line (x .answer .number); goes = GoesBy.refused i l (x .answer) (x .after) calls refuses }
       by-number (yes done) = by-exit done (exits (form (command-at s i))) refl
 
   goes-end : (left i : ℕ) (l : Lent) → Fine l → length s ≤ i + left → Gone i l
   goes-end zero i l f enough = tell (ℕ-discrete (token-at s i .kind) END)
     where
       tell : Dec (token-at s i .kind ≡ END) → Gone i l
-      tell (yes over-here) = record { number = DONE; bytes = []; goes = Goes.at-end i l over-here }
+      tell (yes over-here) = record { number = DONE; bytes = []; goes = GoesBy.at-end i l over-here }
       tell (no some) = absurd (text-left i some enough)
   goes-end (suc left) i l f enough = tell (goes-end left) (ℕ-discrete (token-at s i .kind) END)
     where
       tell : ((j : ℕ) (m : Lent) → Fine m → length s ≤ j + left → Gone j m) → Dec (token-at s i .kind ≡ END) → Gone i l
-      tell on (yes over-here) = record { number = DONE; bytes = []; goes = Goes.at-end i l over-here }
+      tell on (yes over-here) = record { number = DONE; bytes = []; goes = GoesBy.at-end i l over-here }
       tell on (no some) = call-at i l f some (λ spans m g. on (after-command s i) m g (moves-on i left some spans enough))
 
 -- **Every script has an outcome**, whatever bytes are lent for its answers.

@@ -12,7 +12,7 @@ use Rattle.form.specs.declared.Command.the-variants.{SetLogic, Declare, Assert,
 use Rattle.atoms.specs.Atoms.{Named, rules-at}
 use Rattle.levels.specs.Levels.{with-marks, Popped}
 use Rattle.script_meaning.specs.Record.{Lent, step-of}
-use Rattle.script_meaning.specs.Effect.{Holds, AddsAll, resolved, Asserts, Does, with-tables}
+use Rattle.script_meaning.specs.Effect.{HeldNow, AddsAll, resolved, Asserts, Does, with-tables}
 use Rattle.script_meaning.specs.Mixed.{on-tables}
 
 -- The tables with other marks and other watched rules.
@@ -20,7 +20,7 @@ abbrev pub beside : (List ℕ → List ℕ) → Columns → Tables → Tables
 beside g w t = record { counts = t .counts; rules = t .rules; days = t .days; marks = g (t .marks); watched = w }
 
 module _ (g : List ℕ → List ℕ) (w : Columns) where
-  pub holds-beside : {r : Rule} {t u : Tables} → Holds r t u → Holds r (beside g w t) (beside g w u)
+  pub holds-beside : {r : Rule} {t u : Tables} → HeldNow r t u → HeldNow r (beside g w t) (beside g w u)
   holds-beside h = record { fits = h .fits; rule-held = ap (beside g w) (h .rule-held); planned = h .planned }
 
   pub adds-beside : (rs : List Rule) (t : Tables) (clash : Bool) (u : Tables) → AddsAll rs t clash u → AddsAll rs (beside g w t) clash (beside g w u)

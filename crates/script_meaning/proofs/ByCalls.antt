@@ -20,7 +20,7 @@ use Rattle.script_meaning.specs.Effect.{Does}
 use Rattle.script_meaning.specs.Commands.{own, command-needs, command-meaning, start-meaning}
 use Rattle.script_meaning.specs.Traces.{with-out}
 use Rattle.script_meaning.specs.Whole.{error-line, rest, command-at, after-command, Plays, Fresh, blank, RunsScript}
-use Rattle.script_meaning.specs.ByCalls.{CallsAt, Goes, RunsByCalls}
+use Rattle.script_meaning.specs.ByCalls.{CallsAt, Goes, RunsByCalls, GoesBy}
 use Rattle.script_meaning.proofs.Granted.{start-granted, granted}
 use Rattle.script_meaning.proofs.Refusing.{never-short, never-damaged, never-conflict}
 use Rattle.script_meaning.proofs.Naming.{declared-in-form}
@@ -97,8 +97,8 @@ module _ (s : List ℕ) where
 
   -- So no call of a caller is SHORT or DAMAGED.
   goes-apart : (i : ℕ) (l : Lent) (g : ℕ) (b : List ℕ) → Goes s i l g b → Fine l → (g ≡ SHORT → ⊥) × (g ≡ DAMAGED → ⊥)
-  goes-apart i l g b (Goes.at-end _ _ over-here) f = ((λ e. omega (arith, e)), (λ e. omega (arith, e)))
-  goes-apart i l g b (Goes.refused _ _ a m c refuses) f =
+  goes-apart i l g b (GoesBy.at-end _ _ over-here) f = ((λ e. omega (arith, e)), (λ e. omega (arith, e)))
+  goes-apart i l g b (GoesBy.refused _ _ a m c refuses) f =
       tell (judged (rest s i) (with-out (c .out) l) (other-fine (c .out) l f) (c .room) (a .number) (c .keeps .first-unmet))
     where
       tell : Judged (rest s i) (with-out (c .out) l) (other-fine (c .out) l f) (c .room) (a .number) → (a .number ≡ SHORT → ⊥) × (a .number ≡ DAMAGED → ⊥)
@@ -107,8 +107,8 @@ module _ (s : List ℕ) where
         never-short (form (command-at s i)) (command-at s i) (with-out (c .out) l) (a .number) unmet,
         never-damaged (form (command-at s i)) (command-at s i) (with-out (c .out) l) (a .number) unmet,
       )
-  goes-apart i l g b (Goes.exited _ _ a m c done exit) f = ((λ e. omega (arith, e)), (λ e. omega (arith, e)))
-  goes-apart i l g b (Goes.goes-on _ _ a m c done stays _ d on) f = goes-apart _ m g d on (call-fine i l a m c done f)
+  goes-apart i l g b (GoesBy.exited _ _ a m c done exit) f = ((λ e. omega (arith, e)), (λ e. omega (arith, e)))
+  goes-apart i l g b (GoesBy.goes-on _ _ a m c done stays _ d on) f = goes-apart _ m g d on (call-fine i l a m c done f)
 
   -- A command call that is carried out, beside a play of the script that has come to the same place.
   record Follows (i : ℕ) (l : Lent) (a : Given) (m p : Lent) (k : ℕ) : Type 0 where
@@ -147,10 +147,10 @@ module _ (s : List ℕ) where
   pub goes-plays :
       (i : ℕ) (l : Lent) (g : ℕ) (b : List ℕ) → Goes s i l g b → (p : Lent) (k : ℕ) → Alike l p → Fine l → Fine p → k + length b + ROOM ≤ length (p .out) →
       Plays s i p k g (k + length b) (over (p .out) k b)
-  goes-plays i l g b (Goes.at-end _ _ over-here) p k alike f h room =
+  goes-plays i l g b (GoesBy.at-end _ _ over-here) p k alike f h room =
       subst (λ (x : List ℕ). Plays s i p k DONE (k + 0) x) (sym (over-none (p .out) k))
       (subst (λ (x : ℕ). Plays s i p k DONE x (p .out)) (omega arith) (Plays.at-end i p k over-here))
-  goes-plays i l g b (Goes.refused _ _ a m c refuses) p k alike f h room =
+  goes-plays i l g b (GoesBy.refused _ _ a m c refuses) p k alike f h room =
       tell (judged (rest s i) (with-out (c .out) l) (other-fine (c .out) l f) (c .room) (a .number) (c .keeps .first-unmet))
     where
       tell :
@@ -161,11 +161,11 @@ module _ (s : List ℕ) where
       tell (inr (spans, unmet)) =
           Plays.refused i p k (a .number) (c .some) (omega (arith, room)) spans
           (needs-alike (form (command-at s i)) (command-at s i) (a .number) (with-out (c .out) l) p (bytes-alike l p alike (c .out) (p .out)) unmet) refuses
-  goes-plays i l g b (Goes.exited _ _ a m c done exit) p k alike f h room =
+  goes-plays i l g b (GoesBy.exited _ _ a m c done exit) p k alike f h room =
       let x = follows i l a m c done p k alike f h in
       subst (λ (n : ℕ). Plays s i p k DONE (k + n) (over (p .out) k (take (a .two) (m .out)))) (x .both .as-many)
       (subst (Plays s i p k DONE (k + x .w)) (x .both .there) (Plays.exited i p (x .q) k (x .w) (c .some) (omega (arith, room)) (x .spans) (x .met) (x .does) exit))
-  goes-plays i l g b (Goes.goes-on _ _ a m c done stays _ b₁ on) p k alike f h room =
+  goes-plays i l g b (GoesBy.goes-on _ _ a m c done stays _ b₁ on) p k alike f h room =
       let x = follows i l a m c done p k alike f h in
       let b₀ = take (a .two) (m .out) in
       let many : k + x .w + length b₁ ≡ k + length (b₀ ++ b₁) = omega (arith, length-append b₀ b₁, x .both .as-many) in
@@ -202,7 +202,7 @@ module _ (s : List ℕ) where
       First (command-meaning (rest s i) (with-out lent-bytes l) .asks) g → Called i l k g (k + length (error-line g)) before (over before k (error-line g))
   refused-called i l k g before f some refuses clear first = record {
     bytes = error-line g;
-    goes = Goes.refused i l (bare g) lent (record { some = some; out = lent-bytes; room = enough; keeps = obeys-refused (command-meaning (rest s i) lent) lent g refuses clear first }) refuses;
+    goes = GoesBy.refused i l (bare g) lent (record { some = some; out = lent-bytes; room = enough; keeps = obeys-refused (command-meaning (rest s i) lent) lent g refuses clear first }) refuses;
     long = refl;
     there = refl;
   }
@@ -242,7 +242,7 @@ module _ (s : List ℕ) where
   pub plays-goes :
       (i : ℕ) (p : Lent) (k g w : ℕ) (out : List ℕ) → Plays s i p k g w out → (g ≡ SHORT → ⊥) → (l : Lent) → Alike l p → Fine l → Fine p → Called i l k g w (p .out) out
   plays-goes i p k g w out (Plays.at-end _ _ _ over-here) other l alike f h =
-      record { bytes = []; goes = Goes.at-end i l over-here; long = omega arith; there = sym (over-none (p .out) k) }
+      record { bytes = []; goes = GoesBy.at-end i l over-here; long = omega arith; there = sym (over-none (p .out) k) }
   plays-goes i p k g w out (Plays.no-room _ _ _ some full) other l alike f h = absurd (other refl)
   plays-goes i p k g w out (Plays.no-command _ _ _ some room none) other l alike f h =
       refused-called i l k SYNTAX (p .out) f some (λ e. omega (arith, e)) (λ e. omega (arith, e))
@@ -256,7 +256,7 @@ module _ (s : List ℕ) where
       let x = calls-too i l p k v q alike f h some spans met does in
       record {
         bytes = take (x .answer .two) (x .after .out);
-        goes = Goes.exited i l (x .answer) (x .after) (x .calls) (x .done) exit;
+        goes = GoesBy.exited i l (x .answer) (x .after) (x .calls) (x .done) exit;
         long = ap (λ (n : ℕ). k + n) (x .both .as-many);
         there = x .both .there;
       }
@@ -267,7 +267,7 @@ module _ (s : List ℕ) where
       record {
         bytes = b₀ ++ y .bytes;
         goes =
-            Goes.goes-on i l (x .answer) (x .after) (x .calls) (x .done) stays g (y .bytes)
+            GoesBy.goes-on i l (x .answer) (x .after) (x .calls) (x .done) stays g (y .bytes)
             (subst (λ (n : ℕ). Goes s (token-at s i .from + n) (x .after) g (y .bytes)) (sym (x .read)) (y .goes));
         long = omega (arith, y .long, length-append b₀ (y .bytes), x .both .as-many);
         there =

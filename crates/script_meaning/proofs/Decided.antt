@@ -21,7 +21,7 @@ use Rattle.atoms.specs.Atoms.{Named, rules-at}
 use Rattle.names.specs.Names.{AllDifferent}
 use Rattle.script_meaning.specs.Record.{Lent, StartRoom, ScriptRoom, InForm, ScriptSound, Known, name-of, step-of}
 use Rattle.script_meaning.specs.Effect.{asked}
-use Rattle.script_meaning.specs.Commands.{rule-needs, name-needs, command-needs}
+use Rattle.script_meaning.specs.Commands.{term-needs, name-needs, command-needs}
 
 -- ---- room
 
@@ -95,7 +95,7 @@ first-told (n ∷ l) (yes met, told) = let rest = first-told l told in (rest .0,
 known? : (l : Lent) (w : List ℕ) → Dec (Known l w)
 known? l w = decLt (step-of l w) (l .notes .names)
 
-rules-told : (l : Lent) (rs : List Named) (rest : List Need) → Told rest → Told (rule-needs (Known l) rs rest)
+rules-told : (l : Lent) (rs : List Named) (rest : List Need) → Told rest → Told (term-needs (Known l) rs rest)
 rules-told l [] rest told = told
 rules-told l (r ∷ rs) rest told = (known? l (r .first), (known? l (r .second), (in-amount? (r .amount), rules-told l rs rest told)))
 

@@ -9,7 +9,8 @@ use lib.Dec.{eqb, leb}
 use lib.IntN.{ℤ, pos, negℤ, _-ℤ_}
 use Rattle.meaning.specs.Bounds.{LARGEST}
 use Rattle.meaning.specs.Rules.{InAmount}
-use Rattle.meaning.proofs.Whole.{up, dn, le→, minus-is, up-neg, dn-neg}
+use Rattle.meaning.specs.Reckoning.{up, dn}
+use Rattle.meaning.proofs.Whole.{le→, minus-is, up-neg, dn-neg}
 use Rattle.text.specs.Lexicon.{OPEN, CAP, cut, number, token-at, same-bytes}
 use Rattle.words.specs.Words.{W-at-most, W-below, W-at-least}
 use Rattle.form.specs.Form.{lexeme}

@@ -19,11 +19,11 @@ use Rattle.atoms.specs.Atoms.{rules-at}
 use Rattle.levels.proofs.Laws.{popped-same}
 use Rattle.script_meaning.specs.declared.Notes.{Notes}
 use Rattle.script_meaning.specs.Record.{Lent, step-of}
-use Rattle.script_meaning.specs.Effect.{Does, Holds, AddsAll, resolved, with-tables, broken-after, broken-left}
+use Rattle.script_meaning.specs.Effect.{Does, HeldNow, AddsAll, resolved, with-tables, broken-after, broken-left}
 use Rattle.script_meaning.specs.Commands.{own, Commanded, Started, command-meaning, start-meaning}
 
 -- A rule that fits leaves one thing only.
-holds-same : (r : Rule) (t u v : Tables) → Holds r t u → Holds r t v → u ≡ v
+holds-same : (r : Rule) (t u v : Tables) → HeldNow r t u → HeldNow r t v → u ≡ v
 holds-same r t u v a b = a .rule-held ∙ ap (λ (days : List ℕ). with-days days (with-rule r t)) days ∙ sym (b .rule-held)
   where
     days : u .days ≡ v .days

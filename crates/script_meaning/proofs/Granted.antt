@@ -14,7 +14,7 @@ use Rattle.form.specs.Form.{form}
 use Rattle.atoms.specs.Atoms.{rules-at}
 use Rattle.script_meaning.specs.Record.{Lent, StartRoom, ScriptRoom, ScriptSound, Known}
 use Rattle.script_meaning.specs.Effect.{asked}
-use Rattle.script_meaning.specs.Commands.{own, command-needs, start-meaning, command-meaning, logic-need, name-needs, rule-needs}
+use Rattle.script_meaning.specs.Commands.{own, command-needs, start-meaning, command-meaning, logic-need, name-needs, term-needs}
 use Rattle.script_meaning.proofs.Needed.{EachRule, EachName, done-first, rules-met, names-met}
 
 after-mode : (l : Lent) (rest : List Need) → First (logic-need l rest) DONE → First rest DONE
@@ -36,7 +36,7 @@ Places i s l = l .notes .broken ≡ 0 → l .tables .counts .rules + length (rul
 
 pub assert-met : (i : ℕ) (s : List ℕ) (l : Lent) → First (command-needs (Assert i) s l) DONE → EachRule (Known l) (rules-at s i) × Places i s l
 assert-met i s l met =
-    let rules = rules-met (Known l) (rules-at s i) (needs FULL (Places i s l) ∷ []) (after-mode l (rule-needs (Known l) (rules-at s i) (needs FULL (Places i s l) ∷ [])) met) in
+    let rules = rules-met (Known l) (rules-at s i) (needs FULL (Places i s l) ∷ []) (after-mode l (term-needs (Known l) (rules-at s i) (needs FULL (Places i s l) ∷ [])) met) in
     (rules .0, last-met FULL (Places i s l) (λ e. omega arith) (rules .1))
 
 pub push-met : (n : ℕ) (s : List ℕ) (l : Lent) → First (command-needs (Push n) s l) DONE → l .tables .counts .marks + n ≤ MARKS

@@ -15,7 +15,7 @@ use Rattle.meaning.proofs.Sequences.{Kept, call-keeps, run-kept}
 use Rattle.form.specs.Form.{form}
 use Rattle.script_meaning.specs.Record.{Lent}
 use Rattle.script_meaning.specs.Commands.{own, command-meaning, start-meaning}
-use Rattle.script_meaning.specs.Mixed.{MixedRun}
+use Rattle.script_meaning.specs.Mixed.{MixedRun, MixedOf}
 use Rattle.script_meaning.proofs.Granted.{start-granted, granted}
 use Rattle.script_meaning.proofs.Naming.{declared-in-form}
 use Rattle.script_meaning.proofs.Keeping.{tables-kept, does-fine}
@@ -46,12 +46,12 @@ refused-kept g l after clear refused done k = tell (ℕ-discrete (g .number) DON
 
 -- After any sequence of calls the tables are sound.
 pub mixed-kept : (l : Lent) → MixedRun l → Kept (l .tables)
-mixed-kept l (MixedRun.from-open n m g t made done) = run-kept t (Run.from-open n (m .tables) g t made done)
-mixed-kept l (MixedRun.from-start m g after x done) = started-kept m g l x done
-mixed-kept l (MixedRun.then-call m run c g t made) = call-keeps c (m .tables) t g made (mixed-kept m run)
-mixed-kept l (MixedRun.then-start m run g after x) =
+mixed-kept l (MixedOf.from-open n m g t made done) = run-kept t (Run.from-open n (m .tables) g t made done)
+mixed-kept l (MixedOf.from-start m g after x done) = started-kept m g l x done
+mixed-kept l (MixedOf.then-call m run c g t made) = call-keeps c (m .tables) t g made (mixed-kept m run)
+mixed-kept l (MixedOf.then-start m run g after x) =
     refused-kept g m l (λ e. x .on-conflict e .0) (x .when-refused) (λ e. started-kept m g l x e) (mixed-kept m run)
-mixed-kept l (MixedRun.then-command m run text g after x) =
+mixed-kept l (MixedOf.then-command m run text g after x) =
     refused-kept g m l (λ e. x .on-conflict e .0) (x .when-refused) (λ e. commanded-kept text m g l x e) (mixed-kept m run)
 
 -- After any sequence, with lists long enough, Consequences is carried out and what it gives is exactly the split.

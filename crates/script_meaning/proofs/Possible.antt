@@ -12,11 +12,11 @@ use Rattle.meaning.specs.Bounds.{STEPS, RULES, DONE, SHORT, CONFLICT}
 use Rattle.meaning.specs.Rules.{Rule, InBounds, Earliest, Refutes}
 use Rattle.meaning.specs.Tables.{Tables}
 use Rattle.meaning.specs.Promise.{First}
-use Rattle.meaning.specs.Calls.{rules-of, held-in, next-in, rules-and, held-and, back-meaning}
+use Rattle.meaning.specs.Calls.{rules-of, held-in, next-in, rules-and, held-and, back-meaning, Asked}
 use Rattle.meaning.proofs.Theory.{ring-excludes}
 use Rattle.meaning.proofs.Needs.{all-met, first-same}
 use Rattle.meaning.proofs.Sequences.{Kept}
-use Rattle.meaning.proofs.Possible.{Allowed, Outcome, allowed-outcome, refusal-met, Asked, plan-fits, plan-or-ring, open-met, add-met, back-possible}
+use Rattle.meaning.proofs.Possible.{Allowed, Outcome, allowed-outcome, refusal-met, plan-fits, plan-or-ring, open-met, add-met, back-possible}
 use Rattle.lent.specs.Promises.{Border}
 use Rattle.span.specs.Span.{span}
 use Rattle.form.specs.declared.Command.{Command}
@@ -26,7 +26,7 @@ use Rattle.atoms.specs.Atoms.{rules-at}
 use Rattle.levels.specs.Levels.{Popped, fewer-marks}
 use Rattle.levels.proofs.Laws.{popped-none, fewer-border}
 use Rattle.script_meaning.specs.Record.{Lent, StartRoom, ScriptRoom, ScriptSound, step-of, no-notes}
-use Rattle.script_meaning.specs.Effect.{Does, Holds, AddsAll, resolved}
+use Rattle.script_meaning.specs.Effect.{Does, HeldNow, AddsAll, resolved}
 use Rattle.script_meaning.specs.Commands.{own, command-needs, command-meaning, start-meaning}
 use Rattle.script_meaning.proofs.Granted.{assert-met, pop-met, granted}
 use Rattle.script_meaning.proofs.Refusing.{never-conflict}
@@ -54,7 +54,7 @@ adds-some (r ∷ l) t k (here, there) room = tell (adds-some l) (plan-or-ring r 
         let a = add-met r t (replicate STEPS 0) asked (omega (arith, length-replicate {A = ℕ} STEPS 0)) p earliest in
         let x = a .keeps .when-done (a .number-is) in
         let v : Tables = a .after .tables in
-        let h : Holds r t v = record { fits = plan-fits r t asked p earliest; rule-held = x .rule-held; planned = x .planned } in
+        let h : HeldNow r t v = record { fits = plan-fits r t asked p earliest; rule-held = x .rule-held; planned = x .planned } in
         let steps : v .counts .steps ≡ t .counts .steps = ap (λ (z : Tables). z .counts .steps) (x .rule-held) in
         let rules : v .counts .rules ≡ t .counts .rules + 1 = ap (λ (z : Tables). z .counts .rules) (x .rule-held) in
         let more = rest v (holds-kept r t v k here (omega (arith, room)) h) (subst (λ (n : ℕ). Each (InBounds n) l) (sym steps) there) (omega (arith, room, rules)) in

@@ -9,7 +9,7 @@ use mathlib.Core.Logic.{inl, inr}
 use lib.Dec.{eqb}
 use lib.ListN.{length, length-append}
 use borrow.Author.Tests.{le-ltb}
-use Rattle.meaning.specs.Bounds.{LARGEST, ROOM, DONE}
+use Rattle.meaning.specs.Bounds.{LARGEST, ROOM, DONE, STEPS}
 use Rattle.meaning.specs.Tables.{at}
 use Rattle.meaning.specs.Calls.{rules-of, held-in}
 use Rattle.meaning.specs.Promise.{First}
@@ -21,15 +21,15 @@ use Rattle.atoms.specs.Atoms.{Named, rules-at}
 use Rattle.write.specs.Written.{over, decimal}
 use Rattle.write.proofs.Laws.{over-none, part-written, part-before}
 use Rattle.script_meaning.specs.Record.{Lent, Known, step-of}
-use Rattle.script_meaning.specs.Effect.{Does, Asserts, either-answer, SAT, UNSAT, UNSUPPORTED, asked, pairs, values}
+use Rattle.script_meaning.specs.Effect.{Does, Asserts, either-answer, SAT, UNSAT, UNSUPPORTED, asked, pair, shown-pairs, shown, day-of, values}
 use Rattle.script_meaning.specs.Commands.{command-needs}
-use Rattle.script_meaning.specs.Told.{shown-pair, shown-pairs, shown, part}
+use Rattle.script_meaning.specs.Told.{part}
 use Rattle.script_meaning.proofs.Seeking.{known-short}
 use Rattle.script_meaning.proofs.Needed.{EachName, names-met}
 use Rattle.script_meaning.proofs.Granted.{value-met}
 use Rattle.script_meaning.proofs.Keeping.{Fine, shelved-of}
 use Rattle.script_meaning.proofs.Naming.{asked-few}
-use Rattle.script_meaning.proofs.Lengths.{pair-short}
+use Rattle.script_meaning.proofs.Lengths.{shown-short}
 use Rattle.script_meaning.proofs.Planning.{plan-of, plan-known}
 
 -- The bytes that the command c of text s prints.
@@ -75,17 +75,17 @@ does-printed Syntax s k n l m does = absurd does
 does-printed Oversize s k n l m does = absurd does
 
 -- The values of declared names are their days in the plan.
-pairs-shown : (l : Lent) (ws : List (List ℕ)) → EachName (Known l) ws → pairs (step-of l) (l .tables .days) ws ≡ shown-pairs (plan-of l) ws
+pairs-shown : (l : Lent) (ws : List (List ℕ)) → EachName (Known l) ws → shown-pairs (day-of (step-of l) (l .tables .days)) ws ≡ shown-pairs (plan-of l) ws
 pairs-shown l [] each = refl
 pairs-shown l (w ∷ ws) each =
-    ap (λ (d : ℕ). 32 ∷ ((40 ∷ (w ++ (32 ∷ (decimal d ++ (41 ∷ []))))) ++ pairs (step-of l) (l .tables .days) ws)) (sym (plan-known l w (each .0)))
-    ∙ ap (λ (v : List ℕ). 32 ∷ (shown-pair (plan-of l) w ++ v)) (pairs-shown l ws (each .1))
+    ap (λ (d : ℕ). 32 ∷ (pair w d ++ shown-pairs (day-of (step-of l) (l .tables .days)) ws)) (sym (plan-known l w (each .0)))
+    ∙ ap (λ (v : List ℕ). 32 ∷ (pair w (plan-of l w) ++ v)) (pairs-shown l ws (each .1))
 
 pub values-shown : (l : Lent) (ws : List (List ℕ)) → EachName (Known l) ws → values (step-of l) (l .tables .days) ws ≡ shown (plan-of l) ws
 values-shown l [] each = refl
 values-shown l (w ∷ ws) each =
-    ap (λ (d : ℕ). 40 ∷ ((40 ∷ (w ++ (32 ∷ (decimal d ++ (41 ∷ []))))) ++ pairs (step-of l) (l .tables .days) ws)) (sym (plan-known l w (each .0)))
-    ∙ ap (λ (v : List ℕ). 40 ∷ (shown-pair (plan-of l) w ++ v)) (pairs-shown l ws (each .1))
+    ap (λ (d : ℕ). 40 ∷ (pair w d ++ shown-pairs (day-of (step-of l) (l .tables .days)) ws)) (sym (plan-known l w (each .0)))
+    ∙ ap (λ (v : List ℕ). 40 ∷ (pair w (plan-of l w) ++ v)) (pairs-shown l ws (each .1))
 
 -- A day of the plan fits 32 bits, so the values of at most ASKED names have room.
 plan-small : (l : Lent) → Fine l → (w : List ℕ) → plan-of l w < 4294967296
@@ -99,24 +99,15 @@ plan-small l f w = tell (decLt (step-of l w) (l .notes .names))
         (step-of l w) (omega (arith, known, f .sound .names-in, f .sound .all-steps)) in
         small (l .tables .counts .steps) (at (l .tables .days) (step-of l w)) (plan-of l w) (f .sound .all-steps) day (plan-known l w known)
       where
-        small : (n d p : ℕ) → n ≡ 256 → d ≤ (n - 1) * LARGEST → p ≡ d → p < 4294967296
+        small : (n d p : ℕ) → n ≡ STEPS → d ≤ (n - 1) * LARGEST → p ≡ d → p < 4294967296
         small n d p steps day is =
-            let bound : d ≤ (256 - 1) * LARGEST = subst (λ (x : ℕ). d ≤ (x - 1) * LARGEST) steps day in
+            let bound : d ≤ (STEPS - 1) * LARGEST = subst (λ (x : ℕ). d ≤ (x - 1) * LARGEST) steps day in
             omega arith
     tell (no unknown) = rw (le-ltb (step-of l w) (l .notes .names) (omega arith)) (omega arith)
 
 module _ (l : Lent) (f : Fine l) where
-  pair-room : (w : List ℕ) → Known l w → length (shown-pair (plan-of l) w) ≤ 45
-  pair-room w known = pair-short w (plan-of l w) (known-short (l .names) (l .lens) w (l .notes .names) (shelved-of f) known) (plan-small l f w)
-
-  -- A pair has at most 45 bytes, and one more with the space before it.
-  pairs-room : (ws : List (List ℕ)) → EachName (Known l) ws → length (shown-pairs (plan-of l) ws) ≤ 46 * length ws + 2
-  pairs-room [] each = omega arith
-  pairs-room (w ∷ ws) each = omega (arith, length-append (shown-pair (plan-of l) w) (shown-pairs (plan-of l) ws), pair-room w (each .0), pairs-room ws (each .1))
-
   shown-room : (ws : List (List ℕ)) → EachName (Known l) ws → length (shown (plan-of l) ws) ≤ 46 * length ws + 3
-  shown-room [] each = omega arith
-  shown-room (w ∷ ws) each = omega (arith, length-append (shown-pair (plan-of l) w) (shown-pairs (plan-of l) ws), pair-room w (each .0), pairs-room ws (each .1))
+  shown-room = shown-short (plan-of l) (Known l) (λ w known. known-short (l .names) (l .lens) w (l .notes .names) (shelved-of f) known) (plan-small l f)
 
   answer-room : (b : Bool) → length (either-answer b SAT UNSAT) ≤ ROOM
   answer-room true = omega arith

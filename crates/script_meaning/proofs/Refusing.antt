@@ -11,7 +11,7 @@ use Rattle.form.specs.declared.Command.the-variants.{SetLogic, Declare, Assert,
 use Rattle.atoms.specs.Atoms.{Named, rules-at}
 use Rattle.script_meaning.specs.Record.{Lent, Known}
 use Rattle.script_meaning.specs.Effect.{asked}
-use Rattle.script_meaning.specs.Commands.{rule-needs, name-needs, command-needs}
+use Rattle.script_meaning.specs.Commands.{term-needs, name-needs, command-needs}
 
 -- The number is none of the three.
 record Other (g : ℕ) : Type 0 where
@@ -46,7 +46,7 @@ last k P here = one-more k P [] here none
 of-full : (P : Type 0) → Never (needs FULL P ∷ [])
 of-full P = last FULL P (record { not-short = λ e. omega (arith, e); not-damaged = λ e. omega (arith, e); not-conflict = λ e. omega (arith, e) })
 
-of-rules : (K : List ℕ → Type 0) (rs : List Named) (l : List Need) → Never l → Never (rule-needs K rs l)
+of-rules : (K : List ℕ → Type 0) (rs : List Named) (l : List Need) → Never l → Never (term-needs K rs l)
 of-rules K [] l rest = rest
 of-rules K (r ∷ rs) l rest =
     of-name _ _ (of-name _ _ (one-more AMOUNT _ _ (record { not-short = λ e. omega (arith, e); not-damaged = λ e. omega (arith, e); not-conflict = λ e. omega (arith, e) }) (of-rules K rs l rest)))

@@ -8,7 +8,8 @@ use mathlib.Core.List.{List, [], _∷_, _++_}
 use mathlib.Core.Logic.{_↔_}
 use lib.IntN.{ℤ, pos, negℤ, _-ℤ_}
 use lib.Signed.{_≤ℤ_, _<ℤ_}
-use Rattle.meaning.proofs.Whole.{up, dn, le→, →le, lt→, →lt, minus-is, up-neg, dn-neg}
+use Rattle.meaning.specs.Reckoning.{up, dn}
+use Rattle.meaning.proofs.Whole.{le→, →le, lt→, →lt, minus-is, up-neg, dn-neg}
 use Rattle.text.specs.Lexicon.{same-bytes}
 use Rattle.words.specs.Words.{W-at-most, W-below, W-at-least}
 use Rattle.atoms.specs.Atoms.{Named, named, negated, either-rule, said}

@@ -21,17 +21,19 @@ pub record CallsAt (s : List ℕ) (i : ℕ) (l : Lent) (answer : Given) (after :
   pub room : ROOM ≤ length out
   pub keeps : Obeys (command-meaning (rest s i) (with-out out l)) (with-out out l) answer after
 
--- With l lent, the caller goes through the script s from place i on, prints the bytes b from there on and ends with the number g. At the end of the text he
--- stops, else he makes a command call. On a refusal he prints its number and stops. Else he prints the bytes written; after `exit` he stops, after another command he
--- goes on past the bytes read.
-pub data Goes (s : List ℕ) : ℕ → Lent → (g : ℕ) → (b : List ℕ) → Type 0 where
-  at-end : (i : ℕ) (l : Lent) → token-at s i .kind ≡ END → Goes s i l DONE []
-  refused : (i : ℕ) (l : Lent) (a : Given) (m : Lent) → CallsAt s i l a m → (a .number ≡ DONE → ⊥) → Goes s i l (a .number) (error-line (a .number))
-  exited :
-      (i : ℕ) (l : Lent) (a : Given) (m : Lent) → CallsAt s i l a m → a .number ≡ DONE → exits (form (command-at s i)) ≡ true → Goes s i l DONE (take (a .two) (m .out))
+-- With l lent, which is of kind S and has its bytes for answers in `out`, the caller goes through the script s from place i on, prints the bytes b from there on and ends with the number g.
+-- At the end of the text he stops, else he makes a command call: Calls says what it may give and leave. On a refusal he prints its number and stops. Else he prints the bytes written; after
+-- `exit` he stops, after another command he goes on past the bytes read.
+pub data GoesBy {S : Type 0} (out : S → List ℕ) (Calls : ℕ → S → Given → S → Type 0) (s : List ℕ) : ℕ → S → (g : ℕ) → (b : List ℕ) → Type 0 where
+  at-end : (i : ℕ) (l : S) → token-at s i .kind ≡ END → GoesBy out Calls s i l DONE []
+  refused : (i : ℕ) (l : S) (a : Given) (m : S) → Calls i l a m → (a .number ≡ DONE → ⊥) → GoesBy out Calls s i l (a .number) (error-line (a .number))
+  exited : (i : ℕ) (l : S) (a : Given) (m : S) → Calls i l a m → a .number ≡ DONE → exits (form (command-at s i)) ≡ true → GoesBy out Calls s i l DONE (take (a .two) (out m))
   goes-on :
-      (i : ℕ) (l : Lent) (a : Given) (m : Lent) → CallsAt s i l a m → a .number ≡ DONE → exits (form (command-at s i)) ≡ false →
-      (g : ℕ) (b : List ℕ) → Goes s (token-at s i .from + a .one) m g b → Goes s i l g (take (a .two) (m .out) ++ b)
+      (i : ℕ) (l : S) (a : Given) (m : S) → Calls i l a m → a .number ≡ DONE → exits (form (command-at s i)) ≡ false →
+      (g : ℕ) (b : List ℕ) → GoesBy out Calls s (token-at s i .from + a .one) m g b → GoesBy out Calls s i l g (take (a .two) (out m) ++ b)
+
+abbrev pub Goes : List ℕ → ℕ → Lent → (g : ℕ) → (b : List ℕ) → Type 0
+Goes s = GoesBy (λ l. l .out) (CallsAt s) s
 
 -- **The whole script by calls**: the caller lends l, whatever stands in it, to a start that is carried out, goes through the script from its beginning on, prints
 -- the bytes b in all and ends with the number g.

@@ -19,9 +19,9 @@ use Rattle.script_meaning.specs.Record.{Lent, StartRoom, ScriptRoom, Scr
 use Rattle.script_meaning.specs.Effect.{asked, Does}
 
 -- The leftmost of NAME and AMOUNT over the rules of a term, in an atom NAME first. K says which names are declared.
-abbrev pub rule-needs : (List ℕ → Type 0) → List Named → List Need → List Need
-rule-needs K [] rest = rest
-rule-needs K (r ∷ rs) rest = needs NAME (K (r .first)) ∷ needs NAME (K (r .second)) ∷ needs AMOUNT (InAmount (r .amount)) ∷ rule-needs K rs rest
+abbrev pub term-needs : (List ℕ → Type 0) → List Named → List Need → List Need
+term-needs K [] rest = rest
+term-needs K (r ∷ rs) rest = needs NAME (K (r .first)) ∷ needs NAME (K (r .second)) ∷ needs AMOUNT (InAmount (r .amount)) ∷ term-needs K rs rest
 
 -- Every name is declared.
 abbrev pub name-needs : (List ℕ → Type 0) → List (List ℕ) → List Need
@@ -38,7 +38,7 @@ abbrev pub command-needs : Command → List ℕ → Lent → List Need
 command-needs SetLogic s l = needs MODE (l .notes .logic ≡ false) ∷ []
 command-needs (Declare a b) s l = logic-need l (needs NAME (Known l (bytes s a b) → ⊥) ∷ needs FULL (l .notes .names < STEPS) ∷ [])
 command-needs (Assert i) s l =
-    logic-need l (rule-needs (Known l) (rules-at s i) (needs FULL (l .notes .broken ≡ 0 → l .tables .counts .rules + length (rules-at s i) ≤ RULES) ∷ []))
+    logic-need l (term-needs (Known l) (rules-at s i) (needs FULL (l .notes .broken ≡ 0 → l .tables .counts .rules + length (rules-at s i) ≤ RULES) ∷ []))
 command-needs (Push n) s l = logic-need l (needs FULL (l .tables .counts .marks + n ≤ MARKS) ∷ [])
 command-needs (Pop n) s l = logic-need l (needs NOMARK (n ≤ l .tables .counts .marks) ∷ [])
 command-needs CheckSat s l = logic-need l []

@@ -26,7 +26,7 @@ abbrev pub resolved : (List ℕ → ℕ) → Named → Rule
 resolved S r = record { first = S (r .first); second = S (r .second); amount = r .amount }
 
 -- The rule fits and is held now, and the days are the earliest plan.
-pub record Holds (r : Rule) (t u : Tables) : Type 0 where
+pub record HeldNow (r : Rule) (t u : Tables) : Type 0 where
   pub fits : Fits (rules-of t) (held-in t) r
   pub rule-held : u ≡ with-days (u .days) (with-rule r t)
   pub planned : Planned (t .counts .steps) (rules-and r t) (held-and t) (t .days) (u .days)
@@ -35,15 +35,15 @@ pub record Holds (r : Rule) (t u : Tables) : Type 0 where
 abbrev pub AddsAll : List Rule → Tables → Bool → Tables → Type 0
 AddsAll [] t clash u = (u ≡ t) × (clash ≡ false)
 AddsAll (r ∷ l) t clash u =
-    ((Fits (rules-of t) (held-in t) r → ⊥) × ((u ≡ t) × (clash ≡ true))) ⊎ ((v : Tables) × (Holds r t v × AddsAll l v clash u))
+    ((Fits (rules-of t) (held-in t) r → ⊥) × ((u ≡ t) × (clash ≡ true))) ⊎ ((v : Tables) × (HeldNow r t v × AddsAll l v clash u))
 
--- The record after a command that forgets a remembered `sat`: with nothing else changed, with b for the contradictory level, counted from 1, with one name more, with
+-- The record after a command that forgets a remembered `sat`: with b for the contradictory level, counted from 1, with nothing else changed, with one name more, with
 -- the logic set.
-abbrev pub forgotten : Notes → Notes
-forgotten n = record { names = n .names; logic = n .logic; broken = n .broken; sat = false }
-
 abbrev pub at-level : ℕ → Notes → Notes
 at-level b n = record { names = n .names; logic = n .logic; broken = b; sat = false }
+
+abbrev pub forgotten : Notes → Notes
+forgotten n = at-level (n .broken) n
 
 abbrev pub one-named : Notes → Notes
 one-named n = record { names = n .names + 1; logic = n .logic; broken = n .broken; sat = false }
@@ -102,19 +102,27 @@ asked-from (suc f) s i = either-names (eqb (token-at s i .kind) SYMBOL) (lexeme 
 abbrev pub asked : List ℕ → ℕ → List (List ℕ)
 asked s i = asked-from (suc (length s)) s i
 
--- The pair of a name and its day: (name day). S gives the step of each name.
-abbrev pub pair : (List ℕ → ℕ) → List ℕ → List ℕ → List ℕ
-pair S days w = 40 ∷ (w ++ (32 ∷ (decimal (at days (S w)) ++ (41 ∷ []))))
+-- The name w with its day: (name day).
+abbrev pub pair : List ℕ → ℕ → List ℕ
+pair w day = 40 ∷ (w ++ (32 ∷ (decimal day ++ (41 ∷ []))))
 
--- Further pairs, each after a space; then the closing bracket and a line feed.
-abbrev pub pairs : (List ℕ → ℕ) → List ℕ → List (List ℕ) → List ℕ
-pairs S days [] = 41 ∷ 10 ∷ []
-pairs S days (w ∷ ws) = 32 ∷ (pair S days w ++ pairs S days ws)
+-- Further pairs, each after a space, with the days p of the names; then the closing bracket and a line feed.
+abbrev pub shown-pairs : (List ℕ → ℕ) → List (List ℕ) → List ℕ
+shown-pairs p [] = 41 ∷ 10 ∷ []
+shown-pairs p (w ∷ ws) = 32 ∷ (pair w (p w) ++ shown-pairs p ws)
 
--- What get-value prints: ((name day) (name day) ..).
+-- The days p of the names, as get-value prints them: ((name day) (name day) ..).
+abbrev pub shown : (List ℕ → ℕ) → List (List ℕ) → List ℕ
+shown p [] = 40 ∷ 41 ∷ 10 ∷ []
+shown p (w ∷ ws) = 40 ∷ (pair w (p w) ++ shown-pairs p ws)
+
+-- The day of a name, where S gives its step.
+abbrev pub day-of : (List ℕ → ℕ) → List ℕ → List ℕ → ℕ
+day-of S days w = at days (S w)
+
+-- What get-value prints, where S gives the step of each name.
 abbrev pub values : (List ℕ → ℕ) → List ℕ → List (List ℕ) → List ℕ
-values S days [] = 40 ∷ 41 ∷ 10 ∷ []
-values S days (w ∷ ws) = 40 ∷ (pair S days w ++ pairs S days ws)
+values S days = shown (day-of S days)
 
 -- sat, unsat, unsupported, each with a line feed.
 abbrev pub SAT : List ℕ

@@ -1,10 +1,20 @@
--- What the contracts of the script calls cite.
+-- What scripts mean. Before these files read those of the readers, each in its crate's specs/: text Lexicon (white space, comments, tokens), words Words, span Span, form Form (the form of commands
+-- and terms), atoms Atoms (the rules of a term). Then, in this order:
+-- what is lent to a script call, and when it is sound;
 pub mod Record
+-- what each command does to it, and prints;
 pub mod Effect
+-- what each needs, in order: the promises of the two library calls, start and command;
 pub mod Commands
-pub mod Terms
+-- a whole script, command by command;
 pub mod Whole
+-- sequences in which script calls and the others are mixed;
 pub mod Mixed
+-- the standard's meaning of a term;
+pub mod Terms
+-- what is asserted after a sequence of commands, when it is satisfiable, its earliest plan;
 pub mod Traces
+-- a whole script by start and command calls;
 pub mod ByCalls
+-- what the answers say.
 pub mod Told

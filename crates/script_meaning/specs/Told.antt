@@ -1,30 +1,16 @@
 -- What the answers of a script say, from the text of its commands alone.
 use Prim.Native.Nat.{ℕ, _+_}
 use mathlib.Core.Path.{_≡_}
-use mathlib.Core.List.{List, [], _∷_, _++_}
+use mathlib.Core.List.{List}
 use mathlib.Core.Logic.{_↔_}
 use lib.ListN.{take, drop}
 use Rattle.form.specs.declared.Command.{Command}
 use Rattle.form.specs.declared.Command.the-variants.{SetLogic, Declare, Assert, Push, Pop, CheckSat, GetValue, Exit, Unsupported, Syntax, Oversize}
 use Rattle.form.specs.Form.{form}
-use Rattle.write.specs.Written.{decimal}
 use Rattle.script_meaning.specs.Record.{Lent}
-use Rattle.script_meaning.specs.Effect.{asked, SAT, UNSAT, UNSUPPORTED}
+use Rattle.script_meaning.specs.Effect.{asked, shown, SAT, UNSAT, UNSUPPORTED}
 use Rattle.script_meaning.specs.Traces.{History, Follows, Satisfiable, Soonest}
 use Rattle.script_meaning.specs.Whole.{Plays, command-at, after-command}
-
--- The pair of a name and its day under p; further pairs, each after a space, with the closing bracket and a line feed.
-abbrev pub shown-pair : (List ℕ → ℕ) → List ℕ → List ℕ
-shown-pair p w = 40 ∷ (w ++ (32 ∷ (decimal (p w) ++ (41 ∷ []))))
-
-abbrev pub shown-pairs : (List ℕ → ℕ) → List (List ℕ) → List ℕ
-shown-pairs p [] = 41 ∷ 10 ∷ []
-shown-pairs p (w ∷ ws) = 32 ∷ (shown-pair p w ++ shown-pairs p ws)
-
--- The days p of the names, as get-value prints them: ((name day) (name day) ..).
-abbrev pub shown : (List ℕ → ℕ) → List (List ℕ) → List ℕ
-shown p [] = 40 ∷ 41 ∷ 10 ∷ []
-shown p (w ∷ ws) = 40 ∷ (shown-pair p w ++ shown-pairs p ws)
 
 -- The n bytes from place k on.
 abbrev pub part : ℕ → ℕ → List ℕ → List ℕ

@@ -1,6 +1,6 @@
 // The types that every script call's contract shares. What they mean stands in specs/.
 ghost use mathlib.Core.Path.{_≡_};
-ghost use Prim.Native.Nat.{_<_};
+ghost use Prim.Native.Nat.{_≤_};
 ghost use Rattle.meaning.specs.Bounds.{STEPS};
 ghost use Rattle.script_meaning.specs.Record.{no-notes};
 ghost use Rattle.script_meaning.specs.Effect.{forgotten, at-level, one-named, logic-set, sat-told};
@@ -51,7 +51,7 @@ pub fn at_level(notes: Notes, broken: u32) -> Notes
 
 // The same, with one name more.
 pub fn one_named(notes: Notes) -> Notes
-    requires { ⌜ notes .names < STEPS ⌝ }
+    requires { ⌜ notes .names ≤ STEPS ⌝ }
     ensures { λ r. ⌜ r ≡ one-named notes ⌝ }
 {
     Notes {

@@ -14,7 +14,7 @@ use Rattle.atoms.specs.Atoms.{rules-at}
 use Rattle.levels.specs.Levels.{with-marks, Popped}
 use Rattle.script_meaning.specs.Record.{KnownIn}
 use Rattle.script_meaning.specs.Effect.{AddsAll, resolved}
-use Rattle.script_meaning.specs.Commands.{rule-needs}
+use Rattle.script_meaning.specs.Commands.{term-needs}
 
 -- Where the term begins whose rules a command adds, on a text of n bytes: at its end where there is none, or while a level counts as contradictory.
 abbrev pub term-place : Command → ℕ → ℕ → ℕ
@@ -62,7 +62,7 @@ pops Oversize = 0
 pub record Movable (c : Command) (broken : ℕ) (s : List ℕ) (n : ℕ) (names lens : List ℕ) (counts : Counts) : Type 0 where
   pub term-in : term-place c broken (length s) ≤ length s
   pub names-known : n ≤ counts .steps
-  pub rules-fine : First (rule-needs (KnownIn n names lens) (rules-at s (term-place c broken (length s))) []) DONE
+  pub rules-fine : First (term-needs (KnownIn n names lens) (rules-at s (term-place c broken (length s))) []) DONE
   pub places : counts .rules + length (rules-at s (term-place c broken (length s))) ≤ RULES
   pub marks-fit : counts .marks + pushes c ≤ MARKS
   pub marks-there : pops c ≤ counts .marks

@@ -8,7 +8,7 @@ ghost use Rattle.meaning.specs.Tables.{rule-at};
 ghost use Rattle.lent.specs.Lent.{columns};
 ghost use Rattle.lent.specs.Idle.{unwatched};
 ghost use Rattle.lent.specs.Promises.{Border};
-ghost use Rattle.inner_add.specs.Lending.{LentChains};
+ghost use Rattle.chains.specs.Chains.{LentChains};
 ghost use Rattle.text.specs.Table.{TABLE};
 ghost use Rattle.names.specs.Names.{Shelved, Indexed, AllDifferent};
 ghost use Rattle.levels.specs.Levels.{KeptDays};

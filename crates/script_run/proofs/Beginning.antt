@@ -12,7 +12,7 @@ use Rattle.text.proofs.Tokens.{token-placed}
 use Rattle.span.specs.Span.{span}
 use Rattle.span.proofs.Laws.{span-within}
 use Rattle.script_meaning.specs.Whole.{rest}
-use Rattle.script_run.specs.Stepping.{Ready}
+use Rattle.script_run.specs.Stepping.{CommandThere}
 
 module _ (s : List ℕ) (i : ℕ) where
   pub span-at :
@@ -27,7 +27,7 @@ module _ (s : List ℕ) (i : ℕ) where
 
   pub begun :
       (len k : ℕ) (t : Tok) (n : ℕ) → t ≡ token-at s i → (t .kind ≡ END → ⊥) → n ≡ span (take (length s - t .from) (drop (t .from) s)) → (n ≡ 0 → ⊥) → k + ROOM ≤ len →
-      Ready s i len k (t .from) (t .from + n)
+      CommandThere s i len k (t .from) (t .from + n)
   begun len k t n is some size more room =
       let law = span-at t n is some size in
       let from-is : t .from ≡ token-at s i .from = ap (λ (u : Tok). u .from) is in

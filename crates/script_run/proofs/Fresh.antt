@@ -1,17 +1,16 @@
 -- Fresh tables are sound: no rule, mark or name is there that could be out of bounds, every chain is empty, and every day is 0.
 use Prim.Native.Nat.{ℕ, _*_, _≤_, _<_}
 use native.Mathlib.Omega.{arith}
-use mathlib.Core.Path.{_≡_, refl, sym, subst}
-use mathlib.Core.Bool.{false}
+use mathlib.Core.Path.{_≡_, refl, sym, _∙_, ap, subst}
 use mathlib.Core.List.{List}
 use lib.ListN.{length, replicate, length-replicate, getD-replicate}
 use Rattle.meaning.specs.Bounds.{STEPS, RULES, MARKS, NAME-BYTES}
-use Rattle.meaning.specs.Tables.{at}
+use Rattle.meaning.specs.Tables.{at, steps-alone}
 use Rattle.chains.specs.Chains.{Empty}
 use Rattle.chains.proofs.Laws.{chained-none}
 use Rattle.names.specs.Names.{BUCKETS, IndexRoom}
 use Rattle.lent.specs.Idle.{idle}
-use Rattle.script_meaning.specs.Record.{Lent, StartRoom}
+use Rattle.script_meaning.specs.Record.{Lent, StartRoom, no-notes}
 use Rattle.script_meaning.specs.Whole.{blank}
 use Rattle.script_meaning.proofs.Playing.{blank-fresh}
 use lib.IntN.{ℤ, pos}
@@ -21,10 +20,10 @@ use Rattle.script_command.specs.Carrying.{in-hand, Maintained}
 
 -- The counts and the record at the start.
 abbrev pub first-counts : Counts
-first-counts = record { steps = STEPS; rules = 0; marks = 0; watched = 0 }
+first-counts = steps-alone STEPS
 
 abbrev pub first-notes : Notes
-first-notes = record { names = 0; logic = false; broken = 0; sat = false }
+first-notes = no-notes
 
 pub fresh-maintained :
     (xs ys : List ℕ) (cs : List ℤ) (days marks names lens out heads nexts kept hashes name-heads name-nexts : List ℕ) →
@@ -65,22 +64,35 @@ zeros n = replicate {A = ℕ} n 0
 long : (n : ℕ) → n ≤ length (zeros n)
 long n = omega (arith, length-replicate {A = ℕ} n 0)
 
-none-set : (v : ℕ) → v < 256 → at (zeros 256) v ≡ 0
-none-set v h = getD-replicate {A = ℕ} 256 v 0 0 h
+none-set : (n v : ℕ) → v < n → at (zeros n) v ≡ 0
+none-set n v h = getD-replicate {A = ℕ} n v 0 0 h
 
--- What a script's own tables are, in hand.
+-- What a script's own tables are, in hand, with these counts and this record.
+abbrev pub hand : Counts → Notes → List ℕ → Lent
+hand c n out = in-hand c (zeros RULES) (zeros RULES) (replicate RULES (pos 0)) (zeros STEPS) (zeros MARKS) n (zeros (NAME-BYTES * STEPS)) (zeros STEPS) out
+
 abbrev pub first-hand : List ℕ → Lent
-first-hand out =
-    in-hand first-counts (zeros RULES) (zeros RULES) (replicate RULES (pos 0)) (zeros STEPS) (zeros MARKS) first-notes (zeros (NAME-BYTES * STEPS)) (zeros STEPS) out
+first-hand out = hand first-counts first-notes out
 
 pub first-is : (out : List ℕ) → first-hand out ≡ blank out
 unfolding idle
 first-is out = refl
 
 -- Tables of zeros are sound, with the links and the index of the names that are lent beside them, and any table for kept days: no mark is open.
-pub fresh-tables : (out : List ℕ) {kept : List ℕ} → Maintained (first-hand out) (zeros 256) (zeros 4096) kept (zeros 256) (zeros 256) (zeros 256)
+pub fresh-tables : (out : List ℕ) {kept : List ℕ} → Maintained (first-hand out) (zeros STEPS) (zeros RULES) kept (zeros STEPS) (zeros BUCKETS) (zeros STEPS)
 fresh-tables out {kept} =
-    fresh-maintained (zeros RULES) (zeros RULES) (replicate RULES (pos 0)) (zeros STEPS) (zeros MARKS) (zeros (NAME-BYTES * STEPS)) (zeros STEPS) out (zeros 256) (zeros 4096) kept
-    (zeros 256) (zeros 256) (zeros 256)
-    (subst StartRoom (sym (first-is out)) (blank-fresh out .room)) (blank-fresh out .day-0) none-set (long 256) (long 4096)
-    (record { hashes-room = long 256; heads-room = long 256; nexts-room = long 256 }) none-set
+    fresh-maintained (zeros RULES) (zeros RULES) (replicate RULES (pos 0)) (zeros STEPS) (zeros MARKS) (zeros (NAME-BYTES * STEPS)) (zeros STEPS) out (zeros STEPS) (zeros RULES) kept
+    (zeros STEPS) (zeros BUCKETS) (zeros STEPS)
+    (subst StartRoom (sym (first-is out)) (blank-fresh out .room)) (blank-fresh out .day-0) (none-set STEPS) (long STEPS) (long RULES)
+    (record { hashes-room = long STEPS; heads-room = long BUCKETS; nexts-room = long STEPS }) (none-set BUCKETS)
+
+-- So they are with counts and a record that are the first ones.
+module _ {c : Counts} {n : Notes} (counts-are : c ≡ first-counts) (notes-are : n ≡ first-notes) (out : List ℕ) where
+  hand-first : hand c n out ≡ first-hand out
+  hand-first = ap (λ (d : Counts). hand d n out) counts-are ∙ ap (λ (m : Notes). hand first-counts m out) notes-are
+
+  pub hand-is : hand c n out ≡ blank out
+  hand-is = hand-first ∙ first-is out
+
+  pub hand-fresh : {kept : List ℕ} → Maintained (hand c n out) (zeros STEPS) (zeros RULES) kept (zeros STEPS) (zeros BUCKETS) (zeros STEPS)
+  hand-fresh {kept} = subst (λ (l : Lent). Maintained l (zeros STEPS) (zeros RULES) kept (zeros STEPS) (zeros BUCKETS) (zeros STEPS)) (sym hand-first) (fresh-tables out)

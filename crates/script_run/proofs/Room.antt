@@ -13,7 +13,7 @@ use Rattle.form.specs.declared.Command.{Command}
 use Rattle.form.specs.declared.Command.the-variants.{SetLogic, Declare, Assert, Push, Pop, CheckSat, GetValue, Exit, Unsupported, Syntax, Oversize}
 use Rattle.form.specs.Form.{form}
 use Rattle.script_meaning.specs.Record.{Lent, Known, step-of}
-use Rattle.script_meaning.specs.Effect.{Does, either-answer, SAT, UNSAT, asked, values}
+use Rattle.script_meaning.specs.Effect.{Does, either-answer, SAT, UNSAT, asked, values, day-of}
 use Rattle.script_meaning.specs.Commands.{command-needs}
 use Rattle.script_meaning.specs.Whole.{error-line}
 use Rattle.write.specs.Written.{decimal}
@@ -23,7 +23,7 @@ use Rattle.script_meaning.proofs.Granted.{value-met}
 use Rattle.script_meaning.proofs.Needed.{names-met}
 use Rattle.script_meaning.proofs.Seeking.{known-short}
 use Rattle.script_meaning.proofs.Naming.{asked-few}
-use Rattle.script_meaning.proofs.Lengths.{values-short}
+use Rattle.script_meaning.proofs.Lengths.{shown-short}
 
 answer-short : (b : Bool) → length (either-answer b SAT UNSAT) ≤ ROOM
 answer-short true = omega arith
@@ -40,7 +40,7 @@ module _ (s : List ℕ) (k : ℕ) (l l′ : Lent) (w : ℕ) (fine : Fine l) (sma
   by-command (GetValue i) is met does =
       let short : (n : List ℕ) → Known l n → length n ≤ NAME-BYTES = λ n known. known-short (l .names) (l .lens) n (l .notes .names) (shelved-of fine) known in
       let each = names-met (Known l) (asked s i) (value-met i s l met) in
-      omega (arith, does .0, values-short (step-of l) (l .tables .days) (Known l) short small (asked s i) each, asked-few s i is)
+      omega (arith, does .0, shown-short (day-of (step-of l) (l .tables .days)) (Known l) short (λ w. small (step-of l w)) (asked s i) each, asked-few s i is)
   by-command Exit is met does = omega (arith, does .0)
   by-command Unsupported is met does = omega (arith, does .0)
   by-command Syntax is met does = absurd does

@@ -21,7 +21,7 @@ use Rattle.script_meaning.specs.Traces.{with-out}
 use Rattle.script_command.specs.declared.Carried.{Carried}
 use Rattle.script_command.specs.Carrying.{Carries, Maintained}
 use Rattle.script_run.specs.Reaching.{Reaches}
-use Rattle.script_run.specs.Stepping.{Ready, Halts, Halted, Settled, GoesOn, Waits, Steps}
+use Rattle.script_run.specs.Stepping.{CommandThere, Halts, Halted, Settled, GoesOn, Waits, Steps}
 use Rattle.script_run.proofs.Room.{written-short, error-short}
 use Rattle.script_meaning.proofs.Refusing.{never-short}
 
@@ -47,7 +47,7 @@ maintained-out l o heads nexts kept hashes name-heads name-nexts m = record {
 }
 
 -- The text of the command is the part that is lent to it.
-pub part-is : (s : List ℕ) (i n k from end d : ℕ) → Ready s i n k from end → from + d ≡ end → take d (drop from s) ≡ command-at s i
+pub part-is : (s : List ℕ) (i n k from end d : ℕ) → CommandThere s i n k from end → from + d ≡ end → take d (drop from s) ≡ command-at s i
 part-is s i n k from end d r e =
     let long : d ≡ span (rest s i) = omega (arith, e, r .end-is, r .from-is) in
     ap (λ (m : ℕ). take m (drop from s)) long ∙ ap (λ (m : ℕ). take (span (rest s i)) (drop m s)) (r .from-is)
@@ -96,7 +96,7 @@ module _ (s : List ℕ) (i : ℕ) (l : Lent) (k : ℕ) where
     written-in = halted-in g out′ e h x;
   }
 
-  module _ (from end : ℕ) (ready : Ready s i (length (l .out)) k from end) (r : Carried) (l₁ : Lent) (carries : Carries (command-at s i) k l r l₁) where
+  module _ (from end : ℕ) (ready : CommandThere s i (length (l .out)) k from end) (r : Carried) (l₁ : Lent) (carries : Carries (command-at s i) k l r l₁) where
     pub carried-short : Fine l → ((v : ℕ) → at (l .tables .days) v < 4294967296) → r .written ≤ ROOM
     carried-short fine small = tell (ℕ-discrete (r .number) DONE)
       where

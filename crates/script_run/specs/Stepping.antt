@@ -14,7 +14,7 @@ use Rattle.script_run.specs.declared.Begun.{Begun}
 use Rattle.script_run.specs.Reaching.{Reaches}
 
 -- A command begins at place `from`, after place i, and ends before place `end`; n bytes are lent, and k of them written.
-pub record Ready (s : List ℕ) (i n k from end : ℕ) : Type 0 where
+pub record CommandThere (s : List ℕ) (i n k from end : ℕ) : Type 0 where
   pub not-over : token-at s i .kind ≡ END → ⊥
   pub room : k + ROOM ≤ n
   pub from-is : from ≡ token-at s i .from
@@ -30,7 +30,7 @@ pub data Halts (s : List ℕ) (i n k : ℕ) : ℕ → Type 0 where
   none-there : (token-at s i .kind ≡ END → ⊥) → k + ROOM ≤ n → span (rest s i) ≡ 0 → Halts s i n k SYNTAX
 
 pub record Begins (s : List ℕ) (i n k : ℕ) (b : Begun) : Type 0 where
-  pub when-ready : b .ready ≡ true → Ready s i n k (b .from) (b .end)
+  pub when-ready : b .ready ≡ true → CommandThere s i n k (b .from) (b .end)
   pub when-not : b .ready ≡ false → Halts s i n k (b .number)
 
 -- SYNTAX was printed from place k on, any other number not; e is the place past what is written.

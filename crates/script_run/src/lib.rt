@@ -290,6 +290,8 @@ pub fn advance(
 fn play_fresh(s: &[u8], out: &mut [u8]) -> Ran
     ensures { λ r. ⌜ PlaysFresh (now (s .entry)) (now (out .entry)) (r .number) (r .written) (now (out .exit)) ⌝ }
 {
+    let counts = meaning::steps_alone(script_meaning::STEPS);
+    let notes = script_meaning::no_notes();
     let tab = text::TABLE;
     let mut xs = [0u16; meaning::RULES];
     let mut ys = [0u16; meaning::RULES];
@@ -308,18 +310,8 @@ fn play_fresh(s: &[u8], out: &mut [u8]) -> Ran
         s,
         &tab,
         0,
-        Counts {
-            steps: script_meaning::STEPS,
-            rules: 0,
-            marks: 0,
-            watched: 0,
-        },
-        Notes {
-            names: 0,
-            logic: false,
-            broken: 0,
-            sat: false,
-        },
+        counts,
+        notes,
         &mut xs,
         &mut ys,
         &mut cs,

@@ -9,7 +9,7 @@ use Rattle.names.specs.Names.{Declared}
 use Rattle.form.specs.declared.Command.{Command}
 use Rattle.form.specs.declared.Command.the-variants.{SetLogic, Declare, Assert, Push, Pop, CheckSat, GetValue, Exit, Unsupported, Syntax, Oversize}
 use Rattle.script_meaning.specs.declared.Notes.{Notes}
-use Rattle.script_meaning.specs.Effect.{either-answer, SAT, UNSAT, UNSUPPORTED, asked, values, forgotten}
+use Rattle.script_meaning.specs.Effect.{either-answer, SAT, UNSAT, UNSUPPORTED, asked, values, forgotten, at-level, one-named, logic-set, sat-told}
 
 -- What a command prints, where S gives the step of each name.
 abbrev pub printed : Command → ℕ → (List ℕ → ℕ) → List ℕ → List ℕ → List ℕ
@@ -25,17 +25,14 @@ printed Unsupported broken S days s = UNSUPPORTED
 printed Syntax broken S days s = []
 printed Oversize broken S days s = []
 
-abbrev pub with-level : Notes → ℕ → Notes
-with-level n b = record { names = n .names; logic = n .logic; broken = b; sat = false }
-
 -- The record after a command; clash says whether a rule did not fit, k how many marks are open after it.
 abbrev pub noted : Command → Notes → Bool → ℕ → Notes
-noted SetLogic n clash k = record { names = n .names; logic = true; broken = n .broken; sat = false }
-noted (Declare a b) n clash k = record { names = n .names + 1; logic = n .logic; broken = n .broken; sat = false }
-noted (Assert i) n clash k = with-level n (cond clash (k + 1) (n .broken))
+noted SetLogic n clash k = logic-set n
+noted (Declare a b) n clash k = one-named n
+noted (Assert i) n clash k = at-level (cond clash (k + 1) (n .broken)) n
 noted (Push j) n clash k = forgotten n
-noted (Pop j) n clash k = with-level n (cond (ltb (k + 1) (n .broken)) 0 (n .broken))
-noted CheckSat n clash k = record { names = n .names; logic = n .logic; broken = n .broken; sat = eqb (n .broken) 0 }
+noted (Pop j) n clash k = at-level (cond (ltb (k + 1) (n .broken)) 0 (n .broken)) n
+noted CheckSat n clash k = sat-told n
 noted (GetValue i) n clash k = n
 noted Exit n clash k = forgotten n
 noted Unsupported n clash k = n

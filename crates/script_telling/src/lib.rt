@@ -23,69 +23,24 @@ pub fn notes_after(c: Command, notes: Notes, clash: bool, marks: u32) -> Notes
     ensures { λ r. ⌜ r ≡ noted c notes clash marks ⌝ }
 {
     match c {
-        Command::SetLogic => Notes {
-            names: notes.names,
-            logic: true,
-            broken: notes.broken,
-            sat: false,
-        },
-        Command::Declare(_, _) => Notes {
-            names: notes.names + 1,
-            logic: notes.logic,
-            broken: notes.broken,
-            sat: false,
-        },
+        Command::SetLogic => script_meaning::logic_set(notes),
+        Command::Declare(_, _) => script_meaning::one_named(notes),
         Command::Assert(_) => {
             if clash {
-                return Notes {
-                    names: notes.names,
-                    logic: notes.logic,
-                    broken: marks + 1,
-                    sat: false,
-                };
+                return script_meaning::at_level(notes, marks + 1);
             }
-            Notes {
-                names: notes.names,
-                logic: notes.logic,
-                broken: notes.broken,
-                sat: false,
-            }
+            script_meaning::forgotten(notes)
         }
-        Command::Push(_) => Notes {
-            names: notes.names,
-            logic: notes.logic,
-            broken: notes.broken,
-            sat: false,
-        },
+        Command::Push(_) => script_meaning::forgotten(notes),
         Command::Pop(_) => {
             if marks + 1 < notes.broken {
-                return Notes {
-                    names: notes.names,
-                    logic: notes.logic,
-                    broken: 0,
-                    sat: false,
-                };
+                return script_meaning::at_level(notes, 0);
             }
-            Notes {
-                names: notes.names,
-                logic: notes.logic,
-                broken: notes.broken,
-                sat: false,
-            }
+            script_meaning::forgotten(notes)
         }
-        Command::CheckSat => Notes {
-            names: notes.names,
-            logic: notes.logic,
-            broken: notes.broken,
-            sat: notes.broken == 0,
-        },
+        Command::CheckSat => script_meaning::sat_told(notes),
         Command::GetValue(_) => notes,
-        Command::Exit => Notes {
-            names: notes.names,
-            logic: notes.logic,
-            broken: notes.broken,
-            sat: false,
-        },
+        Command::Exit => script_meaning::forgotten(notes),
         Command::Unsupported => notes,
         Command::Syntax => notes,
         Command::Oversize => notes,

@@ -12,7 +12,7 @@ use Rattle.chains.specs.Chains.{Chained}
 use Rattle.sound.specs.Parts.{AllIn, MarksIn, ChainsRoom, Testable, Tested}
 use Rattle.lent.specs.Lent.{first}
 use Rattle.chains.specs.Chains.{number}
-use Rattle.sound.specs.Ground.{Ready}
+use Rattle.sound.specs.Ground.{Groundable}
 
 -- Columns with room for k rules have room for fewer.
 pub room-for-fewer : (j k : ℕ) (c : Columns) → j ≤ k → ColumnsRoom k c → ColumnsRoom j c
@@ -53,7 +53,7 @@ module _ (t : Tables) (counts : InCounts (t .counts)) where
       -- With the rules held in bounds, and on chains, the days can be tested.
       pub ready :
           Testable t heads nexts →
-          Ready (t .counts .steps) (first (t .counts .rules)) number (t .rules .firsts) (t .rules .seconds) (t .rules .amounts) (t .days) heads nexts
+          Groundable (t .counts .steps) (first (t .counts .rules)) number (t .rules .firsts) (t .rules .seconds) (t .rules .amounts) (t .days) heads nexts
       ready able = record {
         steps-few = counts .steps-in;
         placed = λ i h. record {

@@ -4,7 +4,8 @@ use native.Mathlib.Omega.{arith}
 use native.Mathlib.Decide.{ℕ-discrete}
 use mathlib.Core.Path.{_≡_, sym, _∙_, ap, subst}
 use mathlib.Core.Bool.{Bool, true, false, cond}
-use Rattle.meaning.proofs.Counting.{count, count-none, count-suc}
+use Rattle.meaning.specs.Reckoning.{count}
+use Rattle.meaning.proofs.Counting.{count-none, count-suc}
 
 -- What a number adds to the count.
 abbrev adds : Bool → ℕ

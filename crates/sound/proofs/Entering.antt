@@ -13,7 +13,8 @@ use borrow.Author.Count.{below-more}
 use borrow.Author.Tests.{lt-ltb, le-ltb, ltb-true}
 use Rattle.meaning.specs.Bounds.{STEPS}
 use Rattle.meaning.specs.Tables.{at}
-use Rattle.meaning.proofs.Counting.{count, count-at-most, count-no-less, count-more}
+use Rattle.meaning.specs.Reckoning.{count}
+use Rattle.meaning.proofs.Counting.{count-at-most, count-no-less, count-more}
 use Rattle.sound.specs.Ground.{entered, Worklist, Enterable, Stays, Comes, Grown, ListsRoom, Seeded}
 use Rattle.sound.proofs.Counted.{count-nothing, count-one-more}
 

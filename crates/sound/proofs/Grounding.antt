@@ -17,7 +17,7 @@ use Rattle.lent.specs.Decides.{Decides}
 use Rattle.lent.specs.Lent.{columns, KeptAt, Dated, Spare}
 use Rattle.chains.specs.Chains.{ChainsOf}
 use Rattle.chains.proofs.Walk.{Link, Met, link-head, met-head, link-next, met-next}
-use Rattle.sound.specs.Ground.{entered, Grown, Seeded, Ready, Underway, Followed, StepFollowed}
+use Rattle.sound.specs.Ground.{entered, Grown, Seeded, Groundable, Underway, Followed, StepFollowed}
 use Rattle.sound.proofs.Counted.{count-everything}
 use Rattle.sound.proofs.Entering.{Entered, no-fewer, was-entered}
 
@@ -43,7 +43,7 @@ pub record Grounding (n : ℕ) (H : ℕ → Type 0) (xs ys : List ℕ) (cs : Lis
 
 module _ (n : ℕ) (H : ℕ → Type 0) (xs ys : List ℕ) (cs : List ℤ) (days : List ℕ) where
   -- Every held rule can be read, and its steps have days.
-  pub dated : (rank : ℕ → ℕ) (heads nexts : List ℕ) → Ready n H rank xs ys cs days heads nexts → (i : ℕ) → H i → Dated xs ys cs days i
+  pub dated : (rank : ℕ → ℕ) (heads nexts : List ℕ) → Groundable n H rank xs ys cs days heads nexts → (i : ℕ) → H i → Dated xs ys cs days i
   dated rank heads nexts ready i h = record {
     placed = ready .placed i h;
     first-day = omega (arith, ready .rules-in i h .first-in, ready .days-room);

@@ -10,7 +10,7 @@ use lib.IntN.{ℤ}
 use Rattle.meaning.specs.Bounds.{STEPS}
 use Rattle.meaning.specs.Rules.{InSteps, Plan, Tight, Grounded}
 use Rattle.meaning.specs.Tables.{rule-at, at}
-use Rattle.meaning.proofs.Counting.{count}
+use Rattle.meaning.specs.Reckoning.{count}
 use Rattle.lent.specs.Lent.{columns, KeptAt, Placed}
 use Rattle.chains.specs.Chains.{ChainsOf}
 
@@ -63,7 +63,7 @@ pub record Seeded (n : ℕ) (days : List ℕ) (v k : ℕ) (places work : List �
   pub every-day-0 : (u : ℕ) → u < v → at days u ≡ 0 → 1 ≤ at places u
 
 -- What the grounding reads: the rules held, over steps that have days, and their chains. H says which numbers are held.
-pub record Ready (n : ℕ) (H : ℕ → Type 0) (rank : ℕ → ℕ) (xs ys : List ℕ) (cs : List ℤ) (days heads nexts : List ℕ) : Type 0 where
+pub record Groundable (n : ℕ) (H : ℕ → Type 0) (rank : ℕ → ℕ) (xs ys : List ℕ) (cs : List ℤ) (days heads nexts : List ℕ) : Type 0 where
   pub steps-few : n ≤ STEPS
   pub placed : (i : ℕ) → H i → Placed xs ys cs i
   pub next-place : (i : ℕ) → H i → i < length nexts

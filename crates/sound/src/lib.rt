@@ -12,7 +12,7 @@ ghost use Rattle.lent.specs.Decides.{Decides};
 ghost use Rattle.lent.specs.Lent.{columns, tables, first};
 ghost use Rattle.chains.specs.Chains.{number};
 ghost use Rattle.sound.specs.Parts.{AllIn, MarksIn, ChainsRoom, RulesTested, Testable, Tested};
-ghost use Rattle.sound.specs.Ground.{Worklist, Enterable, Stays, Comes, ListsRoom, Seeded, Ready, Underway, AfterStep};
+ghost use Rattle.sound.specs.Ground.{Worklist, Enterable, Stays, Comes, ListsRoom, Seeded, Groundable, Underway, AfterStep};
 use meaning::Counts;
 
 // Whether each of three columns has at least k places.
@@ -176,7 +176,7 @@ fn follow(
     places: &mut [u16],
     work: &mut [u16],
 ) -> Walked
-    requires { ⌜ Ready n (first m) number (now xs) (now ys) (now cs) (now days) (now heads) (now nexts) ⌝ }
+    requires { ⌜ Groundable n (first m) number (now xs) (now ys) (now cs) (now days) (now heads) (now nexts) ⌝ }
     requires { ⌜ ListsRoom n (now places) (now work) ⌝ }
     requires { ⌜ Underway n (first m) (now xs) (now ys) (now cs) (now days) entered (now places) (now work) ⌝ }
     requires { ⌜ (a < n) × (1 ≤ at (now places) a) ⌝ }
@@ -214,7 +214,7 @@ fn is_earliest(
     heads: &[u16],
     nexts: &[u16],
 ) -> bool
-    requires { ⌜ Ready n (first m) number (now xs) (now ys) (now cs) (now days) (now heads) (now nexts) ⌝ }
+    requires { ⌜ Groundable n (first m) number (now xs) (now ys) (now cs) (now days) (now heads) (now nexts) ⌝ }
     ensures { λ r. ⌜ Decides r (Earliest n (rule-at (columns (now (xs .entry)) (now (ys .entry)) (now (cs .entry)))) (first m) (at (now (days .entry)))) ⌝ }
 {
     let mut places = [0u16; meaning::STEPS];

@@ -11,7 +11,8 @@ use lib.Dec.{eqb}
 use lib.ListN.{length, set}
 use borrow.Author.Tests.{ne-eqb}
 use Rattle.meaning.specs.Tables.{at}
-use Rattle.meaning.proofs.Counting.{count, count-none, count-suc, count-more, count-at-most}
+use Rattle.meaning.specs.Reckoning.{count}
+use Rattle.meaning.proofs.Counting.{count-none, count-suc, count-more, count-at-most}
 use Rattle.spread.specs.State.{without-gain, StandsIn}
 use Rattle.waiting.specs.Waiting.{Put, New, Entered, Led, LedBut}
 use Rattle.spread.specs.Contracts.{Collected, alone}

@@ -7,7 +7,8 @@ use mathlib.Core.List.{List}
 use lib.IntN.{ℤ}
 use Rattle.meaning.specs.Rules.{Rule, Plan, InSteps}
 use Rattle.meaning.specs.Tables.{at}
-use Rattle.meaning.proofs.Whole.{up, dn, plan→, →plan}
+use Rattle.meaning.specs.Reckoning.{up, dn}
+use Rattle.meaning.proofs.Whole.{plan→, →plan}
 use Rattle.waiting.specs.Waiting.{Put}
 use Rattle.spread.specs.Trace.{CameBy, Traced}
 use Rattle.spread.specs.State.{Ready, BetweenTurns}

@@ -8,8 +8,10 @@ use lib.Dec.{eqb}
 use borrow.Author.Tests.{eq-eqb, ne-eqb, eqb-true}
 use Rattle.meaning.specs.Rules.{Rule, Plan, InSteps, plus}
 use Rattle.meaning.proofs.More.{plus-other}
-use Rattle.meaning.proofs.Whole.{up, dn, plan→}
+use Rattle.meaning.specs.Reckoning.{up, dn}
+use Rattle.meaning.proofs.Whole.{plan→}
 use Rattle.meaning.proofs.Counting.{count-no-less, count-more}
+use Rattle.lent.specs.Lent.{BIAS}
 use Rattle.spread.specs.Least.{ForcedFrom}
 use Rattle.spread.specs.Trace.{CameBy}
 use Rattle.spread.specs.State.{without-gain, Listed, StandsIn, Ready, Spreading}
@@ -33,7 +35,7 @@ OldOrNew k v y had j = (j < k) ⊎ ((j ≡ k) × (v ≡ y) × (had ≡ 0))
 
 module _
     (n : ℕ) (R : ℕ → Rule) (H : ℕ → Type 0) (d : ℕ → ℕ) (i : ℕ) (g by list : ℕ → ℕ) (k : ℕ) (g′ by′ list′ : ℕ → ℕ) (k′ reach : ℕ)
-    (steps : (j : ℕ) → H j → InSteps n (R j)) (plan : Plan R H d) (held : H i) (far : reach ≡ d (R i .first) + g (R i .first) + 2147483648)
+    (steps : (j : ℕ) → H j → InSteps n (R j)) (plan : Plan R H d) (held : H i) (far : reach ≡ d (R i .first) + g (R i .first) + BIAS)
     (r : Raise d (R i .second) (R i .amount) i reach g by list k g′ by′ list′ k′) where
   -- The second step's gain rises.
   rises : g (R i .second) < g′ (R i .second)

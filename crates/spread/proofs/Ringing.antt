@@ -8,7 +8,8 @@ use lib.ListN.{length}
 use lib.IntN.{ℤ, pos}
 use Rattle.meaning.specs.Rules.{Rule, Leads, All, Different, total, Refutes, more}
 use Rattle.meaning.specs.Tables.{at}
-use Rattle.meaning.proofs.Whole.{up, dn, add-is, →lt, plan→}
+use Rattle.meaning.specs.Reckoning.{up, dn}
+use Rattle.meaning.proofs.Whole.{add-is, →lt, plan→}
 use Rattle.meaning.proofs.More.{more-new, more-old}
 use Rattle.spread.specs.Ground.{rules}
 use Rattle.spread.specs.Trace.{CameBy}

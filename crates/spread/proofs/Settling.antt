@@ -4,7 +4,7 @@ use native.Mathlib.Omega.{arith}
 use native.Mathlib.Decide.{ℕ-discrete, decLt, decLe}
 use mathlib.Core.Path.{_≡_, sym, _∙_, ap}
 use Rattle.meaning.specs.Rules.{Rule, InSteps}
-use Rattle.meaning.proofs.Whole.{up, dn}
+use Rattle.meaning.specs.Reckoning.{up, dn}
 use Rattle.spread.specs.Trace.{CameBy}
 use Rattle.spread.specs.State.{Listed, StandsIn, None, Every, Spreading}
 use Rattle.waiting.specs.Waiting.{Put}

@@ -6,7 +6,8 @@ use native.Mathlib.Decide.{ℕ-discrete}
 use mathlib.Core.Path.{_≡_, ap}
 use lib.IntN.{ℤ, pos}
 use Rattle.meaning.specs.Rules.{Rule, Keeps, InSteps, Plan, Earliest, Always, Fits, more, plus}
-use Rattle.meaning.proofs.Whole.{up, dn, keeps→, →keeps, plan→, →plan}
+use Rattle.meaning.specs.Reckoning.{up, dn}
+use Rattle.meaning.proofs.Whole.{keeps→, →keeps, plan→, →plan}
 use Rattle.meaning.proofs.More.{more-arrangement, arrangement-new, arrangement-old}
 use Rattle.spread.specs.Least.{ForcedFrom, EarliestFrom}
 

@@ -12,9 +12,10 @@ use lib.Dec.{eqb}
 use borrow.Author.Tests.{eq-eqb}
 use Rattle.meaning.specs.Rules.{Rule, plus}
 use Rattle.meaning.specs.Tables.{at}
-use Rattle.meaning.proofs.Whole.{up, dn}
+use Rattle.meaning.specs.Reckoning.{up, dn}
 use Rattle.meaning.proofs.Counting.{count-more}
 use Rattle.meaning.proofs.More.{plus-other}
+use Rattle.lent.specs.Lent.{BIAS}
 use Rattle.chains.specs.Chains.{top}
 use Rattle.chains.proofs.Walk.{above-next}
 use Rattle.spread.specs.State.{without-gain, Ready, None, Every, Spreading}
@@ -81,11 +82,11 @@ abbrev pub From : (ℕ → ℕ) → ℕ → ℕ → Type 0
 From order link j = top order link ≤ order j
 
 -- The rules of step x from the link on were relaxed, from the state with `gains` to that with `gains′`; `reach` is the day of x with its
--- gain, plus 2147483648.
+-- gain, plus BIAS.
 pub record Walked
     (n : ℕ) (H : ℕ → Type 0) (order : ℕ → ℕ) (xs ys : List ℕ) (cs : List ℤ) (days : List ℕ) (x link reach : ℕ) (gains by list : List ℕ) (k : ℕ)
     (gains′ by′ list′ : List ℕ) (k′ : ℕ) : Type 0 where
-  pub far : reach ≡ at days x + at gains′ x + 2147483648
+  pub far : reach ≡ at days x + at gains′ x + BIAS
   pub ready : Ready n (at gains′) (at list′) k′
   pub no-more : without-gain n (at gains′) + k′ ≤ without-gain n (at gains) + k
   pub past : (v : ℕ) → n ≤ v → at gains′ v ≡ at gains v
@@ -97,7 +98,7 @@ pub record Walked
 -- Before the first rule.
 pub walked-none :
     (n : ℕ) (H : ℕ → Type 0) (order : ℕ → ℕ) (xs ys : List ℕ) (cs : List ℤ) (days heads nexts : List ℕ) (x reach : ℕ) (gains by list : List ℕ) (k : ℕ) →
-    Ground n H order xs ys cs days heads nexts → x < n → reach ≡ at days x + at gains x + 2147483648 → Ready n (at gains) (at list) k →
+    Ground n H order xs ys cs days heads nexts → x < n → reach ≡ at days x + at gains x + BIAS → Ready n (at gains) (at list) k →
     Walked n H order xs ys cs days x (at heads x) reach gains by list k gains by list k
 walked-none n H order xs ys cs days heads nexts x reach gains by list k ground x-in far ready = record {
   far = far;

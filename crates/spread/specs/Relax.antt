@@ -8,7 +8,8 @@ use lib.Dec.{eqb}
 use lib.ListN.{length, getD}
 use lib.IntN.{ℤ, pos}
 use Rattle.meaning.specs.Tables.{at}
-use Rattle.meaning.proofs.Whole.{up, dn}
+use Rattle.meaning.specs.Reckoning.{up, dn}
+use Rattle.lent.specs.Lent.{BIAS}
 use Rattle.waiting.specs.Waiting.{Put}
 
 -- The numbers f with v at place i instead.
@@ -20,18 +21,18 @@ pub record Entered (had y : ℕ) (list : ℕ → ℕ) (k : ℕ) (list′ : ℕ �
   pub new : had ≡ 0 → (k′ ≡ suc k) × Put k y list list′
   pub old : 0 < had → (k′ ≡ k) × ((j : ℕ) → list′ j ≡ list j)
 
--- The rule under i, with second step y and amount c, raised y: its first step, whose day plus 2147483648 is `reach`, asks more of y than
+-- The rule under i, with second step y and amount c, raised y: its first step, whose day plus BIAS is `reach`, asks more of y than
 -- its day was, and just its day now. No other gain changed.
 pub record Raise (d : ℕ → ℕ) (y : ℕ) (c : ℤ) (i reach : ℕ) (g by list : ℕ → ℕ) (k : ℕ) (g′ by′ list′ : ℕ → ℕ) (k′ : ℕ) : Type 0 where
-  pub short : d y + g y + up c + 2147483648 < reach + dn c
-  pub reaches : d y + g′ y + up c + 2147483648 ≡ reach + dn c
+  pub short : d y + g y + up c + BIAS < reach + dn c
+  pub reaches : d y + g′ y + up c + BIAS ≡ reach + dn c
   pub other-gains : (v : ℕ) → (v ≡ y → ⊥) → g′ v ≡ g v
   pub named : Put y (suc i) by by′
   pub entered : Entered (g y) y list k list′ k′
 
 -- The rule asks no more of y than its day is, and nothing changed.
 pub record Kept (d : ℕ → ℕ) (y : ℕ) (c : ℤ) (reach : ℕ) (gains by list : List ℕ) (k : ℕ) (gains′ by′ list′ : List ℕ) (k′ : ℕ) : Type 0 where
-  pub enough : reach + dn c ≤ d y + at gains y + up c + 2147483648
+  pub enough : reach + dn c ≤ d y + at gains y + up c + BIAS
   pub same-gains : gains′ ≡ gains
   pub same-by : by′ ≡ by
   pub same-list : list′ ≡ list
@@ -49,7 +50,7 @@ pub record Relaxable (n : ℕ) (ys : List ℕ) (cs : List ℤ) (days gains by : 
   pub small : at gains (at ys i) < 2 ^ 62
   pub room : at gains (at ys i) ≡ 0 → k < n
 
--- The rule under i was relaxed, where `reach` is the day of its first step plus 2147483648.
+-- The rule under i was relaxed, where `reach` is the day of its first step plus BIAS.
 abbrev pub Relaxed : List ℕ → List ℤ → List ℕ → ℕ → ℕ → List ℕ → List ℕ → List ℕ → ℕ → List ℕ → List ℕ → List ℕ → ℕ → Type 0
 Relaxed ys cs days i reach gains by list k gains′ by′ list′ k′ =
     Kept (at days) (at ys i) (getD cs i (pos 0)) reach gains by list k gains′ by′ list′ k′

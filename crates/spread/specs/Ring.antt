@@ -8,7 +8,7 @@ use Rattle.meaning.specs.Bounds.{RULES}
 use Rattle.meaning.specs.Rules.{Rule, InSteps, Plan, Refutes}
 use Rattle.meaning.specs.Tables.{at}
 use Rattle.meaning.specs.Promise.{Filled}
-use Rattle.meaning.proofs.Whole.{up, dn}
+use Rattle.meaning.specs.Reckoning.{up, dn}
 use Rattle.spread.specs.Ground.{rules}
 use Rattle.spread.specs.Trace.{Traced}
 use Rattle.spread.specs.Contracts.{alone}

@@ -3,8 +3,7 @@ use Prim.Native.Nat.{ℕ, suc, _+_, _^_, _≤_, _<_}
 use mathlib.Core.Path.{_≡_}
 use lib.Dec.{eqb}
 use Rattle.meaning.specs.Rules.{Rule}
-use Rattle.meaning.proofs.Whole.{up, dn}
-use Rattle.meaning.proofs.Counting.{count}
+use Rattle.meaning.specs.Reckoning.{up, dn, count}
 use Rattle.spread.specs.Least.{ForcedFrom}
 use Rattle.spread.specs.Trace.{CameBy}
 

@@ -2,7 +2,7 @@
 use Prim.Native.Nat.{ℕ, suc, _+_, _<_}
 use mathlib.Core.Path.{_≡_}
 use Rattle.meaning.specs.Rules.{Rule}
-use Rattle.meaning.proofs.Whole.{up, dn}
+use Rattle.meaning.specs.Reckoning.{up, dn}
 
 -- The held rule under i gave step v its day: it leads to v from a step of lower rank, and the days p leave it nothing to spare.
 pub record CameBy (R : ℕ → Rule) (H : ℕ → Type 0) (p rank : ℕ → ℕ) (v i : ℕ) : Type 0 where

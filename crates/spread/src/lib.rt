@@ -42,7 +42,7 @@ fn collect(
     k
 }
 
-// Relaxes the rule under i, where `reach` is the day of its first step with its gain, plus 2147483648: where the rule asks more of its second
+// Relaxes the rule under i, where `reach` is the day of its first step with its gain, plus lent::BIAS: where the rule asks more of its second
 // step than that has, its gain is raised to just that and the rule is named for it; and where it had no gain, it is put at the end of the
 // list. Gives back how many steps the list has then.
 fn relax(
@@ -112,7 +112,7 @@ fn relax_all(
         (now (gains .exit)) (now (by .exit)) (now (list .exit)) r ⌝ }
     ensures { λ r. ⌜ Led n (at (now (gains .exit))) (at (now (list .exit))) (at (now (places .exit))) (at (now (leaders .exit))) r ⌝ }
 {
-    let reach = lent::day_at(days, x) + waiting::gain_at(gains, x) + 2147483648;
+    let reach = lent::day_at(days, x) + waiting::gain_at(gains, x) + lent::BIAS;
     let mut count = k;
     let mut link = lent::number_at(heads, x);
     while 0 < link {

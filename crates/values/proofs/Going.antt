@@ -17,26 +17,26 @@ use Rattle.text.proofs.Tokens.{token-placed}
 use Rattle.names.specs.Names.{Shelved, Found, AllDifferent}
 use Rattle.write.specs.Written.{over}
 use Rattle.script_meaning.specs.Record.{step-in, KnownIn}
-use Rattle.script_meaning.specs.Effect.{asked, pair, pairs, values}
+use Rattle.script_meaning.specs.Effect.{asked, pair, shown-pairs, day-of, values}
 use Rattle.script_meaning.specs.Commands.{name-needs}
 use Rattle.script_meaning.proofs.Asking.{asked-token, asked-other}
 use Rattle.script_meaning.proofs.Lengths.{pair-short}
 use Rattle.script_meaning.proofs.Needed.{EachName, names-met}
 use Rattle.script_meaning.proofs.Seeking.{known-short, step-is}
-use Rattle.values.specs.Pair.{gap, paired}
+use Rattle.values.specs.Pair.{gap}
 use Rattle.values.proofs.Wrote.{Wrote, wrote-both, wrote-rest}
 
 -- What is left to write of the names ws, later than the first or from the first on.
 abbrev pub left : (List ℕ → ℕ) → List ℕ → Bool → List (List ℕ) → List ℕ
 left S days later [] = 41 ∷ 10 ∷ []
-left S days later (w ∷ ws) = gap later ++ (pair S days w ++ pairs S days ws)
+left S days later (w ∷ ws) = gap later ++ (pair w (day-of S days w) ++ shown-pairs (day-of S days) ws)
 
 module _ (S : List ℕ → ℕ) (days : List ℕ) where
   all-left : (ws : List (List ℕ)) → values S days ws ≡ 40 ∷ left S days false ws
   all-left [] = refl
   all-left (w ∷ ws) = refl
 
-  later-left : (ws : List (List ℕ)) → pairs S days ws ≡ left S days true ws
+  later-left : (ws : List (List ℕ)) → shown-pairs (day-of S days) ws ≡ left S days true ws
   later-left [] = refl
   later-left (w ∷ ws) = refl
 
@@ -124,27 +124,27 @@ module _ {s : List ℕ} {start n : ℕ} {names lens days m₀ : List ℕ} {e₀ 
       number-in = omega (arith, step, known .0)
 
       module _ (shelved : Shelved n names lens) (day : ℕ) (day-is : day ≡ at days k) (small : at days k < 4294967296) (m′ : List ℕ) (e′ : ℕ) (gap-written : Wrote m e (gap (ltb start i)) m′ e′) (same : length m′ ≡ length m) where
-        longest : e′ + length (paired w day) ≤ e + 46
+        longest : e′ + length (pair w day) ≤ e + 46
         longest =
             omega (arith, gap-written .1, gap-short (ltb start i), pair-short w day (known-short names lens w n shelved (known .0)) (omega (arith, day-is, small)))
 
-        pub room-pair : e′ + length (paired w day) ≤ length m′
+        pub room-pair : e′ + length (pair w day) ≤ length m′
         room-pair = omega (arith, longest, room-here)
 
-        pub going-on : (o : List ℕ) (f : ℕ) → Wrote m′ e′ (paired w day) o f → length o ≡ length m′ → Going s start n names lens days m₀ e₀ o f (t .to)
+        pub going-on : (o : List ℕ) (f : ℕ) → Wrote m′ e′ (pair w day) o f → length o ≡ length m′ → Going s start n names lens days m₀ e₀ o f (t .to)
         going-on o f pair-written same′ = record {
           onward = omega (arith, g .onward, placed .2);
           within = placed .1;
           known = known .1;
           rest =
               rw (lt-ltb start (t .to) (omega (arith, g .onward, placed .2)), ← later-left (step-in n names lens) days (asked s (t .to)))
-              (wrote-rest m′ e′ (paired w day) (pairs (step-in n names lens) days (asked s (t .to))) behind pair-written);
+              (wrote-rest m′ e′ (pair w day) (shown-pairs (day-of (step-in n names lens) days) (asked s (t .to))) behind pair-written);
           long = same′ ∙ same ∙ g .long;
           room = omega (arith, longest, room-here, pair-written .1);
         }
           where
-            all : Finishes s start n names lens days m₀ e₀ m e (gap (ltb start i) ++ (paired w day ++ pairs (step-in n names lens) days (asked s (t .to))))
+            all : Finishes s start n names lens days m₀ e₀ m e (gap (ltb start i) ++ (pair w day ++ shown-pairs (day-of (step-in n names lens) days) (asked s (t .to))))
             all = rw (step, ← day-is) at (subst (λ (ws : List (List ℕ)). Finishes s start n names lens days m₀ e₀ m e (left (step-in n names lens) days (ltb start i) ws)) here (g .rest))
 
-            behind : Finishes s start n names lens days m₀ e₀ m′ e′ (paired w day ++ pairs (step-in n names lens) days (asked s (t .to)))
-            behind = wrote-rest m e (gap (ltb start i)) (paired w day ++ pairs (step-in n names lens) days (asked s (t .to))) all gap-written
+            behind : Finishes s start n names lens days m₀ e₀ m′ e′ (pair w day ++ shown-pairs (day-of (step-in n names lens) days) (asked s (t .to)))
+            behind = wrote-rest m e (gap (ltb start i)) (pair w day ++ shown-pairs (day-of (step-in n names lens) days) (asked s (t .to))) all gap-written

@@ -9,9 +9,9 @@ ghost use Rattle.text.specs.Table.{TABLE};
 ghost use Rattle.names.specs.Names.{Shelved, Indexed, AllDifferent};
 ghost use Rattle.write.specs.Written.{over};
 ghost use Rattle.script_meaning.specs.Record.{KnownIn, step-in};
-ghost use Rattle.script_meaning.specs.Effect.{asked, values};
+ghost use Rattle.script_meaning.specs.Effect.{asked, values, pair};
 ghost use Rattle.script_meaning.specs.Commands.{name-needs};
-ghost use Rattle.values.specs.Pair.{gap, paired};
+ghost use Rattle.values.specs.Pair.{gap};
 
 // Writes a space where it is later than the first pair, and nothing before the first; gives back the place past what was written.
 fn put_gap(out: &mut [u8], to: usize, later: bool) -> usize
@@ -36,9 +36,9 @@ fn day_at(days: &[u32], k: usize) -> u32
 fn put_pair(s: &[u8], a: usize, b: usize, day: u32, out: &mut [u8], to: usize) -> usize
     requires { ⌜ a ≤ b ⌝ }
     requires { ⌜ b ≤ length (now s) ⌝ }
-    requires { ⌜ to + length (paired (bytes (now s) a b) day) ≤ length (now out) ⌝ }
+    requires { ⌜ to + length (pair (bytes (now s) a b) day) ≤ length (now out) ⌝ }
     ensures { λ r. ⌜
-        (now (out .exit) ≡ over (now (out .entry)) to (paired (bytes (now (s .entry)) a b) day)) × (r ≡ to + length (paired (bytes (now (s .entry)) a b) day)) ⌝ }
+        (now (out .exit) ≡ over (now (out .entry)) to (pair (bytes (now (s .entry)) a b) day)) × (r ≡ to + length (pair (bytes (now (s .entry)) a b) day)) ⌝ }
 {
     let e = write::word(out, to, b"(");
     let e = write::word(out, e, &s[a..b]);

@@ -7,13 +7,13 @@ use mathlib.Core.Logic.{_⊎_, inl, inr}
 use mathlib.Core.List.{List}
 use lib.ListN.{length, set}
 use Rattle.meaning.specs.Tables.{at}
-use Rattle.waiting.specs.Waiting.{Put, LargestIn, LargestAt, InGroup, Led, Regrouped, Taken}
+use Rattle.waiting.specs.Waiting.{Put, LargestIn, LargestAt, InGroup, Led, Regrouped, Taken, GROUP}
 use Rattle.waiting.proofs.Places.{put-set, put-here}
 
 -- Step l leads group c among the first k places, where the group has one of them.
 record Heads (g list : ℕ → ℕ) (k c l : ℕ) : Type 0 where
-  leader : 16 * c < k → InGroup list k c l
-  most : (i : ℕ) → i < k → i / 16 ≡ c → g (list i) ≤ g l
+  leader : GROUP * c < k → InGroup list k c l
+  most : (i : ℕ) → i < k → i / GROUP ≡ c → g (list i) ≤ g l
 
 -- So does the same step.
 heads-same : (g list : ℕ → ℕ) (k c l m : ℕ) → l ≡ m → Heads g list k c l → Heads g list k c m
@@ -27,35 +27,35 @@ heads-same g list k c l m e h = record {
 
 -- A leader's place is the one that is known for it.
 pub leader-place :
-    (n : ℕ) (g list places leaders : ℕ → ℕ) (k b : ℕ) → 16 * b < k → Led n g list places leaders k →
-    (places (leaders b) < k) × (places (leaders b) / 16 ≡ b) × (list (places (leaders b)) ≡ leaders b)
+    (n : ℕ) (g list places leaders : ℕ → ℕ) (k b : ℕ) → GROUP * b < k → Led n g list places leaders k →
+    (places (leaders b) < k) × (places (leaders b) / GROUP ≡ b) × (list (places (leaders b)) ≡ leaders b)
 leader-place n g list places leaders k b some led = tell (led .grouped .leader b some)
   where
-    tell : InGroup list k b (leaders b) → (places (leaders b) < k) × (places (leaders b) / 16 ≡ b) × (list (places (leaders b)) ≡ leaders b)
+    tell : InGroup list k b (leaders b) → (places (leaders b) < k) × (places (leaders b) / GROUP ≡ b) × (list (places (leaders b)) ≡ leaders b)
     tell p =
         let known : places (leaders b) ≡ p .place = ap places (sym (p .there)) ∙ led .grouped .placed (p .place) (p .place-in) in
-        (omega (arith, known, p .place-in), ap (λ (i : ℕ). i / 16) known ∙ p .in-group, ap list known ∙ p .there)
+        (omega (arith, known, p .place-in), ap (λ (i : ℕ). i / GROUP) known ∙ p .in-group, ap list known ∙ p .there)
 
 -- A group's first place is before its end.
-pub group-some : (k b : ℕ) → 0 < k → b < (k - 1) / 16 + 1 → 16 * b < k
+pub group-some : (k b : ℕ) → 0 < k → b < (k - 1) / GROUP + 1 → GROUP * b < k
 group-some k b some below = omega arith
 
 module _
     (n : ℕ) (g list list′ places places′ leaders leaders₁ leaders₂ : ℕ → ℕ) (k b : ℕ) (some : 0 < k) (led : Led n g list places leaders k)
-    (top : LargestIn g leaders 0 ((k - 1) / 16 + 1) b) (put : Put (places (leaders b)) (list (k - 1)) list list′)
+    (top : LargestIn g leaders 0 ((k - 1) / GROUP + 1) b) (put : Put (places (leaders b)) (list (k - 1)) list list′)
     (placed : Put (list (k - 1)) (places (leaders b)) places places′) (first : Regrouped g list′ (k - 1) b leaders leaders₁)
     (second :
-    ((leaders ((k - 1) / 16) ≡ list (k - 1)) × Regrouped g list′ (k - 1) ((k - 1) / 16) leaders₁ leaders₂)
-    ⊎ ((leaders ((k - 1) / 16) ≡ list (k - 1) → ⊥) × ((i : ℕ) → leaders₂ i ≡ leaders₁ i))) where
+    ((leaders ((k - 1) / GROUP) ≡ list (k - 1)) × Regrouped g list′ (k - 1) ((k - 1) / GROUP) leaders₁ leaders₂)
+    ⊎ ((leaders ((k - 1) / GROUP) ≡ list (k - 1) → ⊥) × ((i : ℕ) → leaders₂ i ≡ leaders₁ i))) where
   -- Where the step stands that leaves.
-  from : (places (leaders b) < k) × (places (leaders b) / 16 ≡ b) × (list (places (leaders b)) ≡ leaders b)
+  from : (places (leaders b) < k) × (places (leaders b) / GROUP ≡ b) × (list (places (leaders b)) ≡ leaders b)
   from = leader-place n g list places leaders k b (group-some k b some (top .place-in)) led
 
   -- No step of the list has a larger gain.
   largest : LargestAt g list k (places (leaders b))
   largest = record {
     place-in = from .0;
-    largest = λ j j-in. omega (arith, led .most j j-in, top .largest (j / 16) (omega arith) (omega arith), ap g (from .2));
+    largest = λ j j-in. omega (arith, led .most j j-in, top .largest (j / GROUP) (omega arith) (omega arith), ap g (from .2));
   }
 
   -- The last step stands nowhere else.
@@ -80,14 +80,14 @@ module _
       ap places′ (put .others i e) ∙ placed .others (list i) (before-last i i-in) ∙ led .grouped .placed i (omega arith)
 
   -- A group other than that of the step that leaves still has its leader, unless that was the last step.
-  other-group : (c : ℕ) → (c ≡ b → ⊥) → (c ≡ (k - 1) / 16 → leaders ((k - 1) / 16) ≡ list (k - 1) → ⊥) → Heads g list′ (k - 1) c (leaders c)
+  other-group : (c : ℕ) → (c ≡ b → ⊥) → (c ≡ (k - 1) / GROUP → leaders ((k - 1) / GROUP) ≡ list (k - 1) → ⊥) → Heads g list′ (k - 1) c (leaders c)
   other-group c other not-last = record {
     leader = λ inside. tell (led .grouped .leader c (omega arith));
     most = λ i i-in own. omega (arith, ap g (put .others i (elsewhere i own)), led .most i (omega arith), ap (λ (d : ℕ). g (leaders d)) own);
   }
     where
-      elsewhere : (i : ℕ) → i / 16 ≡ c → i ≡ places (leaders b) → ⊥
-      elsewhere i own e = other (sym own ∙ ap (λ (j : ℕ). j / 16) e ∙ from .1)
+      elsewhere : (i : ℕ) → i / GROUP ≡ c → i ≡ places (leaders b) → ⊥
+      elsewhere i own e = other (sym own ∙ ap (λ (j : ℕ). j / GROUP) e ∙ from .1)
 
       tell : InGroup list k c (leaders c) → InGroup list′ (k - 1) c (leaders c)
       tell p = record {
@@ -99,7 +99,7 @@ module _
         where
           within : Dec (p .place ≡ k - 1) → p .place < k - 1
           within (yes e) =
-              let end : c ≡ (k - 1) / 16 = sym (p .in-group) ∙ ap (λ (j : ℕ). j / 16) e in
+              let end : c ≡ (k - 1) / GROUP = sym (p .in-group) ∙ ap (λ (j : ℕ). j / GROUP) e in
               absurd (not-last end (ap leaders (sym end) ∙ sym (p .there) ∙ ap list e))
           within (no e) = omega (arith, p .place-in)
 
@@ -109,19 +109,19 @@ module _
 
   -- After the first search.
   after-first :
-      (c : ℕ) → (c ≡ (k - 1) / 16 → leaders ((k - 1) / 16) ≡ list (k - 1) → ⊥) → Dec (c ≡ b) → Heads g list′ (k - 1) c (leaders₁ c)
+      (c : ℕ) → (c ≡ (k - 1) / GROUP → leaders ((k - 1) / GROUP) ≡ list (k - 1) → ⊥) → Dec (c ≡ b) → Heads g list′ (k - 1) c (leaders₁ c)
   after-first c not-last (yes e) = subst (λ (d : ℕ). Heads g list′ (k - 1) d (leaders₁ d)) (sym e) (found leaders leaders₁ b first)
   after-first c not-last (no e) = heads-same g list′ (k - 1) c (leaders c) (leaders₁ c) (sym (first .others c e)) (other-group c e not-last)
 
   -- After the second.
   heads : (c : ℕ) → Heads g list′ (k - 1) c (leaders₂ c)
-  heads c = tell second (ℕ-discrete c ((k - 1) / 16))
+  heads c = tell second (ℕ-discrete c ((k - 1) / GROUP))
     where
       tell :
-          ((leaders ((k - 1) / 16) ≡ list (k - 1)) × Regrouped g list′ (k - 1) ((k - 1) / 16) leaders₁ leaders₂)
-          ⊎ ((leaders ((k - 1) / 16) ≡ list (k - 1) → ⊥) × ((i : ℕ) → leaders₂ i ≡ leaders₁ i)) →
-          Dec (c ≡ (k - 1) / 16) → Heads g list′ (k - 1) c (leaders₂ c)
-      tell (inl (e, r)) (yes h) = subst (λ (d : ℕ). Heads g list′ (k - 1) d (leaders₂ d)) (sym h) (found leaders₁ leaders₂ ((k - 1) / 16) r)
+          ((leaders ((k - 1) / GROUP) ≡ list (k - 1)) × Regrouped g list′ (k - 1) ((k - 1) / GROUP) leaders₁ leaders₂)
+          ⊎ ((leaders ((k - 1) / GROUP) ≡ list (k - 1) → ⊥) × ((i : ℕ) → leaders₂ i ≡ leaders₁ i)) →
+          Dec (c ≡ (k - 1) / GROUP) → Heads g list′ (k - 1) c (leaders₂ c)
+      tell (inl (e, r)) (yes h) = subst (λ (d : ℕ). Heads g list′ (k - 1) d (leaders₂ d)) (sym h) (found leaders₁ leaders₂ ((k - 1) / GROUP) r)
       tell (inl (e, r)) (no h) =
           heads-same g list′ (k - 1) c (leaders₁ c) (leaders₂ c) (sym (r .others c h)) (after-first c (λ end last. h end) (ℕ-discrete c b))
       tell (inr (e, same)) h =
@@ -142,16 +142,16 @@ module _
         leader = λ c inside. heads c .leader inside;
       };
       gain = λ i i-in. gain i i-in (ℕ-discrete i (places (leaders b)));
-      most = λ i i-in. heads (i / 16) .most i i-in refl;
+      most = λ i i-in. heads (i / GROUP) .most i i-in refl;
     };
   }
 
 -- The same for numbers that were read: the step x, its place j, the last step and the leader of the last group.
 pub taken-at :
     (n : ℕ) (g list list′ places places′ leaders leaders₁ leaders₂ : ℕ → ℕ) (k b j last ended x : ℕ) → 0 < k → Led n g list places leaders k →
-    LargestIn g leaders 0 ((k - 1) / 16 + 1) b → x ≡ leaders b → j ≡ places x → last ≡ list (k - 1) → ended ≡ leaders ((k - 1) / 16) →
+    LargestIn g leaders 0 ((k - 1) / GROUP + 1) b → x ≡ leaders b → j ≡ places x → last ≡ list (k - 1) → ended ≡ leaders ((k - 1) / GROUP) →
     Put j last list list′ → Put last j places places′ → Regrouped g list′ (k - 1) b leaders leaders₁ →
-    ((ended ≡ last) × Regrouped g list′ (k - 1) ((k - 1) / 16) leaders₁ leaders₂) ⊎ ((ended ≡ last → ⊥) × ((i : ℕ) → leaders₂ i ≡ leaders₁ i)) →
+    ((ended ≡ last) × Regrouped g list′ (k - 1) ((k - 1) / GROUP) leaders₁ leaders₂) ⊎ ((ended ≡ last → ⊥) × ((i : ℕ) → leaders₂ i ≡ leaders₁ i)) →
     Taken n g list k x list′ places′ leaders₂
 taken-at n g list list′ places places′ leaders leaders₁ leaders₂ k b j last ended x some led top x-is j-is last-is ended-is put placed first second =
     taken n g list list′ places places′ leaders leaders₁ leaders₂ k b some led top
@@ -163,9 +163,9 @@ taken-at n g list list′ places places′ leaders leaders₁ leaders₂ k b j l
     from = j-is ∙ ap places x-is
 
     tell :
-        ((ended ≡ last) × Regrouped g list′ (k - 1) ((k - 1) / 16) leaders₁ leaders₂) ⊎ ((ended ≡ last → ⊥) × ((i : ℕ) → leaders₂ i ≡ leaders₁ i)) →
-        ((leaders ((k - 1) / 16) ≡ list (k - 1)) × Regrouped g list′ (k - 1) ((k - 1) / 16) leaders₁ leaders₂)
-        ⊎ ((leaders ((k - 1) / 16) ≡ list (k - 1) → ⊥) × ((i : ℕ) → leaders₂ i ≡ leaders₁ i))
+        ((ended ≡ last) × Regrouped g list′ (k - 1) ((k - 1) / GROUP) leaders₁ leaders₂) ⊎ ((ended ≡ last → ⊥) × ((i : ℕ) → leaders₂ i ≡ leaders₁ i)) →
+        ((leaders ((k - 1) / GROUP) ≡ list (k - 1)) × Regrouped g list′ (k - 1) ((k - 1) / GROUP) leaders₁ leaders₂)
+        ⊎ ((leaders ((k - 1) / GROUP) ≡ list (k - 1) → ⊥) × ((i : ℕ) → leaders₂ i ≡ leaders₁ i))
     tell (inl (e, r)) = inl (sym ended-is ∙ e ∙ last-is, r)
     tell (inr (e, same)) = inr (λ h. e (ended-is ∙ h ∙ sym last-is), same)
 

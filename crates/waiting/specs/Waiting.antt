@@ -1,4 +1,4 @@
--- The steps that wait: the first k places of a list, in groups of sixteen places, with a leader for each group and the place of each step.
+-- The steps that wait: the first k places of a list, in groups of GROUP places, with a leader for each group and the place of each step.
 use Prim.Native.Nat.{ℕ, suc, _+_, _*_, _-_, _/_, _≤_, _<_}
 use mathlib.Core.Path.{_≡_}
 use mathlib.Core.Logic.{_⊎_}
@@ -7,18 +7,22 @@ use lib.ListN.{length, set}
 use Rattle.meaning.specs.Bounds.{STEPS}
 use Rattle.meaning.specs.Tables.{at}
 
+-- A group has so many places.
+abbrev pub GROUP : ℕ
+GROUP = 16
+
 -- The number v stands at place i now, and at every other place what stood there before.
 pub record Put (i v : ℕ) (before after : ℕ → ℕ) : Type 0 where
   pub there : after i ≡ v
   pub others : (j : ℕ) → (j ≡ i → ⊥) → after j ≡ before j
 
--- The gains, the list and the places have a place for each of n steps, and the leaders one for each sixteen.
+-- The gains, the list and the places have a place for each of n steps, and the leaders one for each group.
 pub record Room (n : ℕ) (gains list places leaders : List ℕ) : Type 0 where
   pub few : n ≤ STEPS
   pub gains-room : n ≤ length gains
   pub list-room : n ≤ length list
   pub places-room : n ≤ length places
-  pub leaders-room : n ≤ 16 * length leaders
+  pub leaders-room : n ≤ GROUP * length leaders
 
 -- There are places to be looked at, and each has a step with a gain to be read.
 pub record Searchable (gains list : List ℕ) (from to : ℕ) : Type 0 where
@@ -41,7 +45,7 @@ pub record LargestAt (g list : ℕ → ℕ) (k r : ℕ) : Type 0 where
 pub record InGroup (list : ℕ → ℕ) (k b l : ℕ) : Type 0 where
   pub place : ℕ
   pub place-in : place < k
-  pub in-group : place / 16 ≡ b
+  pub in-group : place / GROUP ≡ b
   pub there : list place ≡ l
 
 -- The first k places hold steps below n whose places are known, and each group that has one of these places has a leader in it.
@@ -49,19 +53,19 @@ pub record Grouped (n : ℕ) (list places leaders : ℕ → ℕ) (k : ℕ) : Typ
   pub within : k ≤ n
   pub step : (j : ℕ) → j < k → list j < n
   pub placed : (j : ℕ) → j < k → places (list j) ≡ j
-  pub leader : (b : ℕ) → 16 * b < k → InGroup list k b (leaders b)
+  pub leader : (b : ℕ) → GROUP * b < k → InGroup list k b (leaders b)
 
 -- Besides, each step in the list has a gain, and none has a larger one than the leader of its group.
 pub record Led (n : ℕ) (g list places leaders : ℕ → ℕ) (k : ℕ) : Type 0 where
   pub grouped : Grouped n list places leaders k
   pub gain : (j : ℕ) → j < k → 0 < g (list j)
-  pub most : (j : ℕ) → j < k → g (list j) ≤ g (leaders (j / 16))
+  pub most : (j : ℕ) → j < k → g (list j) ≤ g (leaders (j / GROUP))
 
 -- The same, but step y may have a larger gain than the leader of its group.
 pub record LedBut (y n : ℕ) (g list places leaders : ℕ → ℕ) (k : ℕ) : Type 0 where
   pub grouped : Grouped n list places leaders k
   pub gain : (j : ℕ) → j < k → 0 < g (list j)
-  pub most : (j : ℕ) → j < k → (list j ≡ y → ⊥) → g (list j) ≤ g (leaders (j / 16))
+  pub most : (j : ℕ) → j < k → (list j ≡ y → ⊥) → g (list j) ≤ g (leaders (j / GROUP))
 
 -- Step y has a gain to be read, and so has the leader of group b.
 pub record Leadable (gains leaders : List ℕ) (y b : ℕ) : Type 0 where
@@ -92,14 +96,14 @@ pub record Entered (n : ℕ) (g : ℕ → ℕ) (y : ℕ) (list : ℕ → ℕ) (k
 pub record Regroupable (gains list leaders : List ℕ) (k b : ℕ) : Type 0 where
   pub group-fits : b < 65536
   pub list-room : k ≤ length list
-  pub leaders-room : k ≤ 16 * length leaders
+  pub leaders-room : k ≤ GROUP * length leaders
   pub listed-in : (j : ℕ) → j < k → at list j < length gains
 
 -- Group b has a leader now, of largest gain in it, where it has a place below k; every other leader is as before.
 pub record Regrouped (g list : ℕ → ℕ) (k b : ℕ) (leaders leaders′ : ℕ → ℕ) : Type 0 where
   pub others : (i : ℕ) → (i ≡ b → ⊥) → leaders′ i ≡ leaders i
-  pub leader : 16 * b < k → InGroup list k b (leaders′ b)
-  pub most : (j : ℕ) → j < k → j / 16 ≡ b → g (list j) ≤ g (leaders′ b)
+  pub leader : GROUP * b < k → InGroup list k b (leaders′ b)
+  pub most : (j : ℕ) → j < k → j / GROUP ≡ b → g (list j) ≤ g (leaders′ b)
 
 -- Step x, of largest gain, left the list from some place, and the last step has that place now.
 pub record Taken (n : ℕ) (g list : ℕ → ℕ) (k x : ℕ) (list′ places′ leaders′ : ℕ → ℕ) : Type 0 where

@@ -1,4 +1,4 @@
-// Steps that wait with their gains, and which of them has the largest. They stand in the first places of a list, in groups of sixteen places. Each group has a
+// Steps that wait with their gains, and which of them has the largest. They stand in the first places of a list, in groups of GROUP places. Each group has a
 // leader, which is one of its steps with the largest gain; and the place of each step is known. So a step enters or rises by one comparison, and a step
 // of largest gain is found among the leaders; when it leaves, its group is looked through for a new one.
 ghost use mathlib.Core.Path.{_≡_};
@@ -7,8 +7,11 @@ ghost use lib.ListN.{length};
 ghost use Rattle.meaning.specs.Tables.{at};
 ghost use Rattle.waiting.specs.Waiting.{Room, Searchable, LargestIn, Leadable, Promoted, LedBut, Led, New, Entered, Regroupable, Regrouped, Taken};
 
-// How many leaders there are: one for each sixteen of STEPS places.
-pub const GROUPS: usize = (meaning::STEPS + 15) / 16;
+// A group has so many places.
+const GROUP: usize = 16;
+
+// How many leaders there are: one for each group of STEPS places.
+pub const GROUPS: usize = (meaning::STEPS + GROUP - 1) / GROUP;
 
 // The gain of step v.
 pub fn gain_at(gains: &[u64], v: usize) -> u64
@@ -65,11 +68,11 @@ pub fn enter(
 {
     list[k] = y as u16;
     places[y] = k as u16;
-    if k % 16 == 0 {
-        leaders[k / 16] = y as u16;
+    if k % GROUP == 0 {
+        leaders[k / GROUP] = y as u16;
         return k + 1;
     }
-    lead(y, k / 16, gains, leaders);
+    lead(y, k / GROUP, gains, leaders);
     k + 1
 }
 
@@ -90,7 +93,7 @@ pub fn rise(
 {
     let j = lent::number_at(places, y);
     if j < k && lent::number_at(list, j) == y {
-        lead(y, j / 16, gains, leaders);
+        lead(y, j / GROUP, gains, leaders);
     }
 }
 
@@ -99,11 +102,11 @@ fn regroup(b: usize, gains: &[u64], list: &[u16], leaders: &mut [u16], k: usize)
     requires { ⌜ Regroupable (now gains) (now list) (now leaders) k b ⌝ }
     ensures { λ _. ⌜ Regrouped (at (now (gains .entry))) (at (now (list .entry))) k b (at (now (leaders .entry))) (at (now (leaders .exit))) ⌝ }
 {
-    let from = 16 * b;
+    let from = GROUP * b;
     if k <= from {
         return;
     }
-    let mut to = from + 16;
+    let mut to = from + GROUP;
     if k < to {
         to = k;
     }
@@ -125,7 +128,7 @@ pub fn take(
     ensures { λ r. ⌜
         Taken n (at (now (gains .entry))) (at (now (list .entry))) k r (at (now (list .exit))) (at (now (places .exit))) (at (now (leaders .exit))) ⌝ }
 {
-    let end = (k - 1) / 16;
+    let end = (k - 1) / GROUP;
     let b = largest(leaders, 0, end + 1, gains);
     let x = lent::number_at(leaders, b);
     let j = lent::number_at(places, x);

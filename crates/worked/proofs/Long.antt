@@ -1,10 +1,12 @@
 -- How many places the lists of an office have, by its type.
+use Prim.Native.Nat.{_+_}
 use mathlib.Core.Path.{_≡_, sym}
 use lib.ListN.{length}
 use denote.Laws.{Is}
 use denote.Struct.Declared.{row}
 use denote.Struct.Laws as S
 use borrow.Author.Needs.{needs}
+use Rattle.meaning.specs.Bounds.{STEPS, RULES, MARKS, WATCHED}
 use Rattle.worked.specs.declared.office.Office.{Office}
 use Rattle.worked.specs.declared.words.Ask.{Ask}
 use Rattle.worked.proofs.office.Office as O
@@ -18,45 +20,45 @@ Held o = Is (row O.the-type) o (S.vals O.the-type L.the-laws o)
 
 -- How many places each list has.
 pub record Long (o : Office) : Type 0 where
-  pub xs : 4097 ≡ length (o .xs)
-  pub ys : 4097 ≡ length (o .ys)
-  pub cs : 4097 ≡ length (o .cs)
-  pub days : 257 ≡ length (o .days)
-  pub marks : 65 ≡ length (o .marks)
-  pub wxs : 1025 ≡ length (o .wxs)
-  pub wys : 1025 ≡ length (o .wys)
-  pub wcs : 1025 ≡ length (o .wcs)
-  pub one : 1025 ≡ length (o .one)
-  pub two : 1025 ≡ length (o .two)
+  pub xs : RULES + 1 ≡ length (o .xs)
+  pub ys : RULES + 1 ≡ length (o .ys)
+  pub cs : RULES + 1 ≡ length (o .cs)
+  pub days : STEPS + 1 ≡ length (o .days)
+  pub marks : MARKS + 1 ≡ length (o .marks)
+  pub wxs : WATCHED + 1 ≡ length (o .wxs)
+  pub wys : WATCHED + 1 ≡ length (o .wys)
+  pub wcs : WATCHED + 1 ≡ length (o .wcs)
+  pub one : WATCHED + 1 ≡ length (o .one)
+  pub two : WATCHED + 1 ≡ length (o .two)
 
-the-xs : (o : Office) → Held o → length (o .xs) ≡ 4097
+the-xs : (o : Office) → Held o → length (o .xs) ≡ RULES + 1
 the-xs o g = search needs
 
-the-ys : (o : Office) → Held o → length (o .ys) ≡ 4097
+the-ys : (o : Office) → Held o → length (o .ys) ≡ RULES + 1
 the-ys o g = search needs
 
-the-cs : (o : Office) → Held o → length (o .cs) ≡ 4097
+the-cs : (o : Office) → Held o → length (o .cs) ≡ RULES + 1
 the-cs o g = search needs
 
-the-days : (o : Office) → Held o → length (o .days) ≡ 257
+the-days : (o : Office) → Held o → length (o .days) ≡ STEPS + 1
 the-days o g = search needs
 
-the-marks : (o : Office) → Held o → length (o .marks) ≡ 65
+the-marks : (o : Office) → Held o → length (o .marks) ≡ MARKS + 1
 the-marks o g = search needs
 
-the-wxs : (o : Office) → Held o → length (o .wxs) ≡ 1025
+the-wxs : (o : Office) → Held o → length (o .wxs) ≡ WATCHED + 1
 the-wxs o g = search needs
 
-the-wys : (o : Office) → Held o → length (o .wys) ≡ 1025
+the-wys : (o : Office) → Held o → length (o .wys) ≡ WATCHED + 1
 the-wys o g = search needs
 
-the-wcs : (o : Office) → Held o → length (o .wcs) ≡ 1025
+the-wcs : (o : Office) → Held o → length (o .wcs) ≡ WATCHED + 1
 the-wcs o g = search needs
 
-the-one : (o : Office) → Held o → length (o .one) ≡ 1025
+the-one : (o : Office) → Held o → length (o .one) ≡ WATCHED + 1
 the-one o g = search needs
 
-the-two : (o : Office) → Held o → length (o .two) ≡ 1025
+the-two : (o : Office) → Held o → length (o .two) ≡ WATCHED + 1
 the-two o g = search needs
 
 pub long : (o : Office) → Held o → Long o

@@ -5,6 +5,15 @@ use crate::words::Ask;
 use meaning::Counts;
 use meaning::Reply;
 
+// How many places the lists have.
+const RULE_PLACES: usize = meaning::RULES + 1;
+
+const STEP_PLACES: usize = meaning::STEPS + 1;
+
+const MARK_PLACES: usize = meaning::MARKS + 1;
+
+const WATCH_PLACES: usize = meaning::WATCHED + 1;
+
 // A reply's number and its two values.
 pub struct Given {
     pub number: u32,
@@ -16,16 +25,16 @@ pub struct Given {
 pub struct Office {
     pub counts: Counts,
     pub last: Reply,
-    pub xs: [u16; 4097],
-    pub ys: [u16; 4097],
-    pub cs: [i32; 4097],
-    pub days: [u32; 257],
-    pub marks: [u32; 65],
-    pub wxs: [u16; 1025],
-    pub wys: [u16; 1025],
-    pub wcs: [i32; 1025],
-    pub one: [u32; 1025],
-    pub two: [u32; 1025],
+    pub xs: [u16; RULE_PLACES],
+    pub ys: [u16; RULE_PLACES],
+    pub cs: [i32; RULE_PLACES],
+    pub days: [u32; STEP_PLACES],
+    pub marks: [u32; MARK_PLACES],
+    pub wxs: [u16; WATCH_PLACES],
+    pub wys: [u16; WATCH_PLACES],
+    pub wcs: [i32; WATCH_PLACES],
+    pub one: [u32; WATCH_PLACES],
+    pub two: [u32; WATCH_PLACES],
 }
 
 // The number and the values of a reply.
@@ -42,16 +51,16 @@ pub fn fresh(counts: Counts) -> Office {
     Office {
         counts: counts,
         last: meaning::done(counts, 0, 0),
-        xs: [7; 4097],
-        ys: [7; 4097],
-        cs: [7; 4097],
-        days: [7; 257],
-        marks: [7; 65],
-        wxs: [7; 1025],
-        wys: [7; 1025],
-        wcs: [7; 1025],
-        one: [7; 1025],
-        two: [7; 1025],
+        xs: [7; RULE_PLACES],
+        ys: [7; RULE_PLACES],
+        cs: [7; RULE_PLACES],
+        days: [7; STEP_PLACES],
+        marks: [7; MARK_PLACES],
+        wxs: [7; WATCH_PLACES],
+        wys: [7; WATCH_PLACES],
+        wcs: [7; WATCH_PLACES],
+        one: [7; WATCH_PLACES],
+        two: [7; WATCH_PLACES],
     }
 }
 
@@ -87,52 +96,52 @@ pub fn put(ask: Ask, o: Office) -> Office {
     let list = ask.list;
     match list {
         words::XS => {
-            if at < 4097 {
+            if at < RULE_PLACES {
                 next.xs[at] = step;
             }
         }
         words::YS => {
-            if at < 4097 {
+            if at < RULE_PLACES {
                 next.ys[at] = step;
             }
         }
         words::CS => {
-            if at < 4097 {
+            if at < RULE_PLACES {
                 next.cs[at] = amount;
             }
         }
         words::DAYS => {
-            if at < 257 {
+            if at < STEP_PLACES {
                 next.days[at] = number;
             }
         }
         words::MARKS => {
-            if at < 65 {
+            if at < MARK_PLACES {
                 next.marks[at] = number;
             }
         }
         words::WXS => {
-            if at < 1025 {
+            if at < WATCH_PLACES {
                 next.wxs[at] = step;
             }
         }
         words::WYS => {
-            if at < 1025 {
+            if at < WATCH_PLACES {
                 next.wys[at] = step;
             }
         }
         words::WCS => {
-            if at < 1025 {
+            if at < WATCH_PLACES {
                 next.wcs[at] = amount;
             }
         }
         words::ONE => {
-            if at < 1025 {
+            if at < WATCH_PLACES {
                 next.one[at] = number;
             }
         }
         _ => {
-            if at < 1025 {
+            if at < WATCH_PLACES {
                 next.two[at] = number;
             }
         }

@@ -37,7 +37,7 @@ const PART: u32 = 19;
 pub const UNKNOWN: u32 = 20;
 
 // What `lent::biased` makes of the amount 0.
-const ZERO: u64 = 2147483648;
+const ZERO: u64 = lent::BIAS;
 
 // How many days a line shows at most.
 const SHOWN: u32 = 6;

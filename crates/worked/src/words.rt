@@ -310,9 +310,12 @@ fn step(line: Line, n: u32, turn: u32) -> u16 {
     (n % 65536) as u16
 }
 
+// No i32 is so large.
+const LIMIT: u32 = lent::BIAS as u32;
+
 // The amount of this size, below 0 where the line has the sign for it.
 fn amount(minus: bool, size: u32) -> i32 {
-    let c = (size % 2147483648) as i32;
+    let c = (size % LIMIT) as i32;
     if minus {
         return 0 - c;
     }

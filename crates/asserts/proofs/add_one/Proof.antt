@@ -4,7 +4,7 @@ use mir.Syntax.{w32}
 use mir.ValLaws.{toZ-ofZ}
 use Rattle.lent.specs.Lent.{first}
 use Rattle.lent.specs.Lent.{columns}
-use Rattle.lent.specs.Promises.{rule}
+use Rattle.meaning.specs.Rules.{rule}
 use Rattle.inner_add.specs.Fit.{Tells}
 use Rattle.asserts.proofs.Answering.{ready, new-linkable, one-held, one-clash}
 use native.Mathlib.Omega.{arith}

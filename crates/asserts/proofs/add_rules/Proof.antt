@@ -9,7 +9,7 @@ use Prim.Native.Nat.{ℕ, _-_}
 use lib.ListN.{length}
 use mathlib.Core.List.{List}
 use Rattle.lent.specs.Idle.{unwatched}
-use Rattle.inner_add.specs.Lending.{LentChains}
+use Rattle.chains.specs.Chains.{LentChains}
 use Rattle.atoms.specs.Atoms.{rules-at}
 use Rattle.asserts.proofs.Going.{AsLong, Left}
 use borrow.Author.Needs.{needs}

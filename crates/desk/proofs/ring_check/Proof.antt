@@ -8,7 +8,7 @@ use mir.Syntax.{w32}
 use mir.ValLaws.{toZ-ofZ}
 use Rattle.meaning.specs.Bounds.{STEPS, RULES}
 use Rattle.meaning.proofs.Needs.{obeys-done, obeys-refused}
-use Rattle.lent.specs.Promises.{rule}
+use Rattle.meaning.specs.Rules.{rule}
 use Rattle.inner_watch.proofs.Verdict.{rule-steps, rule-amount, rule-refused, rule-no-conflict}
 use Rattle.desk.proofs.Entering.{entered, refused-alone}
 use native.Mathlib.Omega.{arith}

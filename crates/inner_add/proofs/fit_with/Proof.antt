@@ -7,7 +7,7 @@ use mathlib.Core.Bool.{true, false, true≢false, false≢true}
 use mir.Syntax.{w32}
 use mir.ValLaws.{toZ-ofZ}
 use borrow.Author.Tests.{not-true, not-false}
-use Rattle.inner_add.specs.Planning.{Planned}
+use Rattle.inner_add.specs.Planning.{RulePlanned}
 use Rattle.inner_add.proofs.Answers.{placed, raisable, taken}
 use native.Mathlib.Omega.{arith}
 use borrow.Author.Needs.{needs}
@@ -48,7 +48,7 @@ returns c =
     let plan = c .before .before .before .before .before .plan in
     let if1 = c .if1 in
     let args = start .args in
-    let p : Planned (args .n) (first (args .m)) (args .m) (args .xs .now) (args .ys .now) (args .cs .now) (args .days .now) _ _ (args .x) (args .y) (args .c) (plan .result)
+    let p : RulePlanned (args .n) (first (args .m)) (args .m) (args .xs .now) (args .ys .now) (args .cs .now) (args .days .now) _ _ (args .x) (args .y) (args .c) (plan .result)
     = rw (toZ-ofZ w32 (args .c) (start .fits .c)) at (plan .ensures) in
     let not = not-true _ (if1 .taken) in
     record {
@@ -66,7 +66,7 @@ raise-days-requires c κs =
     let plan = c .before .before .before .before .before .before .before .plan in
     let if1 = c .before .before .if1 in
     let args = start .args in
-    let p : Planned (args .n) (first (args .m)) (args .m) (args .xs .now) (args .ys .now) (args .cs .now) (args .days .now) _ _ (args .x) (args .y) (args .c) (plan .result)
+    let p : RulePlanned (args .n) (first (args .m)) (args .m) (args .xs .now) (args .ys .now) (args .cs .now) (args .days .now) _ _ (args .x) (args .y) (args .c) (plan .result)
     = rw (toZ-ofZ w32 (args .c) (start .fits .c)) at (plan .ensures) in
     raisable (args .n) (first (args .m)) number (args .m) (args .xs .now) (args .ys .now) (args .cs .now) (args .days .now) (args .heads .now) (args .nexts .now) (args .x) (args .y) (args .c) (start .pre .0)
     _ (p .earliest (not-false _ (if1 .left))) (args .days .now) (omega (arith, plan .kept .1 .1 .1 .1 .1 .1 .1 .1 .1 .1 .1 .0, start .pre .1 .gains-room)) (start .pre .0 .base .ground .days-room)
@@ -102,7 +102,7 @@ returns-2 c =
     let raise-days = c .before .before .before .before .before .before .before .before .before .before .before .raise-days in
     let write-rule = c .before .before .before .before .before .write-rule in
     let args = start .args in
-    let p : Planned (args .n) (first (args .m)) (args .m) (args .xs .now) (args .ys .now) (args .cs .now) (args .days .now) _ _ (args .x) (args .y) (args .c) (plan .result)
+    let p : RulePlanned (args .n) (first (args .m)) (args .m) (args .xs .now) (args .ys .now) (args .cs .now) (args .days .now) _ _ (args .x) (args .y) (args .c) (plan .result)
     = rw (toZ-ofZ w32 (args .c) (start .fits .c)) at (plan .ensures) in
     record {
       tells = record {

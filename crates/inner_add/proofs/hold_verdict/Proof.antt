@@ -7,7 +7,7 @@ use mir.Syntax.{w32}
 use mir.ValLaws.{toZ-ofZ}
 use Rattle.meaning.specs.Bounds.{RULES, FULL}
 use Rattle.meaning.specs.Promise.{needs as needing}
-use Rattle.lent.specs.Promises.{rule}
+use Rattle.meaning.specs.Rules.{rule}
 use Rattle.inner_watch.proofs.Verdict.{rule-steps, rule-amount, rule-refused}
 use native.Mathlib.Omega.{arith}
 use borrow.Author.Needs.{needs}

@@ -1,10 +1,10 @@
--- `inner_add::lack`: the two sides of the test are the rule's, both with 2147483648 added.
+-- `inner_add::lack`: the two sides of the test are the rule's, both with BIAS added.
 use Prim.Native.Nat.{_+_, _<_}
 use mathlib.Core.Path.{_≡_}
 use mir.Syntax.{w32}
 use mir.ValLaws.{toZ-ofZ}
 use Rattle.lent.specs.Lent.{Biased}
-use Rattle.lent.specs.Promises.{rule}
+use Rattle.meaning.specs.Rules.{rule}
 use Rattle.meaning.specs.Tables.{at}
 use Rattle.meaning.proofs.Whole.{→plan}
 use native.Mathlib.Omega.{arith}

@@ -5,7 +5,7 @@ use mir.Syntax.{w32}
 use mir.ValLaws.{toZ-ofZ}
 use Rattle.lent.specs.Lent.{first}
 use Rattle.chains.specs.Chains.{number}
-use Rattle.inner_add.specs.Planning.{Planned}
+use Rattle.inner_add.specs.Planning.{RulePlanned}
 use Rattle.inner_add.proofs.Answers.{raisable, planned-list, trial-done, trial-conflict, ring-short}
 use native.Mathlib.Omega.{arith}
 use borrow.Author.Needs.{needs}
@@ -32,7 +32,7 @@ plan-requires c κs =
 write-days-requires : tie.Need-write-days-requires
 write-days-requires c κs =
     let args = c .before .before .before .before .before .before .before .before .before .before .before .before .before .before .before .before .before .before .before .before .before .args in
-    let p : Planned (args .counts .steps) (first (args .counts .rules)) (args .counts .rules) (args .xs .now) (args .ys .now) (args .cs .now) (args .days .now) _ _ (args .x) (args .y) (args .c) (c .before .before .before .before .before .before .before .plan .result)
+    let p : RulePlanned (args .counts .steps) (first (args .counts .rules)) (args .counts .rules) (args .xs .now) (args .ys .now) (args .cs .now) (args .days .now) _ _ (args .x) (args .y) (args .c) (c .before .before .before .before .before .before .before .plan .result)
     = rw (toZ-ofZ w32 (args .c) (c .before .before .before .before .before .before .before .before .before .before .before .before .before .before .before .before .before .before .before .before .before .fits .c)) at (c .before .before .before .before .before .before .before .plan .ensures) in
     raisable (args .counts .steps) (first (args .counts .rules)) number (args .counts .rules) (args .xs .now) (args .ys .now) (args .cs .now) (args .days .now) (args .heads .now) (args .nexts .now) (args .x) (args .y) (args .c) (c .before .before .before .before .before .before .before .before .before .before .before .before .before .before .before .before .before .before .before .before .before .pre .0)
     _ (p .earliest (c .before .before .if1 .taken)) _
@@ -53,7 +53,7 @@ same-length-3 c = search needs
 returns : tie.Need-returns
 returns c =
     let args = c .before .before .before .before .before .before .before .before .before .before .before .before .before .before .before .before .before .before .before .before .before .before .before .before .before .args in
-    let p : Planned (args .counts .steps) (first (args .counts .rules)) (args .counts .rules) (args .xs .now) (args .ys .now) (args .cs .now) (args .days .now) _ _ (args .x) (args .y) (args .c) (c .before .before .before .before .before .before .before .before .before .before .before .plan .result)
+    let p : RulePlanned (args .counts .steps) (first (args .counts .rules)) (args .counts .rules) (args .xs .now) (args .ys .now) (args .cs .now) (args .days .now) _ _ (args .x) (args .y) (args .c) (c .before .before .before .before .before .before .before .before .before .before .before .plan .result)
     = rw (toZ-ofZ w32 (args .c) (c .before .before .before .before .before .before .before .before .before .before .before .before .before .before .before .before .before .before .before .before .before .before .before .before .before .fits .c)) at (c .before .before .before .before .before .before .before .before .before .before .before .plan .ensures) in
     rw (c .done .ensures)
     (trial-done (args .counts) (args .xs .now) (args .ys .now) (args .cs .now) (args .days .now) (args .heads .now) (args .nexts .now) (args .x) (args .y) (args .c) (c .before .before .before .before .before .before .before .before .before .before .before .before .before .before .before .before .before .before .before .before .before .before .before .before .before .pre .0)

@@ -8,7 +8,7 @@ use mir.ValLaws.{toZ-ofZ}
 use Rattle.meaning.specs.Bounds.{WATCHED, FULL}
 use Rattle.meaning.specs.Promise.{needs as needing}
 use Rattle.meaning.proofs.Needs.{obeys-done, obeys-refused}
-use Rattle.lent.specs.Promises.{rule}
+use Rattle.meaning.specs.Rules.{rule}
 use Rattle.inner_watch.proofs.Equal.{tables-equal}
 use Rattle.inner_watch.proofs.Verdict.{rule-steps, rule-amount, rule-refused, rule-no-conflict}
 use native.Mathlib.Omega.{arith}

@@ -7,6 +7,7 @@ use borrow.Author.Needs.{needs}
 use Rattle.lent.proofs.Tests.{kept→within}
 use Rattle.lent.proofs.slack.Statement.{statement}
 use Rattle.lent.proofs.slack.Tie as tie
+use Rattle.lent.specs.Lent.{BIAS}
 
 latest-requires : tie.Need-latest-requires
 latest-requires c κs = search needs
@@ -21,7 +22,7 @@ add-result : tie.Need-add-result
 add-result c = omega (arith, c .day-at .ensures, c .before .before .before .shared-slice-known3 .given (c .before .number-at .result))
 
 -- The first step's day is within the rule's limit.
-day-within : (c : tie.After-day-at) → c .day-at .result + 2147483648 ≤ c .before .before .latest .result
+day-within : (c : tie.After-day-at) → c .day-at .result + BIAS ≤ c .before .before .latest .result
 day-within c =
     let args = c .before .before .before .before .before .before .args in
     let day : c .day-at .result ≡ getD (args .days .now) (getD (args .xs .now) (args .i) 0) 0 = c .day-at .ensures ∙ ap (λ (x : ℕ). getD (args .days .now) x 0) (c .before .number-at .ensures) in

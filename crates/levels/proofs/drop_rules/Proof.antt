@@ -3,7 +3,7 @@
 use Prim.Native.Nat.{_-_, _≤_}
 use mathlib.Core.Path.{_≡_, refl, _∙_}
 use lib.ListN.{length}
-use Rattle.inner_add.specs.Lending.{LentChains}
+use Rattle.chains.specs.Chains.{LentChains}
 use Rattle.levels.proofs.Dropping.{linkable, one-fewer}
 use native.Mathlib.Omega.{arith}
 use borrow.Author.Needs.{needs}

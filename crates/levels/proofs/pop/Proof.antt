@@ -63,8 +63,14 @@ days-at-requires c κs =
     let k-in : start .args .counts .marks - start .args .n < start .args .counts .marks = omega (arith, c .before .before .before .before .before .before .before .before .before .if1 .left, start .pre .1 .0) in
     (droppable-at (start .pre .0) k-in refl, (omega (arith, k-in, start .pre .0 .sound .counts-in .marks-in), start .pre .1 .1 .1 .kept-earliest _ k-in))
 
-cast-t18 : tie.Need-cast-t18
-cast-t18 c = search needs
+rules-now-requires : tie.Need-rules-now-requires
+rules-now-requires c κs = search needs
+
+cast-marks-now : tie.Need-cast-marks-now
+cast-marks-now c = search needs
+
+marks-now-requires : tie.Need-marks-now-requires
+marks-now-requires c κs = search needs
 
 same-length : tie.Need-same-length
 same-length c = search needs
@@ -74,8 +80,9 @@ same-length-2 c = search needs
 
 returns-2 : tie.Need-returns-2
 returns-2 c =
-    let start = c .before .before .before .before .before .before .before .before .before .before .before .before .before .before .before .before .before .before .before .before in
-    (popped-cut (start .args .n) _ (omega (arith, c .before .before .before .before .before .before .before .before .before .before .before .before .if1 .left)) (start .pre .1 .0) refl (c .before .before .days-at .ensures), c .before .before .before .before .before .before .drop-rules .ensures)
+    let start = c .before .before .before .before .before .before .before .before .before .before .before .before .before .before .before .before .before .before .before .before .before .before in
+    rw (c .marks-now .ensures, c .before .rules-now .ensures)
+    (popped-cut (start .args .n) _ (omega (arith, c .before .before .before .before .before .before .before .before .before .before .before .before .before .before .if1 .left)) (start .pre .1 .0) refl (c .before .before .before .before .days-at .ensures), c .before .before .before .before .before .before .before .before .drop-rules .ensures)
 
 pub pop-spec : {M : Type 1} → statement M
 pop-spec =
@@ -92,7 +99,9 @@ pop-spec =
     drop-rules-requires
     cast-days-at
     days-at-requires
-    cast-t18
+    rules-now-requires
+    cast-marks-now
+    marks-now-requires
     same-length
     same-length-2
     returns-2)

@@ -66,24 +66,27 @@ loop-again c =
       ⊎-elim (λ w. rw (w .5) (kept-more (turn .inv .4) (turn .inv .0) (start .pre .0) (w .2 .ensures))) (λ w. rw (w .1) (kept-skip (turn .inv .4) (c .before .has-row .ensures .not-so (w .0 .left)))) (c .if1 .came),
     )
 
-add-t17 : tie.Need-add-t17 Inv-loop μ-loop
-add-t17 c = search needs
+add-marks-now : tie.Need-add-marks-now Inv-loop μ-loop
+add-marks-now c = search needs
 
-cast-t18 : tie.Need-cast-t18 Inv-loop μ-loop
-cast-t18 c = search needs
+cast-marks-now : tie.Need-cast-marks-now Inv-loop μ-loop
+cast-marks-now c = search needs
+
+marks-now-requires : tie.Need-marks-now-requires Inv-loop μ-loop
+marks-now-requires c κs = search needs
 
 same-length : tie.Need-same-length Inv-loop μ-loop
-same-length c = c .before .loop .inv .2
+same-length c = c .before .before .loop .inv .2
 
 same-length-2 : tie.Need-same-length-2 Inv-loop μ-loop
-same-length-2 c = c .before .loop .inv .4 .same-length
+same-length-2 c = c .before .before .loop .inv .4 .same-length
 
 returns : tie.Need-returns Inv-loop μ-loop
 returns c =
-    let start = c .before .before .before .before .before .before .before in
-    let turn = c .before .loop in
-    let told = pushed (start .args .n) {c = start .args .counts} (start .pre .1 .1 .0) (start .pre .1 .1 .1) (omega (arith, turn .inv .1, c .loop-test .left)) (turn .inv .3) (turn .inv .4) in
-    (refl, (told .0, told .1))
+    let start = c .before .before .before .before .before .before .before .before in
+    let turn = c .before .before .loop in
+    let told = pushed (start .args .n) {c = start .args .counts} (start .pre .1 .1 .0) (start .pre .1 .1 .1) (omega (arith, turn .inv .1, c .before .loop-test .left)) (turn .inv .3) (turn .inv .4) in
+    rw (c .marks-now .ensures) (refl, (told .0, told .1))
 
 pub push-spec : {M : Type 1} → statement M
 push-spec =
@@ -102,8 +105,9 @@ push-spec =
     add-k
     loop-less
     loop-again
-    add-t17
-    cast-t18
+    add-marks-now
+    cast-marks-now
+    marks-now-requires
     same-length
     same-length-2
     returns)

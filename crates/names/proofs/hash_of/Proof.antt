@@ -4,13 +4,13 @@ use native.Mathlib.Omega.{arith}
 use mathlib.Core.Path.{_≡_, refl, sym, _∙_}
 use borrow.Author.Needs.{needs}
 use Rattle.text.specs.Lexicon.{bytes}
-use Rattle.names.specs.Names.{hash, hashed}
+use Rattle.names.specs.Names.{hash, hashed, BUCKETS}
 use Rattle.names.proofs.Hashing.{hashed-first, hashed-none}
 use Rattle.names.proofs.hash_of.Statement.{statement}
 use Rattle.names.proofs.hash_of.Tie as tie
 
 abbrev Inv-loop : tie.InvT-loop
-Inv-loop s a b h₀ i₀ h i = (h < 256) × (hashed h (bytes s i b) ≡ hash (bytes s a b))
+Inv-loop s a b h₀ i₀ h i = (h < BUCKETS) × (hashed h (bytes s i b) ≡ hash (bytes s a b))
 
 abbrev μ-loop : tie.MeasureT-loop
 μ-loop s a b h₀ i₀ h i = b - i

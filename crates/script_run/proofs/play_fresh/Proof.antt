@@ -4,9 +4,15 @@ use borrow.Author.Needs.{needs}
 use Rattle.text.specs.Table.{TABLE}
 use Rattle.script_meaning.specs.Record.{Lent}
 use Rattle.script_meaning.specs.Whole.{Plays}
-use Rattle.script_run.proofs.Fresh.{fresh-tables, first-is}
+use Rattle.script_run.proofs.Fresh.{hand-fresh, hand-is}
 use Rattle.script_run.proofs.play_fresh.Statement.{statement}
 use Rattle.script_run.proofs.play_fresh.Tie as tie
+
+steps-alone-requires : tie.Need-steps-alone-requires
+steps-alone-requires c κs = search needs
+
+no-notes-requires : tie.Need-no-notes-requires
+no-notes-requires c κs = search needs
 
 slice-aggregate-advance : tie.Need-slice-aggregate-advance
 slice-aggregate-advance c = search needs
@@ -50,8 +56,8 @@ slice-aggregate-advance-13 c = search needs
 advance-requires : tie.Need-advance-requires
 unfolding TABLE
 advance-requires c κs =
-    let start = c .before .before .before .before .before .before .before .before .before .before .before .before .before .before .before .before .before in
-    (refl, fresh-tables (start .args .out .now))
+    let start = c .before .before .before .before .before .before .before .before .before .before .before .before .before .before .before .before .before .before .before in
+    (refl, hand-fresh (c .before .before .before .before .before .before .before .before .before .before .before .before .before .before .before .before .steps-alone .ensures) (c .before .before .before .before .before .before .before .before .before .before .before .before .before .before .before .no-notes .ensures) (start .args .out .now))
 
 same-length : tie.Need-same-length
 same-length c =
@@ -60,14 +66,16 @@ same-length c =
 
 returns : tie.Need-returns
 returns c =
-    let start = c .before .before .before .before .before .before .before .before .before .before .before .before .before .before .before .before .before .before .before .before .before .before .before .before .before .before .before .before .before .before .before .before .before in
+    let start = c .before .before .before .before .before .before .before .before .before .before .before .before .before .before .before .before .before .before .before .before .before .before .before .before .before .before .before .before .before .before .before .before .before .before .before in
     let advance = c .before .before .before .before .before .before .before .before .before .before .before .before .before .before .before .advance in
-    subst (λ (l : Lent). Plays (start .args .s .now) 0 l 0 (advance .result .number) (advance .result .written) (advance .last .1 .1 .1 .1 .1 .1 .1 .1 .1 .1 .1 .1 .1 .1 .1 .1 .1 .1 .0)) (first-is (start .args .out .now)) (advance .ensures .0 .plays)
+    subst (λ (l : Lent). Plays (start .args .s .now) 0 l 0 (advance .result .number) (advance .result .written) (advance .last .1 .1 .1 .1 .1 .1 .1 .1 .1 .1 .1 .1 .1 .1 .1 .1 .1 .1 .0)) (hand-is (c .before .before .before .before .before .before .before .before .before .before .before .before .before .before .before .before .before .before .before .before .before .before .before .before .before .before .before .before .before .before .before .before .steps-alone .ensures) (c .before .before .before .before .before .before .before .before .before .before .before .before .before .before .before .before .before .before .before .before .before .before .before .before .before .before .before .before .before .before .before .no-notes .ensures) (start .args .out .now)) (advance .ensures .0 .plays)
 
 pub play-fresh-spec : {M : Type 1} → statement M
 play-fresh-spec =
     tie.close
     (tie.spec
+    steps-alone-requires
+    no-notes-requires
     slice-aggregate-advance
     slice-aggregate-advance-2
     slice-aggregate-advance-3

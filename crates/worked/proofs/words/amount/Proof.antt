@@ -8,15 +8,17 @@ use mir.Syntax.{w32}
 use mir.Val.{SFits, toZ}
 use mir.ValLaws.{toZ-pos}
 use borrow.Author.Needs.{needs}
-use Rattle.meaning.proofs.Whole.{up, dn, minus-is}
+use Rattle.meaning.specs.Reckoning.{up, dn}
+use Rattle.meaning.proofs.Whole.{minus-is}
+use Rattle.lent.specs.Lent.{BIAS}
 use Rattle.worked.proofs.words.amount.Statement.{statement}
 use Rattle.worked.proofs.words.amount.Tie as tie
 
-near : (z : ℤ) (n : ℕ) → up z + n ≡ dn z → n < 2147483648 → mag z < 2147483648
+near : (z : ℤ) (n : ℕ) → up z + n ≡ dn z → n < BIAS → mag z < BIAS
 near (pos m) n e l = omega arith
 near (negsuc m) n e l = omega arith
 
-negative : (n : ℕ) → n < 2147483648 → SFits w32 (pos 0 -ℤ pos n)
+negative : (n : ℕ) → n < BIAS → SFits w32 (pos 0 -ℤ pos n)
 negative n l = record { sfits = near (pos 0 -ℤ pos n) n (omega (arith, minus-is (pos 0) (pos n))) l }
 
 cast-c : tie.Need-cast-c
@@ -24,8 +26,8 @@ cast-c c = search needs
 
 sub-result : tie.Need-sub-result
 sub-result c =
-    let small : c .before .args .size % 2147483648 < 2147483648 = omega arith in
-    rw (toZ-pos w32 (c .before .args .size % 2147483648) small) (negative (c .before .args .size % 2147483648) small)
+    let small : c .before .args .size % BIAS < BIAS = omega arith in
+    rw (toZ-pos w32 (c .before .args .size % BIAS) small) (negative (c .before .args .size % BIAS) small)
 
 returns : tie.Need-returns
 returns c = search needs
