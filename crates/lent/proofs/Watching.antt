@@ -2,14 +2,13 @@
 -- so tables with idle watched rules are sound by the first part alone.
 use Prim.Native.Nat.{ℕ, _≤_, _<_}
 use native.Mathlib.Omega.{arith}
-use mathlib.Core.Path.{_≡_, sym, ap, subst}
-use mathlib.Core.List.{List}
-use lib.ListN.{replicate, length-replicate, getD-replicate, getD}
-use lib.IntN.{ℤ, pos}
+use mathlib.Core.Path.{_≡_, sym, subst}
+use lib.ListN.{length-replicate, getD-replicate}
+use lib.IntN.{pos}
 use Rattle.meaning.specs.declared.Counts.{Counts}
 use Rattle.meaning.specs.Bounds.{WATCHED}
-use Rattle.meaning.specs.Rules.{InBounds, InAmount}
-use Rattle.meaning.specs.Tables.{Columns, Tables, rule-at, ColumnsRoom, Room, Sound}
+use Rattle.meaning.specs.Rules.{InAmount}
+use Rattle.meaning.specs.Tables.{Columns, Tables, rule-at, ColumnsRoom}
 use Rattle.lent.specs.Idle.{idle, watching, WatchedFine}
 use Rattle.lent.specs.Promises.{Border}
 
@@ -42,10 +41,6 @@ idle-fine c some few = record {
     amount-in = subst InAmount (sym (amount-0 i (omega arith))) (record { not-below = record { le = tt }; not-above = record { le = tt } });
   };
 }
-
--- The watched part of sound tables with room.
-pub watched-part : {t : Tables} → Border t → WatchedFine (t .counts) (t .watched)
-watched-part b = record { room = b .room .watched-room; good = b .sound .watched-good }
 
 -- The rest of it goes with any watched rules that are fine.
 pub watching-border : {t : Tables} {w : Columns} → Border t → WatchedFine (t .counts) w → Border (watching w t)

@@ -1,9 +1,8 @@
 -- What can be told, and looking through the numbers below n, from the last down: one that has what is sought, whether all have it, and the largest value.
 use Prim.Native.Nat.{ℕ, zero, suc, _≤_, _<_, max}
 use native.Mathlib.Omega.{arith}
-use native.Mathlib.Decide.{ℕ-discrete, decLe}
+use native.Mathlib.Decide.{ℕ-discrete}
 use mathlib.Core.Path.{_≡_, ap, subst}
-use mathlib.Core.Bool.{Bool, true, Bool-discrete}
 use mathlib.Core.Logic.{_⊎_, inl, inr, ⊎-elim}
 
 -- Both can be told where each can.
@@ -60,10 +59,6 @@ all-below? P tell n = found (some-below? (λ v. P v → ⊥) (λ v. not? (tell v
         so v below (yes h) = h
         so v below (no not-so) = absurd (none (v, below, not-so))
 
--- Whether some number below n passes the test.
-pub passes-below? : (f : ℕ → Bool) (n : ℕ) → Dec ((v : ℕ) × (v < n) × (f v ≡ true))
-passes-below? f n = some-below? (λ v. f v ≡ true) (λ v. Bool-discrete (f v) true) n
-
 -- The largest value below n, and 0 where there is none.
 unfoldable pub largest : (ℕ → ℕ) → ℕ → ℕ
 largest f zero = 0
@@ -78,16 +73,3 @@ largest-over f (suc n) v below = place (ℕ-discrete v n) (largest-over f n v)
     place : Dec (v ≡ n) → (v < n → f v ≤ largest f n) → f v ≤ max (largest f n) (f n)
     place (yes e) before = omega (arith, ap f e)
     place (no other) before = omega (arith, before (omega arith))
-
--- Some value below n reaches it, where there is one.
-pub largest-reached : (f : ℕ → ℕ) (n : ℕ) → 1 ≤ n → (v : ℕ) × (v < n) × (f v ≡ largest f n)
-unfolding largest
-largest-reached f zero some = absurd (omega arith)
-largest-reached f (suc zero) some = (0, omega arith, omega arith)
-largest-reached f (suc (suc n)) some = which (largest-reached f (suc n) (omega arith)) (decLe (largest f (suc n)) (f (suc n)))
-  where
-    which :
-        (v : ℕ) × (v < suc n) × (f v ≡ largest f (suc n)) → Dec (largest f (suc n) ≤ f (suc n)) →
-        (v : ℕ) × (v < suc (suc n)) × (f v ≡ max (largest f (suc n)) (f (suc n)))
-    which (v, below, e) (yes last) = (suc n, omega arith, omega arith)
-    which (v, below, e) (no last) = (v, omega arith, omega arith)

@@ -1,7 +1,7 @@
 -- The order of refusals. The first need not met fixes the number, and where the needs' numbers rise it is the lowest number that applies.
-use Prim.Native.Nat.{ℕ, zero, suc, _≤_, _<_}
+use Prim.Native.Nat.{ℕ, _≤_, _<_}
 use native.Mathlib.Omega.{arith}
-use mathlib.Core.Path.{_≡_, refl, sym, _∙_, ap, subst}
+use mathlib.Core.Path.{_≡_, refl, sym, _∙_, subst}
 use mathlib.Core.List.{List, [], _∷_, _++_}
 use mathlib.Core.Logic.{_⊎_, inl, inr, _↔_}
 use mathlib.Core.Bool.{Bool, true, false, not, _&&_}
@@ -10,7 +10,7 @@ use borrow.Author.Tests.{eq-eqb}
 use Rattle.meaning.specs.Bounds.{DONE, CONFLICT}
 use Rattle.meaning.specs.Rules.{Rule}
 use Rattle.meaning.specs.Tables.{Tables}
-use Rattle.meaning.specs.Promise.{Given, bare, given, Need, First, Meaning, Obeys}
+use Rattle.meaning.specs.Promise.{bare, Need, First, Meaning, Obeys}
 use Rattle.meaning.specs.Calls.{WithList, WithLists, open-meaning, watch-meaning, add-meaning, mark-meaning, back-meaning, trial-meaning, consequences-meaning, ring-check-meaning}
 
 -- ---- the number is fixed
@@ -143,11 +143,6 @@ pub first-stops : (l k : List Need) (g : ℕ) → (g ≡ DONE → ⊥) → First
 first-stops [] k g some f = absurd (some f)
 first-stops (n ∷ l) k g some (inl a) = inl a
 first-stops (n ∷ l) k g some (inr a) = inr (a .0, first-stops l k g some (a .1))
-
--- Where every need of l is met, those behind it decide.
-pub first-passes : (l k : List Need) (g : ℕ) → AllMet l → First k g → First (l ++ k) g
-first-passes [] k g met f = f
-first-passes (n ∷ l) k g met f = inr (met .0, first-passes l k g (met .1) f)
 
 -- The test that no need of l has the number k; then, if k is not DONE, it is not given.
 abbrev pub none-has : ℕ → List Need → Bool

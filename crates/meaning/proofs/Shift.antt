@@ -1,23 +1,13 @@
--- Adding one whole number to all days keeps every rule, which speaks of differences only; so an arrangement, raised by its lowest day
--- where that is below 0, is a plan.
+-- A rule speaks of differences only; so an arrangement, raised by its lowest day where that is below 0, is a plan.
 use Prim.Native.Nat.{ℕ, _+_, _-_, _<_}
 use native.Mathlib.Omega.{arith}
 use mathlib.Core.Path.{_≡_}
 use mathlib.Core.Logic.{_↔_}
 use lib.IntN.{ℤ, pos, _+ℤ_}
-use Rattle.meaning.specs.Rules.{Rule, Keeps, InSteps, Arrangement, Plan}
+use Rattle.meaning.specs.Rules.{Rule, InSteps, Arrangement, Plan}
 use Rattle.meaning.specs.Reckoning.{up, dn}
-use Rattle.meaning.proofs.Whole.{→eq, add-is, keeps→, →keeps, →plan}
+use Rattle.meaning.proofs.Whole.{→eq, add-is, keeps→, →plan}
 use Rattle.meaning.proofs.Below.{largest, largest-over}
-
--- Days that keep a rule keep it with one whole number added to all of them.
-pub keeps-shift : (d : ℕ → ℤ) (r : Rule) → Keeps d r → (k : ℤ) → Keeps (λ v. d v +ℤ k) r
-keeps-shift d r kept k =
-    →keeps (λ v. d v +ℤ k) r (omega (arith, keeps→ d r kept, add-is (d (r .first)) k, add-is (d (r .second)) k))
-
--- One whole number added to all days keeps an arrangement.
-pub arrangement-shift : (R : ℕ → Rule) (H : ℕ → Type 0) (d : ℕ → ℤ) → Arrangement R H d → (k : ℤ) → Arrangement R H (λ v. d v +ℤ k)
-arrangement-shift R H d kept k i held = keeps-shift d (R i) (kept i held) k
 
 -- A plan that is the arrangement d, shifted, on the steps below n.
 pub record Shifted (n : ℕ) (R : ℕ → Rule) (H : ℕ → Type 0) (d : ℕ → ℤ) : Type 0 where

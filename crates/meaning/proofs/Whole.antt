@@ -2,9 +2,9 @@
 use Prim.Native.Nat.{ℕ, zero, suc, _+_, _-_, _≤_, _<_}
 use native.Mathlib.Omega.{arith}
 use native.Mathlib.Decide.{decLe, decLt}
-use mathlib.Core.Path.{_≡_, refl, sym, _∙_, ap}
+use mathlib.Core.Path.{_≡_, refl, ap}
 use mathlib.Core.Bool.{Bool, true, false, not, cond}
-use lib.Dec.{T, leb, ltb, leb→le, le→leb, ltb→lt, lt→ltb, nltb→le, not-T}
+use lib.Dec.{T, ltb, leb→le, le→leb, ltb→lt, lt→ltb, nltb→le}
 use lib.IntN.{ℤ, pos, negsuc, negℤ, subℕ, _+ℤ_, _-ℤ_}
 use lib.Signed.{_≤ℤ_, _<ℤ_, leZ, ltZ}
 use Rattle.meaning.specs.Rules.{Rule, Keeps, Tight}
@@ -79,11 +79,6 @@ add-is (negsuc a) (negsuc b) = omega arith
 
 pub minus-is : (a b : ℤ) → up (a -ℤ b) + (dn a + up b) ≡ dn (a -ℤ b) + (up a + dn b)
 minus-is a b = omega (arith, add-is a (negℤ b), up-neg b, dn-neg b)
-
--- A whole number is on one side of 0 only.
-pub one-side : (a : ℤ) (k : ℕ) → up a ≡ suc k → dn a ≡ 0
-one-side (pos a) k h = refl
-one-side (negsuc a) k h = absurd (omega arith)
 
 -- That days keep a rule, over natural numbers; and for a plan.
 pub keeps→ : (d : ℕ → ℤ) (r : Rule) → Keeps d r → up (d (r .first)) + dn (d (r .second)) + dn (r .amount) ≤ dn (d (r .first)) + up (d (r .second)) + up (r .amount)

@@ -25,17 +25,20 @@ clear-requires c κs = search needs
 
 loop-holds : tie.Need-loop-holds Inv-loop μ-loop
 loop-holds c =
-    let start = c .before .before .before .before .before .before .before in
-    (refl, refl, omega arith, chained-none (start .args .n) (start .args .xs .now) (c .before .before .clear .last .1 .0) (start .args .nexts .now) (c .before .before .clear .ensures))
+    let at-clear = c .before .before in
+    let start = at-clear .before .before .before .before .before in
+    (refl, refl, omega arith, chained-none (start .args .n) (start .args .xs .now) (at-clear .clear .last .1 .0) (start .args .nexts .now) (at-clear .clear .ensures))
 
 push-requires : tie.Need-push-requires Inv-loop μ-loop
 push-requires c κs =
+    let in-loop = c .before .before in
     let head = c .before .before .before in
+    let clear = in-loop .before .before .before .before .clear in
     record {
-      first-place = omega (arith, c .before .before .loop-test .taken, entry head .pre .firsts-room);
-      next-place = omega (arith, c .before .before .loop-test .taken, head .loop .inv .1, entry head .pre .nexts-room);
-      head-place = omega (arith, entry head .pre .firsts-in (head .loop .k) (c .before .before .loop-test .taken), head .loop .inv .0, c .before .before .before .before .before .before .clear .kept .1 .0, entry head .pre .heads-room);
-      link-fits = omega (arith, c .before .before .loop-test .taken, entry head .pre .links-fit);
+      first-place = omega (arith, in-loop .loop-test .taken, entry head .pre .firsts-room);
+      next-place = omega (arith, in-loop .loop-test .taken, head .loop .inv .1, entry head .pre .nexts-room);
+      head-place = omega (arith, entry head .pre .firsts-in (head .loop .k) (in-loop .loop-test .taken), head .loop .inv .0, clear .kept .1 .0, entry head .pre .heads-room);
+      link-fits = omega (arith, in-loop .loop-test .taken, entry head .pre .links-fit);
     }
 
 add-k : tie.Need-add-k Inv-loop μ-loop
@@ -46,12 +49,14 @@ loop-less c = search needs
 
 loop-again : tie.Need-loop-again Inv-loop μ-loop
 loop-again c =
-    let head = c .before .before .before .before .before .before .before .before in (
-      c .before .before .before .before .push .kept .1 .0 ∙ head .loop .inv .0,
-      c .before .before .before .before .push .kept .1 .1 .0 ∙ head .loop .inv .1,
-      omega (arith, c .before .before .before .before .before .before .before .loop-test .taken),
-      chained-more (entry head .args .n) (head .loop .k) (entry head .args .xs .now) (entry head .pre .firsts-in (head .loop .k) (c .before .before .before .before .before .before .before .loop-test .taken))
-          (head .loop .heads) (head .loop .nexts) _ _ (c .before .before .before .before .push .ensures) (head .loop .inv .3),
+    let at-push = c .before .before .before .before in
+    let in-loop = at-push .before .before .before in
+    let head = in-loop .before in (
+      at-push .push .kept .1 .0 ∙ head .loop .inv .0,
+      at-push .push .kept .1 .1 .0 ∙ head .loop .inv .1,
+      omega (arith, in-loop .loop-test .taken),
+      chained-more (entry head .args .n) (head .loop .k) (entry head .args .xs .now) (entry head .pre .firsts-in (head .loop .k) (in-loop .loop-test .taken))
+          (head .loop .heads) (head .loop .nexts) _ _ (at-push .push .ensures) (head .loop .inv .3),
     )
 
 same-length : tie.Need-same-length Inv-loop μ-loop

@@ -18,7 +18,8 @@ biased-requires c κs = search needs
 
 returns : tie.Need-returns
 returns c =
-    rw (toZ-ofZ w32 (getD (c .before .before .args .list .now) (c .before .before .args .i) (pos 0)) (record { sfits = c .before .biased-arg .given })) at
+    let start = c .before .before in
+    rw (toZ-ofZ w32 (getD (start .args .list .now) (start .args .i) (pos 0)) (record { sfits = c .before .biased-arg .given })) at
     (c .biased .ensures)
 
 pub amount-at-spec : {M : Type 1} → statement M

@@ -18,7 +18,8 @@ amount-fits-requires c κs = search needs
 
 returns : tie.Need-returns
 returns c =
-    rw (toZ-ofZ w32 (getD (c .before .before .args .list .now) (c .before .before .args .i) (pos 0)) (record { sfits = c .before .amount-fits-arg .given })) at
+    let start = c .before .before in
+    rw (toZ-ofZ w32 (getD (start .args .list .now) (start .args .i) (pos 0)) (record { sfits = c .before .amount-fits-arg .given })) at
     (c .amount-fits .ensures)
 
 pub amount-in-spec : {M : Type 1} → statement M

@@ -20,7 +20,10 @@ add-result : tie.Need-add-result
 add-result c = omega (arith, c .before .day-at .ensures, c .amount-at .ensures .narrow, c .before .before .before .shared-slice-known2 .given (c .before .before .number-at .result))
 
 returns : tie.Need-returns
-returns c = omega (arith, c .before .before .number-at .ensures, c .amount-at .ensures .is, ap (λ (y : ℕ). getD (c .before .before .before .before .before .args .days .now) y 0) (c .before .before .number-at .ensures), c .before .day-at .ensures)
+returns c =
+    let at-number-at = c .before .before in
+    let start = at-number-at .before .before .before in
+    omega (arith, at-number-at .number-at .ensures, c .amount-at .ensures .is, ap (λ (y : ℕ). getD (start .args .days .now) y 0) (at-number-at .number-at .ensures), c .before .day-at .ensures)
 
 pub latest-spec : {M : Type 1} → statement M
 latest-spec =

@@ -24,15 +24,19 @@ add-result c = omega (arith, c .day-at .ensures, c .before .before .before .shar
 -- The first step's day is within the rule's limit.
 day-within : (c : tie.After-day-at) → c .day-at .result + BIAS ≤ c .before .before .latest .result
 day-within c =
-    let args = c .before .before .before .before .before .before .args in
+    let at-latest = c .before .before in
+    let start = at-latest .before .before .before .before in
+    let args = start .args in
     let day : c .day-at .result ≡ getD (args .days .now) (getD (args .xs .now) (args .i) 0) 0 = c .day-at .ensures ∙ ap (λ (x : ℕ). getD (args .days .now) x 0) (c .before .number-at .ensures) in
-    omega (arith, kept→within (args .xs .now) (args .ys .now) (args .cs .now) (args .days .now) (args .i) (c .before .before .latest .result) (c .before .before .latest .ensures) (c .before .before .before .before .before .before .pre .1))
+    omega (arith, kept→within (args .xs .now) (args .ys .now) (args .cs .now) (args .days .now) (args .i) (at-latest .latest .result) (at-latest .latest .ensures) (start .pre .1))
 
 sub-result : tie.Need-sub-result
 sub-result c = day-within c
 
 returns : tie.Need-returns
-returns c = omega (arith, day-within c, c .before .before .latest .ensures, c .day-at .ensures, ap (λ (x : ℕ). getD (c .before .before .before .before .before .before .args .days .now) x 0) (c .before .number-at .ensures))
+returns c =
+    let start = c .before .before .before .before .before .before in
+    omega (arith, day-within c, c .before .before .latest .ensures, c .day-at .ensures, ap (λ (x : ℕ). getD (start .args .days .now) x 0) (c .before .number-at .ensures))
 
 pub slack-spec : {M : Type 1} → statement M
 slack-spec =
