@@ -44,26 +44,32 @@ number-at-requires : tie.Need-number-at-requires Inv-loop μ-loop
 number-at-requires c κs = search needs
 
 gain-at-requires : tie.Need-gain-at-requires Inv-loop μ-loop
-gain-at-requires c κs = omega (arith, c .number-at .ensures, c .before .before .before .pre .listed-in (c .before .before .before .args .from) (omega arith) (c .before .before .before .pre .some))
+gain-at-requires c κs =
+    let start = c .before .before .before in
+    omega (arith, c .number-at .ensures, start .pre .listed-in (start .args .from) (omega arith) (start .pre .some))
 
 loop-holds : tie.Need-loop-holds Inv-loop μ-loop
 loop-holds c =
-    let list = c .before .before .before .before .args .list .now in
-    let gains = c .before .before .before .before .args .gains .now in (
+    let start = c .before .before .before .before in
+    let list = start .args .list .now in
+    let gains = start .args .gains .now in (
       record {
         not-before = omega arith;
         place-in = omega arith;
-        largest = λ i i-from i-in. let e : i ≡ c .before .before .before .before .args .from = omega arith in omega (arith, ap (λ (a : ℕ). at gains (at list a)) e);
+        largest = λ i i-from i-in. let e : i ≡ start .args .from = omega arith in omega (arith, ap (λ (a : ℕ). at gains (at list a)) e);
       },
       c .gain-at .ensures ∙ ap (at gains) (c .before .number-at .ensures),
-      omega (arith, c .before .before .before .before .pre .some),
+      omega (arith, start .pre .some),
     )
 
 number-at-requires-2 : tie.Need-number-at-requires-2 Inv-loop μ-loop
 number-at-requires-2 c κs = search needs
 
 gain-at-requires-2 : tie.Need-gain-at-requires-2 Inv-loop μ-loop
-gain-at-requires-2 c κs = omega (arith, c .number-at2 .ensures, c .before .before .before .before .before .before .before .pre .listed-in (c .before .before .loop .j) (omega (arith, c .before .before .loop .inv .0 .not-before, c .before .before .loop .inv .0 .place-in)) (c .before .loop-test .taken))
+gain-at-requires-2 c κs =
+    let at-loop = c .before .before in
+    let start = at-loop .before .before .before .before .before in
+    omega (arith, c .number-at2 .ensures, start .pre .listed-in (at-loop .loop .j) (omega (arith, at-loop .loop .inv .0 .not-before, at-loop .loop .inv .0 .place-in)) (c .before .loop-test .taken))
 
 add-j : tie.Need-add-j Inv-loop μ-loop
 add-j c = search needs
@@ -76,20 +82,23 @@ loop-less c = search needs
 
 loop-again : tie.Need-loop-again Inv-loop μ-loop
 loop-again c =
-    let list = c .before .before .before .before .before .before .before .before .before .args .list .now in
-    let gains = c .before .before .before .before .before .before .before .before .before .args .gains .now in
+    let at-loop = c .before .before .before .before in
+    let start = at-loop .before .before .before .before .before in
+    let list = start .args .list .now in
+    let gains = start .args .gains .now in
     let passed =
-    one-more (at gains) (at list) (c .before .before .before .before .before .before .before .before .before .args .from) (c .before .before .before .before .loop .j) (c .before .before .before .before .loop .best) (c .before .before .before .before .loop .top) (c .before .gain-at2 .result) (c .if1 .best) (c .if1 .top) (c .before .before .before .before .loop .inv .0) (c .before .before .before .before .loop .inv .1)
+    one-more (at gains) (at list) (start .args .from) (at-loop .loop .j) (at-loop .loop .best) (at-loop .loop .top) (c .before .gain-at2 .result) (c .if1 .best) (c .if1 .top) (at-loop .loop .inv .0) (at-loop .loop .inv .1)
     (c .before .gain-at2 .ensures ∙ ap (at gains) (c .before .before .number-at2 .ensures))
     (⊎-elim (λ w. inl (omega (arith, w .0 .taken), w .1, w .2)) (λ w. inr (omega (arith, w .0 .left), w .1, w .2)) (c .if1 .came)) in
     (passed .0, passed .1, omega (arith, c .before .before .before .loop-test .taken))
 
 returns : tie.Need-returns Inv-loop μ-loop
 returns c =
-    let list = c .before .before .before .before .before .before .args .list .now in
-    let gains = c .before .before .before .before .before .before .args .gains .now in
-    let all : c .before .loop .j ≡ c .before .before .before .before .before .before .args .to = omega (arith, c .before .loop .inv .2, c .loop-test .left) in
-    subst (λ (k : ℕ). LargestIn (at gains) (at list) (c .before .before .before .before .before .before .args .from) k (c .before .loop .best)) all (c .before .loop .inv .0)
+    let start = c .before .before .before .before .before .before in
+    let list = start .args .list .now in
+    let gains = start .args .gains .now in
+    let all : c .before .loop .j ≡ start .args .to = omega (arith, c .before .loop .inv .2, c .loop-test .left) in
+    subst (λ (k : ℕ). LargestIn (at gains) (at list) (start .args .from) k (c .before .loop .best)) all (c .before .loop .inv .0)
 
 pub largest-spec : {M : Type 1} → statement M
 largest-spec =

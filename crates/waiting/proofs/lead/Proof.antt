@@ -1,4 +1,4 @@
--- `waiting::lead` meets its contract.
+-- `waiting::lead` meets its contract: the two readings say which gain is larger, and the leader changes exactly then.
 use Prim.Native.Nat.{ℕ, _≤_, _<_}
 use mathlib.Core.Path.{_≡_, refl, ap}
 use mathlib.Core.Logic.{inl, inr}
@@ -38,13 +38,17 @@ same-length : tie.Need-same-length
 same-length c = search needs
 
 returns : tie.Need-returns
-returns c = inl (less (c .before .before .before .before .before .before .before .args .gains .now) _ _ _ _ _ (c .before .before .before .number-at .ensures) (c .before .before .gain-at .ensures) (c .before .gain-at2 .ensures) (c .if1 .taken), refl)
+returns c =
+    let start = c .before .before .before .before .before .before .before in
+    inl (less (start .args .gains .now) _ _ _ _ _ (c .before .before .before .number-at .ensures) (c .before .before .gain-at .ensures) (c .before .gain-at2 .ensures) (c .if1 .taken), refl)
 
 same-length-2 : tie.Need-same-length-2
 same-length-2 c = search needs
 
 returns-2 : tie.Need-returns-2
-returns-2 c = inr (not-less (c .before .before .before .before .before .before .before .args .gains .now) _ _ _ _ _ (c .before .before .before .number-at .ensures) (c .before .before .gain-at .ensures) (c .before .gain-at2 .ensures) (c .if1 .left), refl)
+returns-2 c =
+    let start = c .before .before .before .before .before .before .before in
+    inr (not-less (start .args .gains .now) _ _ _ _ _ (c .before .before .before .number-at .ensures) (c .before .before .gain-at .ensures) (c .before .gain-at2 .ensures) (c .if1 .left), refl)
 
 pub lead-spec : {M : Type 1} → statement M
 lead-spec =
