@@ -1,4 +1,4 @@
--- `spread::begin` meets its contract.
+-- `spread::begin` meets its contract: the step has the one gain, and enters an empty list.
 use Prim.Native.Nat.{ℕ, _<_}
 use mathlib.Core.Path.{_≡_, subst}
 use lib.ListN.{length, set}
@@ -27,10 +27,11 @@ slice-write-by c = search needs
 
 enter-requires : tie.Need-enter-requires
 enter-requires c κs =
-    let a = c .before .before .before .before .before .before .before .before .before .args in
-    let pre = c .before .before .before .before .before .before .before .before .before .pre .0 in
+    let start = c .before .before .before .before .before .before .before .before .before in
+    let a = start .args in
+    let pre = start .pre .0 in
     let gain-in : a .y < length (a .gains .now) = omega (arith, pre .step-in, pre .gains-room) in (
-      room-set (a .n) (a .gains .now) (a .list .now) (a .places .now) (a .leaders .now) (a .y) (a .gain) (c .before .before .before .before .before .before .before .before .before .pre .1),
+      room-set (a .n) (a .gains .now) (a .list .now) (a .places .now) (a .leaders .now) (a .y) (a .gain) (start .pre .1),
       (
         led-all-but (a .y) (a .n) (at (set (a .gains .now) (a .y) (a .gain))) (at (a .list .now)) (at (a .places .now)) (at (a .leaders .now)) 0
             (led-none (a .n) (at (set (a .gains .now) (a .y) (a .gain))) (at (a .list .now)) (at (a .places .now)) (at (a .leaders .now))),
@@ -60,20 +61,22 @@ same-length-5 c = search needs
 
 returns : tie.Need-returns
 returns c =
-    let a = c .before .before .before .before .before .before .before .before .before .before .before .before .before .before .before .before .args in
-    let pre = c .before .before .before .before .before .before .before .before .before .before .before .before .before .before .before .before .pre .0 in
+    let at-enter = c .before .before .before .before .before .before in
+    let start = at-enter .before .before .before .before .before .before .before .before .before .before in
+    let a = start .args in
+    let pre = start .pre .0 in
     let gain-in : a .y < length (a .gains .now) = omega (arith, pre .step-in, pre .gains-room) in
     let by-in : a .y < length (a .by .now) = omega (arith, pre .step-in, pre .by-room) in
-    let one : 1 ≡ c .before .before .before .before .before .before .enter .result = omega (arith, c .before .before .before .before .before .before .enter .ensures .one-more) in (
+    let one : 1 ≡ at-enter .enter .result = omega (arith, at-enter .enter .ensures .one-more) in (
       record {
         asked = put-set (a .gains .now) (a .y) (a .gain) gain-in;
         collected =
-            subst (λ (k : ℕ). Collected (a .n) (at (set (a .gains .now) (a .y) (a .gain))) (at (set (a .by .now) (a .y) 0)) (at (c .before .before .before .before .before .before .enter .last .1 .1 .1 .0)) k) one
-            (collected-alone (a .n) (a .y) (a .gain) (at (a .gains .now)) (at (set (a .gains .now) (a .y) (a .gain))) (at (set (a .by .now) (a .y) 0)) (at (c .before .before .before .before .before .before .enter .last .1 .1 .1 .0))
+            subst (λ (k : ℕ). Collected (a .n) (at (set (a .gains .now) (a .y) (a .gain))) (at (set (a .by .now) (a .y) 0)) (at (at-enter .enter .last .1 .1 .1 .0)) k) one
+            (collected-alone (a .n) (a .y) (a .gain) (at (a .gains .now)) (at (set (a .gains .now) (a .y) (a .gain))) (at (set (a .by .now) (a .y) 0)) (at (at-enter .enter .last .1 .1 .1 .0))
             (pre .step-in) (pre .some) (pre .none-yet) (put-set (a .gains .now) (a .y) (a .gain) gain-in) (put-set (a .by .now) (a .y) 0 by-in .there)
-            (c .before .before .before .before .before .before .enter .ensures .put .there));
+            (at-enter .enter .ensures .put .there));
       },
-      c .before .before .before .before .before .before .enter .ensures .led,
+      at-enter .enter .ensures .led,
     )
 
 pub begin-spec : {M : Type 1} → statement M

@@ -23,6 +23,10 @@ Inv-loop n gains by₀ list₀ places₀ leaders₀ k₀ v₀ by list places lea
 abbrev μ-loop : tie.MeasureT-loop
 μ-loop n gains by₀ list₀ places₀ leaders₀ k₀ v₀ by list places leaders k v = n - v
 
+-- Places of the code, seen from later ones.
+abbrev start-before-at-loop : tie.At-loop Inv-loop μ-loop → tie.Start Inv-loop μ-loop
+start-before-at-loop c = c .before .before .before .before .before .before
+
 loop-holds : tie.Need-loop-holds Inv-loop μ-loop
 loop-holds c =
     let a = c .before .before .before .before .before .args in (
@@ -33,23 +37,32 @@ loop-holds c =
     )
 
 gain-at-requires : tie.Need-gain-at-requires Inv-loop μ-loop
-gain-at-requires c κs = omega (arith, c .loop-test .taken, c .before .before .before .before .before .before .before .pre .room .gains-room)
+gain-at-requires c κs =
+    let start = start-before-at-loop (c .before) in
+    omega (arith, c .loop-test .taken, start .pre .room .gains-room)
 
 mul-by : tie.Need-mul-by Inv-loop μ-loop
-mul-by c = omega (arith, c .before .before .loop-test .taken, c .before .before .before .before .before .before .before .before .before .pre .room .few)
+mul-by c =
+    let start = start-before-at-loop (c .before .before .before) in
+    omega (arith, c .before .before .loop-test .taken, start .pre .room .few)
 
 slice-write-by : tie.Need-slice-write-by Inv-loop μ-loop
-slice-write-by c = omega (arith, c .before .before .loop-test .taken, c .before .before .before .loop .inv .0 .0, c .before .before .before .before .before .before .before .before .before .pre .by-room)
+slice-write-by c =
+    let at-loop = c .before .before .before in
+    let start = start-before-at-loop at-loop in
+    omega (arith, c .before .before .loop-test .taken, at-loop .loop .inv .0 .0, start .pre .by-room)
 
 enter-requires : tie.Need-enter-requires Inv-loop μ-loop
 enter-requires c κs =
-    let a = c .before .before .before .before .before .before .before .before .before .before .before .before .args in
-    let l = c .before .before .before .before .before .before .loop in (
+    let in-loop = c .before .before .before .before .before in
+    let l = in-loop .before .loop in
+    let start = start-before-at-loop (in-loop .before) in
+    let a = start .args in (
       room-kept (a .n) (a .gains .now) (a .by .now) (a .list .now) (a .places .now) (a .leaders .now) (a .gains .now) (l .by) (l .list) (l .places) (l .leaders)
-          refl (l .inv .0 .0) (l .inv .0 .1) (l .inv .0 .2) (l .inv .0 .3) (c .before .before .before .before .before .before .before .before .before .before .before .before .pre) .room,
+          refl (l .inv .0 .0) (l .inv .0 .1) (l .inv .0 .2) (l .inv .0 .3) (start .pre) .room,
       (
         led-all-but (l .v) (a .n) (at (a .gains .now)) (at (l .list)) (at (l .places)) (at (l .leaders)) (l .k) (l .inv .3),
-        step-after (a .n) (at (a .gains .now)) (at (l .by)) (at (l .list)) (l .k) (l .v) (c .before .before .before .before .before .loop-test .taken) (omega (arith, c .before .before .before .if1 .taken, c .before .before .before .before .gain-at .ensures)) (l .inv .2),
+        step-after (a .n) (at (a .gains .now)) (at (l .by)) (at (l .list)) (l .k) (l .v) (in-loop .loop-test .taken) (omega (arith, c .before .before .before .if1 .taken, c .before .before .before .before .gain-at .ensures)) (l .inv .2),
       ),
     )
 
@@ -61,11 +74,13 @@ loop-less c = omega (arith, c .before .before .loop-test .taken)
 
 loop-again : tie.Need-loop-again Inv-loop μ-loop
 loop-again c =
-    let a = c .before .before .before .before .before .before .before .before .before .args in
+    let in-loop = c .before .before in
     let l = c .before .before .before .loop in
+    let start = in-loop .before .before .before .before .before .before .before in
+    let a = start .args in
     let more =
     collected-one (a .n) (a .gains .now) (l .by) (c .if1 .by) (l .list) (c .if1 .list) (l .places) (c .if1 .places) (l .leaders) (c .if1 .leaders) (l .k) (c .if1 .k) (l .v)
-    (omega (arith, c .before .before .loop-test .taken, l .inv .0 .0, c .before .before .before .before .before .before .before .before .before .pre .by-room)) (l .inv .2) (l .inv .3)
+    (omega (arith, in-loop .loop-test .taken, l .inv .0 .0, start .pre .by-room)) (l .inv .2) (l .inv .3)
     (⊎-elim
     (λ w. inl (omega (arith, w .0 .taken, c .before .gain-at .ensures), w .11, rw (w .12, w .13, w .14, w .15) (w .4 .ensures)))
     (λ w. inr (omega (arith, w .0 .left, c .before .gain-at .ensures), w .1, w .2, w .3, w .4, w .5))
@@ -79,7 +94,7 @@ loop-again c =
           ))
           (λ w. (rw (w .1) (l .inv .0 .0), rw (w .2) (l .inv .0 .1), rw (w .3) (l .inv .0 .2), rw (w .4) (l .inv .0 .3)))
           (c .if1 .came),
-      omega (arith, c .before .before .loop-test .taken),
+      omega (arith, in-loop .loop-test .taken),
       more .0,
       more .1,
     )
@@ -98,8 +113,8 @@ same-length-4 c = c .before .loop .inv .0 .3
 
 returns : tie.Need-returns Inv-loop μ-loop
 returns c =
-    let a = c .before .before .before .before .before .before .before .args in
     let l = c .before .loop in
+    let a = start-before-at-loop (c .before) .args in
     let all : l .v ≡ a .n = omega (arith, l .inv .1, c .loop-test .left) in
     (subst (λ (n : ℕ). Collected n (at (a .gains .now)) (at (l .by)) (at (l .list)) (l .k)) all (l .inv .2), l .inv .3)
 

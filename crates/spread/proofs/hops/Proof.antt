@@ -13,57 +13,73 @@ Inv-loop n m xs ys cs days gains by x y v₀ k₀ v k = WalkedBack n (first m) m
 abbrev μ-loop : tie.MeasureT-loop
 μ-loop n m xs ys cs days gains by x y v₀ k₀ v k = n - k
 
+-- Places of the code, seen from later ones.
+abbrev start-before-at-loop : tie.At-loop Inv-loop μ-loop → tie.Start Inv-loop μ-loop
+start-before-at-loop c = c .before .before .before .before .before .before
+
 -- The hop from the step that the walk has come to.
 here : (c : tie.In-loop Inv-loop μ-loop) →
-    let a = c .before .before .before .before .before .before .before .args in
-    Hop (a .n) (first (a .m)) (a .m) (a .xs .now) (a .ys .now) (a .cs .now) (a .days .now) (a .gains .now) (a .by .now) (a .x) (a .y) (c .before .before .before .before .before .before .before .pre) (c .before .loop .v)
+    let a = start-before-at-loop (c .before) .args in
+    Hop (a .n) (first (a .m)) (a .m) (a .xs .now) (a .ys .now) (a .cs .now) (a .days .now) (a .gains .now) (a .by .now) (a .x) (a .y) (start-before-at-loop (c .before) .pre) (c .before .loop .v)
 here c =
-    let a = c .before .before .before .before .before .before .before .args in
-    hop (a .n) (first (a .m)) (a .m) (a .xs .now) (a .ys .now) (a .cs .now) (a .days .now) (a .gains .now) (a .by .now) (a .x) (a .y) (c .before .before .before .before .before .before .before .pre) (c .before .loop .v) (c .before .loop .inv .step-in) (c .before .loop .inv .has)
+    let start = start-before-at-loop (c .before) in
+    let a = start .args in
+    hop (a .n) (first (a .m)) (a .m) (a .xs .now) (a .ys .now) (a .cs .now) (a .days .now) (a .gains .now) (a .by .now) (a .x) (a .y) (start .pre) (c .before .loop .v) (c .before .loop .inv .step-in) (c .before .loop .inv .has)
     (c .loop-test .taken)
 
 loop-holds : tie.Need-loop-holds Inv-loop μ-loop
 loop-holds c =
-    let a = c .before .before .before .before .before .args in
-    back-none (a .n) (first (a .m)) (a .m) (a .xs .now) (a .ys .now) (a .cs .now) (a .days .now) (a .gains .now) (a .by .now) (a .x) (a .y) (c .before .before .before .before .before .pre)
+    let start = c .before .before .before .before .before in
+    let a = start .args in
+    back-none (a .n) (first (a .m)) (a .m) (a .xs .now) (a .ys .now) (a .cs .now) (a .days .now) (a .gains .now) (a .by .now) (a .x) (a .y) (start .pre)
 
 number-at-requires : tie.Need-number-at-requires Inv-loop μ-loop
-number-at-requires c κs = omega (arith, c .before .loop .inv .step-in, c .before .before .before .before .before .before .before .pre .by-room)
+number-at-requires c κs =
+    let start = start-before-at-loop (c .before) in
+    omega (arith, c .before .loop .inv .step-in, start .pre .by-room)
 
 sub-number-at : tie.Need-sub-number-at Inv-loop μ-loop
 sub-number-at c = omega (arith, c .number-at .ensures, here (c .before) .named)
 
 number-at-requires-2 : tie.Need-number-at-requires-2 Inv-loop μ-loop
 number-at-requires-2 c κs =
-    omega (arith, c .number-at .ensures, c .before .before .before .before .before .before .before .before .pre .first-place _ (here (c .before) .came .held))
+    let start = start-before-at-loop (c .before .before) in
+    omega (arith, c .number-at .ensures, start .pre .first-place _ (here (c .before) .came .held))
 
 add-k : tie.Need-add-k Inv-loop μ-loop
 add-k c =
-    let a = c .before .before .before .before .before .before .before .before .before .args in
+    let at-loop = c .before .before .before in
+    let start = start-before-at-loop at-loop in
+    let a = start .args in
     omega (
       arith,
-      back-few (a .n) (first (a .m)) (a .m) (a .xs .now) (a .ys .now) (a .cs .now) (a .days .now) (a .gains .now) (a .by .now) (a .x) (a .y) (c .before .before .before .before .before .before .before .before .before .pre) (c .before .before .before .loop .v) (c .before .before .before .loop .k) (c .before .before .before .loop .inv),
-      c .before .before .before .before .before .before .before .before .before .fits .n,
+      back-few (a .n) (first (a .m)) (a .m) (a .xs .now) (a .ys .now) (a .cs .now) (a .days .now) (a .gains .now) (a .by .now) (a .x) (a .y) (start .pre) (at-loop .loop .v) (at-loop .loop .k) (at-loop .loop .inv),
+      start .fits .n,
     )
 
 loop-less : tie.Need-loop-less Inv-loop μ-loop
 loop-less c =
-    let a = c .before .before .before .before .before .before .before .before .before .args in
+    let at-loop = c .before .before .before in
+    let start = start-before-at-loop at-loop in
+    let a = start .args in
     omega (
       arith,
-      back-few (a .n) (first (a .m)) (a .m) (a .xs .now) (a .ys .now) (a .cs .now) (a .days .now) (a .gains .now) (a .by .now) (a .x) (a .y) (c .before .before .before .before .before .before .before .before .before .pre) (c .before .before .before .loop .v) (c .before .before .before .loop .k) (c .before .before .before .loop .inv),
+      back-few (a .n) (first (a .m)) (a .m) (a .xs .now) (a .ys .now) (a .cs .now) (a .days .now) (a .gains .now) (a .by .now) (a .x) (a .y) (start .pre) (at-loop .loop .v) (at-loop .loop .k) (at-loop .loop .inv),
     )
 
 loop-again : tie.Need-loop-again Inv-loop μ-loop
 loop-again c =
-    let a = c .before .before .before .before .before .before .before .before .before .args in
+    let at-loop = c .before .before .before in
+    let start = at-loop .before .before .before .before .before .before in
+    let a = start .args in
     rw (c .number-at2 .ensures, c .before .number-at .ensures)
-    (back-more (a .n) (first (a .m)) (a .m) (a .xs .now) (a .ys .now) (a .cs .now) (a .days .now) (a .gains .now) (a .by .now) (a .x) (a .y) (c .before .before .before .before .before .before .before .before .before .pre) (c .before .before .before .loop .v) (c .before .before .before .loop .k) (c .before .before .before .loop .inv) (c .before .before .loop-test .taken))
+    (back-more (a .n) (first (a .m)) (a .m) (a .xs .now) (a .ys .now) (a .cs .now) (a .days .now) (a .gains .now) (a .by .now) (a .x) (a .y) (start .pre) (at-loop .loop .v) (at-loop .loop .k) (at-loop .loop .inv) (c .before .before .loop-test .taken))
 
 returns : tie.Need-returns Inv-loop μ-loop
 returns c =
-    let a = c .before .before .before .before .before .before .before .args in
-    back-done (a .n) (first (a .m)) (a .m) (a .xs .now) (a .ys .now) (a .cs .now) (a .days .now) (a .gains .now) (a .by .now) (a .x) (a .y) (c .before .before .before .before .before .before .before .pre) (c .before .loop .v) (c .before .loop .k) (c .before .loop .inv) (c .loop-test .left)
+    let start = start-before-at-loop (c .before) in
+    let a = start .args in
+    back-done (a .n) (first (a .m)) (a .m) (a .xs .now) (a .ys .now) (a .cs .now) (a .days .now) (a .gains .now) (a .by .now) (a .x) (a .y) (start .pre) (c .before .loop .v) (c .before .loop .k) (c .before .loop .inv) (c .loop-test .left)
 
 pub hops-spec : {M : Type 1} → statement M
 hops-spec =

@@ -1,4 +1,4 @@
--- `spread::reached` meets its contract.
+-- `spread::reached` meets its contract: the halves of the `&&` are the two parts of the claim.
 use borrow.Author.Tests.{ltb-true, ltb-false}
 use native.Mathlib.Omega.{arith}
 use borrow.Author.Needs.{needs}
@@ -15,10 +15,12 @@ returns c = record {
 }
 
 returns-2 : tie.Need-returns-2
-returns-2 c = record {
-  so = λ e. absurd (omega (arith, c .if1 .left, ltb-true (c .before .before .args .goal) (c .before .before .args .n) e));
-  not-so = λ e h. omega (arith, c .if1 .left, h .0);
-}
+returns-2 c =
+    let start = c .before .before in
+    record {
+      so = λ e. absurd (omega (arith, c .if1 .left, ltb-true (start .args .goal) (start .args .n) e));
+      not-so = λ e h. omega (arith, c .if1 .left, h .0);
+    }
 
 pub reached-spec : {M : Type 1} → statement M
 reached-spec = tie.close (tie.spec gain-at-requires returns returns-2)

@@ -21,8 +21,14 @@ day-at-requires c κs = search needs
 amount-at-requires : tie.Need-amount-at-requires
 amount-at-requires c κs = search needs
 
+-- Places of the code, seen from later ones.
+abbrev start-before-number-at : tie.After-number-at → tie.Start
+start-before-number-at c = c .before .before .before .before .before .before .before .before
+
 add-far : tie.Need-add-far
-add-far c = omega (arith, c .before .day-at .ensures, c .amount-at .ensures .narrow, c .before .before .before .before .before .before .before .before .shared-slice-known2 .given (c .before .before .number-at .result))
+add-far c =
+    let shared-slice-known2 = c .before .before .before .before .before .before .before .before .shared-slice-known2 in
+    omega (arith, c .before .day-at .ensures, c .amount-at .ensures .narrow, shared-slice-known2 .given (c .before .before .number-at .result))
 
 mul-have : tie.Need-mul-have
 mul-have c = search needs
@@ -32,29 +38,40 @@ slice-read-have c = search needs
 
 add-if1 : tie.Need-add-if1
 add-if1 c =
+    let at-number-at = c .before .before .before in
+    let shared-slice-known2 = at-number-at .before .before .before .before .before .before .shared-slice-known2 in
+    let start = start-before-number-at at-number-at in
     omega (
       arith,
       c .before .before .day-at .ensures,
       c .before .amount-at .ensures .narrow,
-      c .before .before .before .before .before .before .before .before .before .shared-slice-known2 .given (c .before .before .before .number-at .result),
-      c .before .before .before .before .before .before .before .before .before .before .before .pre .0 .small,
-      ap (at (c .before .before .before .before .before .before .before .before .before .before .before .args .gains .now)) (c .before .before .before .number-at .ensures),
+      shared-slice-known2 .given (at-number-at .number-at .result),
+      start .pre .0 .small,
+      ap (at (start .args .gains .now)) (at-number-at .number-at .ensures),
     )
 
 returns : tie.Need-returns
 returns c =
-    let args = c .before .before .before .before .before .before .before .before .before .before .before .before .args in (
-      inl (kept _ (args .days .now) (args .gains .now) (args .by .now) (args .list .now) (args .k) (args .reach) (c .before .before .before .before .number-at .result) _ (c .before .before .before .day-at .result) (c .before .before .amount-at .result)
-          (c .before .before .before .before .number-at .ensures) (c .before .before .before .day-at .ensures) (c .before .before .amount-at .ensures) (omega (arith, c .if1 .taken))),
-      c .before .before .before .before .before .before .before .before .before .before .before .before .pre .1 .1,
+    let at-amount-at = c .before .before in
+    let day-at = at-amount-at .before .day-at in
+    let at-number-at = at-amount-at .before .before in
+    let start = start-before-number-at at-number-at in
+    let args = start .args in (
+      inl (kept _ (args .days .now) (args .gains .now) (args .by .now) (args .list .now) (args .k) (args .reach) (at-number-at .number-at .result) _ (day-at .result) (at-amount-at .amount-at .result)
+          (at-number-at .number-at .ensures) (day-at .ensures) (at-amount-at .amount-at .ensures) (omega (arith, c .if1 .taken))),
+      start .pre .1 .1,
     )
 
 -- The second step is one below n, and has a gain.
-step-in : (c : tie.After-number-at) → c .number-at .result < c .before .before .before .before .before .before .before .before .args .n
-step-in c = omega (arith, c .number-at .ensures, c .before .before .before .before .before .before .before .before .pre .0 .second-in)
+step-in : (c : tie.After-number-at) → c .number-at .result < start-before-number-at c .args .n
+step-in c =
+    let start = start-before-number-at c in
+    omega (arith, c .number-at .ensures, start .pre .0 .second-in)
 
-gain-in : (c : tie.After-number-at) → c .number-at .result < length (c .before .before .before .before .before .before .before .before .args .gains .now)
-gain-in c = omega (arith, c .number-at .ensures, c .before .before .before .before .before .before .before .before .pre .0 .second-gain)
+gain-in : (c : tie.After-number-at) → c .number-at .result < length (start-before-number-at c .args .gains .now)
+gain-in c =
+    let start = start-before-number-at c in
+    omega (arith, c .number-at .ensures, start .pre .0 .second-gain)
 
 sub-gains : tie.Need-sub-gains
 sub-gains c = search needs
@@ -79,15 +96,20 @@ slice-write-by c = search needs
 
 rise-requires : tie.Need-rise-requires
 rise-requires c κs =
-    let args = c .before .before .before .before .before .before .before .before .before .before .before .before .before .before .before .before .before .args in
-    let y = c .before .before .before .before .before .before .before .before .before .number-at .result in
-    let gain = args .reach - (c .before .before .before .before .before .before .before .before .day-at .result + c .before .before .before .before .before .before .before .amount-at .result) in (
-      room-set (args .n) (args .gains .now) (args .list .now) (args .places .now) (args .leaders .now) y gain (c .before .before .before .before .before .before .before .before .before .before .before .before .before .before .before .before .before .pre .1 .0),
+    let else1 = c .before .before .before .before .before in
+    let at-amount-at = else1 .before .before in
+    let day-at = at-amount-at .before .day-at in
+    let at-number-at = at-amount-at .before .before in
+    let start = start-before-number-at at-number-at in
+    let args = start .args in
+    let y = at-number-at .number-at .result in
+    let gain = args .reach - (day-at .result + at-amount-at .amount-at .result) in (
+      room-set (args .n) (args .gains .now) (args .list .now) (args .places .now) (args .leaders .now) y gain (start .pre .1 .0),
       (
         led-set (args .n) (args .gains .now) (at (args .list .now)) (at (args .places .now)) (at (args .leaders .now)) (args .k) y gain
-            (gain-in (c .before .before .before .before .before .before .before .before .before))
-            (omega (arith, c .before .before .before .before .before .if1 .left)) (c .before .before .before .before .before .before .before .before .before .before .before .before .before .before .before .before .before .pre .1 .1),
-        step-in (c .before .before .before .before .before .before .before .before .before),
+            (gain-in at-number-at)
+            (omega (arith, else1 .if1 .left)) (start .pre .1 .1),
+        step-in at-number-at,
       ),
     )
 
@@ -108,33 +130,44 @@ same-length-5 c = search needs
 
 returns-2 : tie.Need-returns-2
 returns-2 c =
-    let args = c .before .before .before .before .before .before .before .before .before .before .before .before .before .before .before .before .before .before .before .before .args in (
+    let then2 = c .before .before .before .before .before .before .before in
+    let if1 = then2 .before .if1 in
+    let at-amount-at = then2 .before .before .before in
+    let day-at = at-amount-at .before .day-at in
+    let at-number-at = at-amount-at .before .before in
+    let start = start-before-number-at at-number-at in
+    let args = start .args in (
       inr
           (raised _ (args .days .now) (args .gains .now) (args .by .now) (args .list .now) (args .list .now) (args .k) (args .k) (args .i) (args .reach)
-          (c .before .before .before .before .before .before .before .before .before .before .before .before .number-at .result) _ (c .before .before .before .before .before .before .before .before .before .before .before .day-at .result) (c .before .before .before .before .before .before .before .before .before .before .amount-at .result) (c .before .before .before .before .before .before .before .before .before .before .before .before .number-at .ensures) (c .before .before .before .before .before .before .before .before .before .before .before .day-at .ensures) (c .before .before .before .before .before .before .before .before .before .before .amount-at .ensures)
-          (omega (arith, c .before .before .before .before .before .before .before .before .before .before .before .before .number-at .ensures, c .before .before .before .before .before .before .before .before .before .before .before .before .before .before .before .before .before .before .before .before .pre .0 .second-gain))
-          (omega (arith, c .before .before .before .before .before .before .before .before .before .before .before .before .number-at .ensures, c .before .before .before .before .before .before .before .before .before .before .before .before .before .before .before .before .before .before .before .before .pre .0 .second-by))
-          (omega (arith, c .before .before .before .before .before .before .before .before .if1 .left))
-          (record { new = λ none. absurd (omega (arith, c .before .before .before .before .before .before .before .if2 .taken)); old = λ has. (refl, λ j. refl) })),
+          (at-number-at .number-at .result) _ (day-at .result) (at-amount-at .amount-at .result) (at-number-at .number-at .ensures) (day-at .ensures) (at-amount-at .amount-at .ensures)
+          (omega (arith, at-number-at .number-at .ensures, start .pre .0 .second-gain))
+          (omega (arith, at-number-at .number-at .ensures, start .pre .0 .second-by))
+          (omega (arith, if1 .left))
+          (record { new = λ none. absurd (omega (arith, then2 .if2 .taken)); old = λ has. (refl, λ j. refl) })),
       c .before .before .rise .ensures,
     )
 
 enter-requires : tie.Need-enter-requires
 enter-requires c κs =
-    let args = c .before .before .before .before .before .before .before .before .before .before .before .before .before .before .before .before .before .args in
-    let y = c .before .before .before .before .before .before .before .before .before .number-at .result in
-    let gain = args .reach - (c .before .before .before .before .before .before .before .before .day-at .result + c .before .before .before .before .before .before .before .amount-at .result) in
+    let else1 = c .before .before .before .before .before in
+    let at-amount-at = else1 .before .before in
+    let day-at = at-amount-at .before .day-at in
+    let at-number-at = at-amount-at .before .before in
+    let start = start-before-number-at at-number-at in
+    let args = start .args in
+    let y = at-number-at .number-at .result in
+    let gain = args .reach - (day-at .result + at-amount-at .amount-at .result) in
     let none : at (args .gains .now) y ≡ 0 = omega (arith, c .before .before .before .before .if2 .left) in (
-      room-set (args .n) (args .gains .now) (args .list .now) (args .places .now) (args .leaders .now) y gain (c .before .before .before .before .before .before .before .before .before .before .before .before .before .before .before .before .before .pre .1 .0),
+      room-set (args .n) (args .gains .now) (args .list .now) (args .places .now) (args .leaders .now) y gain (start .pre .1 .0),
       (
         led-set (args .n) (args .gains .now) (at (args .list .now)) (at (args .places .now)) (at (args .leaders .now)) (args .k) y gain
-            (gain-in (c .before .before .before .before .before .before .before .before .before))
-            (omega (arith, c .before .before .before .before .before .if1 .left)) (c .before .before .before .before .before .before .before .before .before .before .before .before .before .before .before .before .before .pre .1 .1),
+            (gain-in at-number-at)
+            (omega (arith, else1 .if1 .left)) (start .pre .1 .1),
         record {
-          step-in = step-in (c .before .before .before .before .before .before .before .before .before);
-          some = omega (arith, c .before .before .before .before .before .if1 .left, put-set (args .gains .now) y gain (gain-in (c .before .before .before .before .before .before .before .before .before)) .there);
-          room = c .before .before .before .before .before .before .before .before .before .before .before .before .before .before .before .before .before .pre .0 .room (omega (arith, none, ap (at (args .gains .now)) (c .before .before .before .before .before .before .before .before .before .number-at .ensures)));
-          fresh = fresh y (args .n) (at (args .gains .now)) (at (args .list .now)) (at (args .places .now)) (at (args .leaders .now)) (args .k) none (c .before .before .before .before .before .before .before .before .before .before .before .before .before .before .before .before .before .pre .1 .1);
+          step-in = step-in at-number-at;
+          some = omega (arith, else1 .if1 .left, put-set (args .gains .now) y gain (gain-in at-number-at) .there);
+          room = start .pre .0 .room (omega (arith, none, ap (at (args .gains .now)) (at-number-at .number-at .ensures)));
+          fresh = fresh y (args .n) (at (args .gains .now)) (at (args .list .now)) (at (args .places .now)) (at (args .leaders .now)) (args .k) none (start .pre .1 .1);
         },
       ),
     )
@@ -156,15 +189,22 @@ same-length-10 c = search needs
 
 returns-3 : tie.Need-returns-3
 returns-3 c =
-    let args = c .before .before .before .before .before .before .before .before .before .before .before .before .before .before .before .before .before .before .before .before .before .before .before .before .args in (
+    let at-enter = c .before .before .before .before .before .before in
+    let else2 = at-enter .before .before .before .before .before in
+    let if1 = else2 .before .if1 in
+    let at-amount-at = else2 .before .before .before in
+    let day-at = at-amount-at .before .day-at in
+    let at-number-at = at-amount-at .before .before in
+    let start = start-before-number-at at-number-at in
+    let args = start .args in (
       inr
-          (raised _ (args .days .now) (args .gains .now) (args .by .now) (args .list .now) (c .before .before .before .before .before .before .enter .last .1 .1 .1 .0) (args .k) (c .before .before .before .before .before .before .enter .result)
-          (args .i) (args .reach) (c .before .before .before .before .before .before .before .before .before .before .before .before .before .before .before .before .number-at .result) _ (c .before .before .before .before .before .before .before .before .before .before .before .before .before .before .before .day-at .result) (c .before .before .before .before .before .before .before .before .before .before .before .before .before .before .amount-at .result) (c .before .before .before .before .before .before .before .before .before .before .before .before .before .before .before .before .number-at .ensures) (c .before .before .before .before .before .before .before .before .before .before .before .before .before .before .before .day-at .ensures) (c .before .before .before .before .before .before .before .before .before .before .before .before .before .before .amount-at .ensures)
-          (omega (arith, c .before .before .before .before .before .before .before .before .before .before .before .before .before .before .before .before .number-at .ensures, c .before .before .before .before .before .before .before .before .before .before .before .before .before .before .before .before .before .before .before .before .before .before .before .before .pre .0 .second-gain))
-          (omega (arith, c .before .before .before .before .before .before .before .before .before .before .before .before .before .before .before .before .number-at .ensures, c .before .before .before .before .before .before .before .before .before .before .before .before .before .before .before .before .before .before .before .before .before .before .before .before .pre .0 .second-by))
-          (omega (arith, c .before .before .before .before .before .before .before .before .before .before .before .before .if1 .left))
-          (record { new = λ none. (c .before .before .before .before .before .before .enter .ensures .one-more, c .before .before .before .before .before .before .enter .ensures .put); old = λ has. absurd (omega (arith, c .before .before .before .before .before .before .before .before .before .before .before .if2 .left)) })),
-      c .before .before .before .before .before .before .enter .ensures .led,
+          (raised _ (args .days .now) (args .gains .now) (args .by .now) (args .list .now) (at-enter .enter .last .1 .1 .1 .0) (args .k) (at-enter .enter .result)
+          (args .i) (args .reach) (at-number-at .number-at .result) _ (day-at .result) (at-amount-at .amount-at .result) (at-number-at .number-at .ensures) (day-at .ensures) (at-amount-at .amount-at .ensures)
+          (omega (arith, at-number-at .number-at .ensures, start .pre .0 .second-gain))
+          (omega (arith, at-number-at .number-at .ensures, start .pre .0 .second-by))
+          (omega (arith, if1 .left))
+          (record { new = λ none. (at-enter .enter .ensures .one-more, at-enter .enter .ensures .put); old = λ has. absurd (omega (arith, else2 .if2 .left)) })),
+      at-enter .enter .ensures .led,
     )
 
 pub relax-spec : {M : Type 1} → statement M

@@ -31,25 +31,31 @@ slice-aggregate-settle-all-2 c = search needs
 slice-aggregate-settle-all-3 : tie.Need-slice-aggregate-settle-all-3
 slice-aggregate-settle-all-3 c = search needs
 
+-- Places of the code, seen from later ones.
+abbrev start-before-collect : tie.After-collect → tie.Start
+start-before-collect c = c .before .before .before .before .before .before .before .before .before .before .before .before .before
+
 settle-all-requires : tie.Need-settle-all-requires
 settle-all-requires c κs =
-    let a = c .before .before .before .before .before .before .before .before .before .before .before .before .before .before .before .before .before .before .before .before .before .before .before .args in
-    let pre = c .before .before .before .before .before .before .before .before .before .before .before .before .before .before .before .before .before .before .before .before .before .before .before .pre in (
+    let at-collect = c .before .before .before .before .before .before .before .before .before .before in
+    let start = start-before-collect at-collect in
+    let a = start .args in
+    let pre = start .pre in (
       pre .0,
       (
         record {
           room = record {
             few = pre .0 .steps-in;
             gains-room = pre .1 .gains-room;
-            list-room = omega (arith, c .before .before .before .before .before .before .before .before .before .before .collect .kept .1 .1 .1 .0, pre .0 .steps-in);
-            places-room = omega (arith, c .before .before .before .before .before .before .before .before .before .before .collect .kept .1 .1 .1 .1 .0, pre .0 .steps-in);
-            leaders-room = omega (arith, c .before .before .before .before .before .before .before .before .before .before .collect .kept .1 .1 .1 .1 .1 .0, pre .0 .steps-in);
+            list-room = omega (arith, at-collect .collect .kept .1 .1 .1 .0, pre .0 .steps-in);
+            places-room = omega (arith, at-collect .collect .kept .1 .1 .1 .1 .0, pre .0 .steps-in);
+            leaders-room = omega (arith, at-collect .collect .kept .1 .1 .1 .1 .1 .0, pre .0 .steps-in);
           };
-          by-room = omega (arith, c .before .before .before .before .before .before .before .before .before .before .collect .kept .1 .1 .0, pre .1 .by-room);
+          by-room = omega (arith, at-collect .collect .kept .1 .1 .0, pre .1 .by-room);
         },
         (
-          collected-ready (a .n) (at (a .gains .now)) (at (c .before .before .before .before .before .before .before .before .before .before .collect .last .1 .1 .0)) (at (c .before .before .before .before .before .before .before .before .before .before .collect .last .1 .1 .1 .0)) (c .before .before .before .before .before .before .before .before .before .before .collect .result) (pre .1 .small) (c .before .before .before .before .before .before .before .before .before .before .collect .ensures .0),
-          c .before .before .before .before .before .before .before .before .before .before .collect .ensures .1,
+          collected-ready (a .n) (at (a .gains .now)) (at (at-collect .collect .last .1 .1 .0)) (at (at-collect .collect .last .1 .1 .1 .0)) (at-collect .collect .result) (pre .1 .small) (at-collect .collect .ensures .0),
+          at-collect .collect .ensures .1,
         ),
       ),
     )
@@ -62,10 +68,12 @@ same-length-2 c = search needs
 
 returns : tie.Need-returns
 returns c =
-    let a = c .before .before .before .before .before .before .before .before .before .before .before .before .before .before .before .before .before .before .before .before .before .before .before .before .before .before .before .before .before .before .before .args in
-    c .before .before .before .before .before .before .before .settle-all .ensures (λ v. at (a .days .now) v + at (a .gains .now) v)
+    let at-settle-all = c .before .before .before .before .before .before .before in
+    let at-collect = at-settle-all .before .before .before .before .before .before .before .before .before .before .before in
+    let a = start-before-collect at-collect .args in
+    at-settle-all .settle-all .ensures (λ v. at (a .days .now) v + at (a .gains .now) v)
     (no-turn-yet (a .n) (rules (a .xs .now) (a .ys .now) (a .cs .now)) (first (a .m)) (at (a .days .now)) (λ v. at (a .days .now) v + at (a .gains .now) v)
-    (at (a .gains .now)) (at (c .before .before .before .before .before .before .before .before .before .before .before .before .before .before .before .before .before .before .collect .last .1 .1 .0)) (at (c .before .before .before .before .before .before .before .before .before .before .before .before .before .before .before .before .before .before .collect .last .1 .1 .1 .0)) (c .before .before .before .before .before .before .before .before .before .before .before .before .before .before .before .before .before .before .collect .result) (λ v v-in. refl) (c .before .before .before .before .before .before .before .before .before .before .before .before .before .before .before .before .before .before .collect .ensures .0))
+    (at (a .gains .now)) (at (at-collect .collect .last .1 .1 .0)) (at (at-collect .collect .last .1 .1 .1 .0)) (at-collect .collect .result) (λ v v-in. refl) (at-collect .collect .ensures .0))
 
 pub spread-spec : {M : Type 1} → statement M
 spread-spec =

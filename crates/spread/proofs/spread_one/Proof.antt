@@ -43,48 +43,69 @@ small n y gain g g′ fits none put v v-in = tell (ℕ-discrete v y)
     tell (yes e) = omega (arith, ap g′ e, put .there)
     tell (no e) = omega (arith, put .others v e, none v v-in)
 
+-- Places of the code, seen from later ones.
+abbrev settle-all-before-leaders4 : tie.After-leaders4 → tie.After-settle-all
+settle-all-before-leaders4 c = c .before .before .before .before .before .before .before
+
+abbrev begin-before-leaders3 : tie.After-leaders3 → tie.After-begin
+begin-before-leaders3 c = c .before .before .before .before .before .before .before .before .before .before .before .before
+
+abbrev start-before-begin : tie.After-begin → tie.Start
+start-before-begin c = c .before .before .before .before .before .before .before .before .before .before .before .before .before
+
 settle-all-requires : tie.Need-settle-all-requires
 settle-all-requires c κs =
-    let a = c .before .before .before .before .before .before .before .before .before .before .before .before .before .before .before .before .before .before .before .before .before .before .before .before .before .args in
-    let pre = c .before .before .before .before .before .before .before .before .before .before .before .before .before .before .before .before .before .before .before .before .before .before .before .before .before .pre .1 in
-    let steps-in = c .before .before .before .before .before .before .before .before .before .before .before .before .before .before .before .before .before .before .before .before .before .before .before .before .before .pre .0 .steps-in in
-    let begun = c .before .before .before .before .before .before .before .before .before .before .before .before .begin .ensures .0 in (
-      c .before .before .before .before .before .before .before .before .before .before .before .before .before .before .before .before .before .before .before .before .before .before .before .before .before .pre .0,
+    let at-begin = begin-before-leaders3 c in
+    let start = start-before-begin at-begin in
+    let a = start .args in
+    let pre = start .pre .1 in
+    let steps-in = start .pre .0 .steps-in in
+    let begun = at-begin .begin .ensures .0 in (
+      start .pre .0,
       (
         record {
           room = record {
             few = steps-in;
-            gains-room = omega (arith, c .before .before .before .before .before .before .before .before .before .before .before .before .begin .kept .1 .1 .1 .0, pre .gains-room);
-            list-room = omega (arith, c .before .before .before .before .before .before .before .before .before .before .before .before .begin .kept .1 .1 .1 .1 .1 .0, steps-in);
-            places-room = omega (arith, c .before .before .before .before .before .before .before .before .before .before .before .before .begin .kept .1 .1 .1 .1 .1 .1 .0, steps-in);
-            leaders-room = omega (arith, c .before .before .before .before .before .before .before .before .before .before .before .before .begin .kept .1 .1 .1 .1 .1 .1 .1 .0, steps-in);
+            gains-room = omega (arith, at-begin .begin .kept .1 .1 .1 .0, pre .gains-room);
+            list-room = omega (arith, at-begin .begin .kept .1 .1 .1 .1 .1 .0, steps-in);
+            places-room = omega (arith, at-begin .begin .kept .1 .1 .1 .1 .1 .1 .0, steps-in);
+            leaders-room = omega (arith, at-begin .begin .kept .1 .1 .1 .1 .1 .1 .1 .0, steps-in);
           };
-          by-room = omega (arith, c .before .before .before .before .before .before .before .before .before .before .before .before .begin .kept .1 .1 .1 .1 .0, pre .by-room);
+          by-room = omega (arith, at-begin .begin .kept .1 .1 .1 .1 .0, pre .by-room);
         },
         (
-          collected-ready (a .n) (at (c .before .before .before .before .before .before .before .before .before .before .before .before .begin .last .1 .1 .1 .0)) (at (c .before .before .before .before .before .before .before .before .before .before .before .before .begin .last .1 .1 .1 .1 .0)) (at (c .before .before .before .before .before .before .before .before .before .before .before .before .begin .last .1 .1 .1 .1 .1 .0)) (c .before .before .before .before .before .before .before .before .before .before .before .before .begin .result)
-              (small (a .n) (a .y) (a .gain) (at (a .gains .now)) (at (c .before .before .before .before .before .before .before .before .before .before .before .before .begin .last .1 .1 .1 .0)) (pre .small) (pre .none-yet) (begun .asked)) (begun .collected),
-          c .before .before .before .before .before .before .before .before .before .before .before .before .begin .ensures .1,
+          collected-ready (a .n) (at (at-begin .begin .last .1 .1 .1 .0)) (at (at-begin .begin .last .1 .1 .1 .1 .0)) (at (at-begin .begin .last .1 .1 .1 .1 .1 .0)) (at-begin .begin .result)
+              (small (a .n) (a .y) (a .gain) (at (a .gains .now)) (at (at-begin .begin .last .1 .1 .1 .0)) (pre .small) (pre .none-yet) (begun .asked)) (begun .collected),
+          at-begin .begin .ensures .1,
         ),
       ),
     )
 
 same-length : tie.Need-same-length
-same-length c = c .before .before .before .before .before .before .before .settle-all .kept .1 .1 .1 .1 .1 .1 .1 .1 .1 .0 ∙ c .before .before .before .before .before .before .before .before .before .before .before .before .before .before .before .before .before .before .before .before .begin .kept .1 .1 .1 .0
+same-length c =
+    let at-settle-all = settle-all-before-leaders4 c in
+    let begin = begin-before-leaders3 (at-settle-all .before) .begin in
+    at-settle-all .settle-all .kept .1 .1 .1 .1 .1 .1 .1 .1 .1 .0 ∙ begin .kept .1 .1 .1 .0
 
 same-length-2 : tie.Need-same-length-2
-same-length-2 c = c .before .before .before .before .before .before .before .settle-all .kept .1 .1 .1 .1 .1 .1 .1 .1 .1 .1 .0 ∙ c .before .before .before .before .before .before .before .before .before .before .before .before .before .before .before .before .before .before .before .before .begin .kept .1 .1 .1 .1 .0
+same-length-2 c =
+    let at-settle-all = settle-all-before-leaders4 c in
+    let begin = begin-before-leaders3 (at-settle-all .before) .begin in
+    at-settle-all .settle-all .kept .1 .1 .1 .1 .1 .1 .1 .1 .1 .1 .0 ∙ begin .kept .1 .1 .1 .1 .0
 
 returns : tie.Need-returns
 returns c =
-    let a = c .before .before .before .before .before .before .before .before .before .before .before .before .before .before .before .before .before .before .before .before .before .before .before .before .before .before .before .before .before .before .before .before .before .args in
-    let pre = c .before .before .before .before .before .before .before .before .before .before .before .before .before .before .before .before .before .before .before .before .before .before .before .before .before .before .before .before .before .before .before .before .before .pre .1 in
-    let begun = c .before .before .before .before .before .before .before .before .before .before .before .before .before .before .before .before .before .before .before .before .begin .ensures .0 in
+    let at-settle-all = settle-all-before-leaders4 c in
+    let at-begin = begin-before-leaders3 (at-settle-all .before) in
+    let start = start-before-begin at-begin in
+    let a = start .args in
+    let pre = start .pre .1 in
+    let begun = at-begin .begin .ensures .0 in
     let low : ℕ → ℕ = λ v. at (a .days .now) v + alone (a .y) (a .gain) v in
-    let begin = c .before .before .before .before .before .before .before .before .before .before .before .before .before .before .before .before .before .before .before .before .begin in
+    let begin = at-begin .begin in
     from-before (a .n) (first (a .m)) (a .xs .now) (a .ys .now) (a .cs .now) (a .days .now) (a .goal) low (a .gains .now) (begin .last .1 .1 .1 .0) _ _ (a .y) (a .gain) (pre .step-in)
     (begun .asked)
-    (c .before .before .before .before .before .before .before .settle-all .ensures low
+    (at-settle-all .settle-all .ensures low
     (no-turn-yet (a .n) (rules (a .xs .now) (a .ys .now) (a .cs .now)) (first (a .m)) (at (a .days .now)) low (at (begin .last .1 .1 .1 .0))
     (at (begin .last .1 .1 .1 .1 .0)) (at (begin .last .1 .1 .1 .1 .1 .0)) (begin .result)
     (λ v v-in. omega (arith, alone-is (a .n) (a .y) (a .gain) (at (a .gains .now)) (at (begin .last .1 .1 .1 .0)) (pre .none-yet) (begun .asked) v v-in))

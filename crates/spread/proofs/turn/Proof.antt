@@ -1,4 +1,4 @@
--- `spread::turn` meets its contract.
+-- `spread::turn` meets its contract: a step of largest gain leaves the list, and its rules are relaxed, which together is a turn.
 use Rattle.lent.specs.Lent.{first}
 use Rattle.chains.specs.Chains.{number}
 use mathlib.Core.Path.{refl, sym}
@@ -10,24 +10,32 @@ use borrow.Author.Needs.{needs}
 use Rattle.spread.proofs.turn.Statement.{statement}
 use Rattle.spread.proofs.turn.Tie as tie
 
+-- Places of the code, seen from later ones.
+abbrev start-before-take-arg4 : tie.After-take-arg4 → tie.Start
+start-before-take-arg4 c = c .before .before .before .before .before .before .before .before .before .before .before .before .before .before
+
 take-requires : tie.Need-take-requires
-take-requires c κs = (c .before .before .before .before .before .before .before .before .before .before .before .before .before .before .pre .1 .0 .room, (c .before .before .before .before .before .before .before .before .before .before .before .before .before .before .pre .1 .1 .1 .0, c .before .before .before .before .before .before .before .before .before .before .before .before .before .before .pre .1 .1 .1 .1))
+take-requires c κs =
+    let start = start-before-take-arg4 c in
+    (start .pre .1 .0 .room, (start .pre .1 .1 .1 .0, start .pre .1 .1 .1 .1))
 
 sub-relax-all : tie.Need-sub-relax-all
 sub-relax-all c = search needs
 
 relax-all-requires : tie.Need-relax-all-requires
 relax-all-requires c κs =
-    let a = c .before .before .before .before .before .before .before .before .before .before .before .before .before .before .before .before .before .before .before .before .before .before .before .before .before .before .args in
-    let taken = c .before .before .before .before .before .before .before .before .before .before .before .take .ensures in
-    let list = c .before .before .before .before .before .before .before .before .before .before .before .take .last .1 .1 .0 in (
-      c .before .before .before .before .before .before .before .before .before .before .before .before .before .before .before .before .before .before .before .before .before .before .before .before .before .before .pre .0,
+    let at-take = c .before .before .before .before .before .before .before .before .before .before .before in
+    let start = start-before-take-arg4 (at-take .before) in
+    let a = start .args in
+    let taken = at-take .take .ensures in
+    let list = at-take .take .last .1 .1 .0 in (
+      start .pre .0,
       (
-        room-kept (a .n) (a .gains .now) (a .by .now) (a .list .now) (a .places .now) (a .leaders .now) (a .gains .now) (a .by .now) list (c .before .before .before .before .before .before .before .before .before .before .before .take .last .1 .1 .1 .0) (c .before .before .before .before .before .before .before .before .before .before .before .take .last .1 .1 .1 .1 .0)
-            refl refl (c .before .before .before .before .before .before .before .before .before .before .before .take .kept .1 .1 .0) (c .before .before .before .before .before .before .before .before .before .before .before .take .kept .1 .1 .1 .0) (c .before .before .before .before .before .before .before .before .before .before .before .take .kept .1 .1 .1 .1 .0) (c .before .before .before .before .before .before .before .before .before .before .before .before .before .before .before .before .before .before .before .before .before .before .before .before .before .before .pre .1 .0),
+        room-kept (a .n) (a .gains .now) (a .by .now) (a .list .now) (a .places .now) (a .leaders .now) (a .gains .now) (a .by .now) list (at-take .take .last .1 .1 .1 .0) (at-take .take .last .1 .1 .1 .1 .0)
+            refl refl (at-take .take .kept .1 .1 .0) (at-take .take .kept .1 .1 .1 .0) (at-take .take .kept .1 .1 .1 .1 .0) (start .pre .1 .0),
         (
-          ready-without (a .n) (at (a .gains .now)) (at (a .list .now)) (at list) (a .k) (taken .place) (taken .largest .place-in) (taken .out) (c .before .before .before .before .before .before .before .before .before .before .before .before .before .before .before .before .before .before .before .before .before .before .before .before .before .before .pre .1 .1 .0),
-          (taken .led, omega (arith, taken .there, c .before .before .before .before .before .before .before .before .before .before .before .before .before .before .before .before .before .before .before .before .before .before .before .before .before .before .pre .1 .1 .0 .listed-in (taken .place) (taken .largest .place-in))),
+          ready-without (a .n) (at (a .gains .now)) (at (a .list .now)) (at list) (a .k) (taken .place) (taken .largest .place-in) (taken .out) (start .pre .1 .1 .0),
+          (taken .led, omega (arith, taken .there, start .pre .1 .1 .0 .listed-in (taken .place) (taken .largest .place-in))),
         ),
       ),
     )
@@ -49,13 +57,16 @@ same-length-5 c = search needs
 
 returns : tie.Need-returns
 returns c =
-    let a = c .before .before .before .before .before .before .before .before .before .before .before .before .before .before .before .before .before .before .before .before .before .before .before .before .before .before .before .before .before .before .before .before .before .before .before .before .before .args in
-    let taken = c .before .before .before .before .before .before .before .before .before .before .before .before .before .before .before .before .before .before .before .before .before .before .take .ensures in (
+    let at-relax-all = c .before .before .before .before .before .before .before .before .before .before in
+    let at-take = at-relax-all .before .before .before .before .before .before .before .before .before .before .before .before in
+    let start = at-take .before .before .before .before .before .before .before .before .before .before .before .before .before .before .before in
+    let a = start .args in
+    let taken = at-take .take .ensures in (
       turned (a .n) (first (a .m)) number (a .xs .now) (a .ys .now) (a .cs .now) (a .days .now) (a .heads .now) (a .nexts .now) (a .gains .now) (a .by .now) (a .list .now)
-          (c .before .before .before .before .before .before .before .before .before .before .before .before .before .before .before .before .before .before .before .before .before .before .take .last .1 .1 .0) (a .k) (taken .place) _ _ _ _ (c .before .before .before .before .before .before .before .before .before .before .before .before .before .before .before .before .before .before .before .before .before .before .before .before .before .before .before .before .before .before .before .before .before .before .before .before .before .pre .0)
-          (c .before .before .before .before .before .before .before .before .before .before .before .before .before .before .before .before .before .before .before .before .before .before .before .before .before .before .before .before .before .before .before .before .before .before .before .before .before .pre .1 .1 .0 .listed-in (taken .place) (taken .largest .place-in)) (taken .largest) (taken .out)
-          (rw (sym (taken .there)) at (c .before .before .before .before .before .before .before .before .before .before .relax-all .ensures .0)),
-      c .before .before .before .before .before .before .before .before .before .before .relax-all .ensures .1,
+          (at-take .take .last .1 .1 .0) (a .k) (taken .place) _ _ _ _ (start .pre .0)
+          (start .pre .1 .1 .0 .listed-in (taken .place) (taken .largest .place-in)) (taken .largest) (taken .out)
+          (rw (sym (taken .there)) at (at-relax-all .relax-all .ensures .0)),
+      at-relax-all .relax-all .ensures .1,
     )
 
 pub turn-spec : {M : Type 1} → statement M
