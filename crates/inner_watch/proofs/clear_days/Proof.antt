@@ -33,7 +33,9 @@ loop-less : tie.Need-loop-less Inv-loop μ-loop
 loop-less c = search needs
 
 loop-again : tie.Need-loop-again Inv-loop μ-loop
-loop-again c = (omega arith, cleared-more (c .before .loop .v) (c .before .before .args .days .now) (c .before .loop .days) (omega (arith, c .before .loop .inv .1 .past .same-length, c .before .before .pre)) (c .before .loop .inv .1))
+loop-again c =
+    let start = c .before .before in
+    (omega arith, cleared-more (c .before .loop .v) (start .args .days .now) (c .before .loop .days) (omega (arith, c .before .loop .inv .1 .past .same-length, start .pre)) (c .before .loop .inv .1))
 
 same-length : tie.Need-same-length Inv-loop μ-loop
 same-length c = c .before .loop .inv .1 .past .same-length

@@ -20,7 +20,9 @@ refused-requires : tie.Need-refused-requires
 refused-requires c κs = search needs
 
 returns : tie.Need-returns
-returns c = rw (c .refused .ensures) (obeys-refused _ _ FULL (λ e. omega arith) (λ e. omega arith) (inr (c .before .before .before .before .before .before .before .before .before .pre .room, inr (c .before .before .before .before .before .before .before .before .before .pre .sound, inl (refl, λ h. omega arith)))))
+returns c =
+    let start = c .before .before .before .before .before .before .before .before .before in
+    rw (c .refused .ensures) (obeys-refused _ _ FULL (λ e. omega arith) (λ e. omega arith) (inr (start .pre .room, inr (start .pre .sound, inl (refl, λ h. omega arith)))))
 
 mul-marks : tie.Need-mul-marks
 mul-marks c = search needs
@@ -41,7 +43,9 @@ same-length : tie.Need-same-length
 same-length c = search needs
 
 returns-2 : tie.Need-returns-2
-returns-2 c = rw (c .done .ensures, c .before .marks-now .ensures) (obeys-done _ _ 0 0 _ (c .before .before .before .before .before .before .before .before .before .before .before .pre .room, (c .before .before .before .before .before .before .before .before .before .before .before .pre .sound, (omega arith, tt))) (record { no-values = (refl, refl); marked = refl }))
+returns-2 c =
+    let start = c .before .before .before .before .before .before .before .before .before .before .before in
+    rw (c .done .ensures, c .before .marks-now .ensures) (obeys-done _ _ 0 0 _ (start .pre .room, (start .pre .sound, (omega arith, tt))) (record { no-values = (refl, refl); marked = refl }))
 
 pub mark-spec : {M : Type 1} → statement M
 mark-spec =

@@ -22,10 +22,14 @@ amount-fits-requires : tie.Need-amount-fits-requires
 amount-fits-requires c κs = search needs
 
 returns-3 : tie.Need-returns-3
-returns-3 c = inr (record { first-in = omega (arith, c .before .before .before .if1 .left); second-in = omega (arith, c .before .before .if2 .left) }, inl (refl, (rw (toZ-ofZ w32 (c .before .before .before .before .args .c) (c .before .before .before .before .fits .c)) at (c .before .amount-fits .ensures)) .not-so (not-true _ (c .if3 .taken))))
+returns-3 c =
+    let start = c .before .before .before .before in
+    inr (record { first-in = omega (arith, c .before .before .before .if1 .left); second-in = omega (arith, c .before .before .if2 .left) }, inl (refl, (rw (toZ-ofZ w32 (start .args .c) (start .fits .c)) at (c .before .amount-fits .ensures)) .not-so (not-true _ (c .if3 .taken))))
 
 returns-4 : tie.Need-returns-4
-returns-4 c = inr (record { first-in = omega (arith, c .before .before .before .if1 .left); second-in = omega (arith, c .before .before .if2 .left) }, inr ((rw (toZ-ofZ w32 (c .before .before .before .before .args .c) (c .before .before .before .before .fits .c)) at (c .before .amount-fits .ensures)) .so (not-false _ (c .if3 .left)), refl))
+returns-4 c =
+    let start = c .before .before .before .before in
+    inr (record { first-in = omega (arith, c .before .before .before .if1 .left); second-in = omega (arith, c .before .before .if2 .left) }, inr ((rw (toZ-ofZ w32 (start .args .c) (start .fits .c)) at (c .before .amount-fits .ensures)) .so (not-false _ (c .if3 .left)), refl))
 
 pub rule-verdict-spec : {M : Type 1} → statement M
 rule-verdict-spec = tie.close (tie.spec returns returns-2 amount-fits-requires returns-3 returns-4)

@@ -29,13 +29,19 @@ rule-verdict-requires c κs = search needs
 refused-requires : tie.Need-refused-requires
 refused-requires c κs = search needs
 
+-- Places of the code, seen from later ones.
+abbrev rule-verdict-before-write-rule-arg3 : tie.After-write-rule-arg3 → tie.After-rule-verdict
+rule-verdict-before-write-rule-arg3 c = c .before .before .before .before .before .before
+
 returns : tie.Need-returns
 returns c =
-    let n = c .before .before .before .before .before .before .before .before .before .args .counts .steps in
-    let r = rule (c .before .before .before .before .before .before .before .before .before .args .x) (c .before .before .before .before .before .before .before .before .before .args .y) (c .before .before .before .before .before .before .before .before .before .args .c) in
-    let g = c .before .before .rule-verdict .result in
-    let f = rw (toZ-ofZ w32 (c .before .before .before .before .before .before .before .before .before .args .c) (c .before .before .before .before .before .before .before .before .before .fits .c)) at (c .before .before .rule-verdict .ensures) in
-    rw (c .refused .ensures) (obeys-refused _ _ g (λ e. omega arith) (rule-no-conflict n r g f) (inr (c .before .before .before .before .before .before .before .before .before .pre .room, inr (c .before .before .before .before .before .before .before .before .before .pre .sound, rule-refused n r g f (needing FULL (c .before .before .before .before .before .before .before .before .before .args .counts .watched < WATCHED) ∷ []) (omega arith)))))
+    let rule-verdict = c .before .before .rule-verdict in
+    let start = c .before .before .before .before .before .before .before .before .before in
+    let n = start .args .counts .steps in
+    let r = rule (start .args .x) (start .args .y) (start .args .c) in
+    let g = rule-verdict .result in
+    let f = rw (toZ-ofZ w32 (start .args .c) (start .fits .c)) at (rule-verdict .ensures) in
+    rw (c .refused .ensures) (obeys-refused _ _ g (λ e. omega arith) (rule-no-conflict n r g f) (inr (start .pre .room, inr (start .pre .sound, rule-refused n r g f (needing FULL (start .args .counts .watched < WATCHED) ∷ []) (omega arith)))))
 
 cast-at : tie.Need-cast-at
 cast-at c = search needs
@@ -45,17 +51,25 @@ refused-requires-2 c κs = search needs
 
 returns-2 : tie.Need-returns-2
 returns-2 c =
-    let n = c .before .before .before .before .before .before .before .before .before .before .before .args .counts .steps in
-    let r = rule (c .before .before .before .before .before .before .before .before .before .before .before .args .x) (c .before .before .before .before .before .before .before .before .before .before .before .args .y) (c .before .before .before .before .before .before .before .before .before .before .before .args .c) in
-    let g = c .before .before .before .before .rule-verdict .result in
-    let f = rw (toZ-ofZ w32 (c .before .before .before .before .before .before .before .before .before .before .before .args .c) (c .before .before .before .before .before .before .before .before .before .before .before .fits .c)) at (c .before .before .before .before .rule-verdict .ensures) in
-    rw (c .refused2 .ensures) (obeys-refused _ _ FULL (λ e. omega arith) (λ e. omega arith) (inr (c .before .before .before .before .before .before .before .before .before .before .before .pre .room, inr (c .before .before .before .before .before .before .before .before .before .before .before .pre .sound, inr (rule-steps n r g f (omega arith), inr (rule-amount n r g f (omega arith), inl (refl, λ h. omega arith)))))))
+    let rule-verdict = c .before .before .before .before .rule-verdict in
+    let start = c .before .before .before .before .before .before .before .before .before .before .before in
+    let n = start .args .counts .steps in
+    let r = rule (start .args .x) (start .args .y) (start .args .c) in
+    let g = rule-verdict .result in
+    let f = rw (toZ-ofZ w32 (start .args .c) (start .fits .c)) at (rule-verdict .ensures) in
+    rw (c .refused2 .ensures) (obeys-refused _ _ FULL (λ e. omega arith) (λ e. omega arith) (inr (start .pre .room, inr (start .pre .sound, inr (rule-steps n r g f (omega arith), inr (rule-amount n r g f (omega arith), inl (refl, λ h. omega arith)))))))
 
 cast-write-rule : tie.Need-cast-write-rule
-cast-write-rule c = omega (arith, rule-steps _ _ _ (c .before .before .before .before .before .before .rule-verdict .ensures) (omega arith) .first-in, c .before .before .before .before .before .before .before .before .before .before .before .before .before .pre .sound .counts-in .steps-in)
+cast-write-rule c =
+    let rule-verdict = rule-verdict-before-write-rule-arg3 c .rule-verdict in
+    let start = rule-verdict-before-write-rule-arg3 c .before .before .before .before .before .before .before in
+    omega (arith, rule-steps _ _ _ (rule-verdict .ensures) (omega arith) .first-in, start .pre .sound .counts-in .steps-in)
 
 cast-write-rule-2 : tie.Need-cast-write-rule-2
-cast-write-rule-2 c = omega (arith, rule-steps _ _ _ (c .before .before .before .before .before .before .rule-verdict .ensures) (omega arith) .second-in, c .before .before .before .before .before .before .before .before .before .before .before .before .before .pre .sound .counts-in .steps-in)
+cast-write-rule-2 c =
+    let rule-verdict = rule-verdict-before-write-rule-arg3 c .rule-verdict in
+    let start = rule-verdict-before-write-rule-arg3 c .before .before .before .before .before .before .before in
+    omega (arith, rule-steps _ _ _ (rule-verdict .ensures) (omega arith) .second-in, start .pre .sound .counts-in .steps-in)
 
 write-rule-requires : tie.Need-write-rule-requires
 write-rule-requires c κs = search needs
@@ -80,12 +94,19 @@ same-length-3 c = search needs
 
 returns-3 : tie.Need-returns-3
 returns-3 c =
-    let n = c .before .before .before .before .before .before .before .before .before .before .before .before .before .before .before .before .before .before .before .before .before .before .args .counts .steps in
-    let r = rule (c .before .before .before .before .before .before .before .before .before .before .before .before .before .before .before .before .before .before .before .before .before .before .args .x) (c .before .before .before .before .before .before .before .before .before .before .before .before .before .before .before .before .before .before .before .before .before .before .args .y) (c .before .before .before .before .before .before .before .before .before .before .before .before .before .before .before .before .before .before .before .before .before .before .args .c) in
-    let g = c .before .before .before .before .before .before .before .before .before .before .before .before .before .before .before .rule-verdict .result in
-    let f = rw (toZ-ofZ w32 (c .before .before .before .before .before .before .before .before .before .before .before .before .before .before .before .before .before .before .before .before .before .before .args .c) (c .before .before .before .before .before .before .before .before .before .before .before .before .before .before .before .before .before .before .before .before .before .before .fits .c)) at (c .before .before .before .before .before .before .before .before .before .before .before .before .before .before .before .rule-verdict .ensures) in
-    rw (c .done .ensures, c .before .watched-now .ensures) (obeys-done _ _ 0 0 _ (c .before .before .before .before .before .before .before .before .before .before .before .before .before .before .before .before .before .before .before .before .before .before .pre .room, (c .before .before .before .before .before .before .before .before .before .before .before .before .before .before .before .before .before .before .before .before .before .before .pre .sound, (rule-steps n r g f (omega arith), (rule-amount n r g f (omega arith), (omega arith, tt)))))
-    (record { no-values = (refl, refl); watched = tables-equal _ _ refl refl refl refl (rw (toZ-ofZ w32 (c .before .before .before .before .before .before .before .before .before .before .before .before .before .before .before .before .before .before .before .before .before .before .args .c) (c .before .before .before .before .before .before .before .before .before .before .before .before .before .before .before .before .before .before .before .before .before .before .fits .c)) at (c .before .before .before .before .before .before .before .before .write-rule .ensures)) }))
+    let at-write-rule = c .before .before .before .before .before .before .before .before in
+    let else2 = at-write-rule .before .before .before .before in
+    let else1 = else2 .before .before in
+    let rule-verdict = else1 .before .rule-verdict in
+    let start = else1 .before .before .before .before .before .before .before .before in
+    let n = start .args .counts .steps in
+    let r = rule (start .args .x) (start .args .y) (start .args .c) in
+    let g = rule-verdict .result in
+    let f = rw (toZ-ofZ w32 (start .args .c) (start .fits .c)) at (rule-verdict .ensures) in
+    rw (c .done .ensures, c .before .watched-now .ensures)
+    (obeys-done _ _ 0 0 _
+    (start .pre .room, (start .pre .sound, (rule-steps n r g f (omega (arith, else1 .if1 .left)), (rule-amount n r g f (omega (arith, else1 .if1 .left)), (omega (arith, else2 .if2 .left), tt)))))
+    (record { no-values = (refl, refl); watched = tables-equal _ _ refl refl refl refl (rw (toZ-ofZ w32 (start .args .c) (start .fits .c)) at (at-write-rule .write-rule .ensures)) }))
 
 pub watch-spec : {M : Type 1} → statement M
 watch-spec =
