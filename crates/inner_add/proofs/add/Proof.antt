@@ -28,32 +28,60 @@ hold-verdict-requires c κs = search needs
 refused-requires : tie.Need-refused-requires
 refused-requires c κs = search needs
 
+-- Places of the code, seen from later ones.
+abbrev else1-before-struct-known : tie.After-struct-known → tie.Else1
+else1-before-struct-known c = c .before .before .before .before .before .before .before
+
+abbrev start-before-else1 : tie.Else1 → tie.Start
+start-before-else1 c = c .before .before .before .before .before .before .before .before
+
+abbrev else1-before-add-fine-arg5 : tie.After-add-fine-arg5 → tie.Else1
+else1-before-add-fine-arg5 c = c .before .before .before .before .before .before .before .before .before .before
+
 returns : tie.Need-returns
 returns c =
-    let args = c .before .before .before .before .before .before .before .before .before .args in
-    let f = rw (toZ-ofZ w32 (args .c) (c .before .before .before .before .before .before .before .before .before .fits .c)) at (c .before .before .hold-verdict .ensures) in
-    rw (c .refused .ensures) (add-refused (args .counts) (args .x) (args .y) (args .c) (c .before .before .hold-verdict .result) f (args .xs .now) (args .ys .now) (args .cs .now) (args .days .now) (omega (arith, c .before .if1 .taken)) (args .list .now) (c .before .before .before .before .before .before .before .before .before .pre .1))
+    let at-hold-verdict = c .before .before in
+    let start = at-hold-verdict .before .before .before .before .before .before .before in
+    let args = start .args in
+    let f = rw (toZ-ofZ w32 (args .c) (start .fits .c)) at (at-hold-verdict .hold-verdict .ensures) in
+    rw (c .refused .ensures) (add-refused (args .counts) (args .x) (args .y) (args .c) (at-hold-verdict .hold-verdict .result) f (args .xs .now) (args .ys .now) (args .cs .now) (args .days .now) (omega (arith, c .before .if1 .taken)) (args .list .now) (start .pre .1))
 
 lack-requires : tie.Need-lack-requires
 lack-requires c κs =
-    let good = hold-good (c .before .before .before .before .before .before .before .before .before .args .counts) _ _ _ _ (c .before .before .hold-verdict .ensures) (omega (arith, c .before .if1 .left)) in
-    (omega (arith, good .steps-in .first-in, c .before .before .before .before .before .before .before .before .before .pre .0 .ground .days-room), omega (arith, good .steps-in .second-in, c .before .before .before .before .before .before .before .before .before .pre .0 .ground .days-room))
+    let start = start-before-else1 (c .before) in
+    let good = hold-good (start .args .counts) _ _ _ _ (c .before .before .hold-verdict .ensures) (omega (arith, c .before .if1 .left)) in
+    (omega (arith, good .steps-in .first-in, start .pre .0 .ground .days-room), omega (arith, good .steps-in .second-in, start .pre .0 .ground .days-room))
 
 cast-write-rule : tie.Need-cast-write-rule
 cast-write-rule c = search needs
 
 cast-write-rule-2 : tie.Need-cast-write-rule-2
-cast-write-rule-2 c = omega (arith, hold-good (c .before .before .before .before .before .before .before .before .before .before .before .before .before .before .before .args .counts) _ _ _ _ (c .before .before .before .before .before .before .before .before .hold-verdict .ensures) (omega (arith, c .before .before .before .before .before .before .before .if1 .left)) .steps-in .first-in, c .before .before .before .before .before .before .before .before .before .before .before .before .before .before .before .pre .0 .ground .steps-in)
+cast-write-rule-2 c =
+    let else1 = else1-before-struct-known c in
+    let hold-verdict = else1 .before .hold-verdict in
+    let start = start-before-else1 else1 in
+    omega (arith, hold-good (start .args .counts) _ _ _ _ (hold-verdict .ensures) (omega (arith, else1 .if1 .left)) .steps-in .first-in, start .pre .0 .ground .steps-in)
 
 cast-write-rule-3 : tie.Need-cast-write-rule-3
-cast-write-rule-3 c = omega (arith, hold-good (c .before .before .before .before .before .before .before .before .before .before .before .before .before .before .before .args .counts) _ _ _ _ (c .before .before .before .before .before .before .before .before .hold-verdict .ensures) (omega (arith, c .before .before .before .before .before .before .before .if1 .left)) .steps-in .second-in, c .before .before .before .before .before .before .before .before .before .before .before .before .before .before .before .pre .0 .ground .steps-in)
+cast-write-rule-3 c =
+    let else1 = else1-before-struct-known c in
+    let hold-verdict = else1 .before .hold-verdict in
+    let start = start-before-else1 else1 in
+    omega (arith, hold-good (start .args .counts) _ _ _ _ (hold-verdict .ensures) (omega (arith, else1 .if1 .left)) .steps-in .second-in, start .pre .0 .ground .steps-in)
 
 write-rule-requires : tie.Need-write-rule-requires
 write-rule-requires c κs =
-    placed (c .before .before .before .before .before .before .before .before .before .before .before .before .before .before .before .args .xs .now) (c .before .before .before .before .before .before .before .before .before .before .before .before .before .before .before .args .ys .now) (c .before .before .before .before .before .before .before .before .before .before .before .before .before .before .before .args .cs .now) (c .before .before .before .before .before .before .before .before .before .before .before .before .before .before .before .args .counts .rules) (c .before .before .before .before .before .before .before .before .before .before .before .before .before .before .before .pre .0 .columns-room) (hold-place (c .before .before .before .before .before .before .before .before .before .before .before .before .before .before .before .args .counts) _ _ _ _ (c .before .before .before .before .before .before .before .before .hold-verdict .ensures) (omega (arith, c .before .before .before .before .before .before .before .if1 .left)))
+    let else1 = else1-before-struct-known c in
+    let hold-verdict = else1 .before .hold-verdict in
+    let start = start-before-else1 else1 in
+    placed (start .args .xs .now) (start .args .ys .now) (start .args .cs .now) (start .args .counts .rules) (start .pre .0 .columns-room) (hold-place (start .args .counts) _ _ _ _ (hold-verdict .ensures) (omega (arith, else1 .if1 .left)))
 
 one-more-requires : tie.Need-one-more-requires
-one-more-requires c κs = hold-place (c .before .before .before .before .before .before .before .before .before .before .before .before .before .before .before .before .before .before .before .before .before .args .counts) _ _ _ _ (c .before .before .before .before .before .before .before .before .before .before .before .before .before .before .hold-verdict .ensures) (omega (arith, c .before .before .before .before .before .before .before .before .before .before .before .before .before .if1 .left))
+one-more-requires c κs =
+    let else1 = else1-before-struct-known (c .before .before .before .before .before .before) in
+    let hold-verdict = else1 .before .hold-verdict in
+    let start = start-before-else1 else1 in
+    hold-place (start .args .counts) _ _ _ _ (hold-verdict .ensures) (omega (arith, else1 .if1 .left))
 
 done-requires : tie.Need-done-requires
 done-requires c κs = search needs
@@ -72,15 +100,21 @@ same-length-4 c = search needs
 
 returns-2 : tie.Need-returns-2
 returns-2 c =
-    let args = c .before .before .before .before .before .before .before .before .before .before .before .before .before .before .before .before .before .before .before .before .before .before .before .args in
-    let f = rw (toZ-ofZ w32 (args .c) (c .before .before .before .before .before .before .before .before .before .before .before .before .before .before .before .before .before .before .before .before .before .before .before .fits .c)) at (c .before .before .before .before .before .before .before .before .before .before .before .before .before .before .before .before .hold-verdict .ensures) in
-    let l : Lack (args .days .now) (args .x) (args .y) (args .c) (c .before .before .before .before .before .before .before .before .before .before .before .before .before .lack .result) = rw (toZ-ofZ w32 (args .c) (c .before .before .before .before .before .before .before .before .before .before .before .before .before .before .before .before .before .before .before .before .before .before .before .fits .c)) at (c .before .before .before .before .before .before .before .before .before .before .before .before .before .lack .ensures) in
-    let ready = hold-ready (args .counts) (args .x) (args .y) (args .c) (c .before .before .before .before .before .before .before .before .before .before .before .before .before .before .before .before .hold-verdict .result) f (args .xs .now) (args .ys .now) (args .cs .now) (args .days .now) (args .heads .now) (args .nexts .now) (c .before .before .before .before .before .before .before .before .before .before .before .before .before .before .before .before .before .before .before .before .before .before .before .pre .0) (omega (arith, c .before .before .before .before .before .before .before .before .before .before .before .before .before .before .before .if1 .left)) in
+    let at-write-rule = c .before .before .before .before .before .before .before in
+    let then2 = at-write-rule .before .before .before .before .before in
+    let lack = then2 .before .lack in
+    let else1 = then2 .before .before .before in
+    let hold-verdict = else1 .before .hold-verdict in
+    let start = else1 .before .before .before .before .before .before .before .before in
+    let args = start .args in
+    let f = rw (toZ-ofZ w32 (args .c) (start .fits .c)) at (hold-verdict .ensures) in
+    let l : Lack (args .days .now) (args .x) (args .y) (args .c) (lack .result) = rw (toZ-ofZ w32 (args .c) (start .fits .c)) at (lack .ensures) in
+    let ready = hold-ready (args .counts) (args .x) (args .y) (args .c) (hold-verdict .result) f (args .xs .now) (args .ys .now) (args .cs .now) (args .days .now) (args .heads .now) (args .nexts .now) (start .pre .0) (omega (arith, else1 .if1 .left)) in
     rw (c .done .ensures)
     (add-done (args .counts) (args .xs .now) (args .ys .now) (args .cs .now) (args .days .now) (args .heads .now) (args .nexts .now) (args .x) (args .y) (args .c) ready
-    (args .list .now) (c .before .before .before .before .before .before .before .before .before .before .before .before .before .before .before .before .before .before .before .before .before .before .before .pre .1) 0 (c .before .one-more .result) _ _ _ _ (c .before .one-more .ensures)
+    (args .list .now) (start .pre .1) 0 (c .before .one-more .result) _ _ _ _ (c .before .one-more .ensures)
     (taken-at-once (args .counts .steps) (first (args .counts .rules)) number (args .counts .rules) (args .xs .now) (args .ys .now) (args .cs .now) (args .days .now) (args .heads .now) (args .nexts .now) (args .x) (args .y) (args .c) ready
-    (l .none (c .before .before .before .before .before .before .before .before .before .before .before .before .if2 .taken)) _ (rw (toZ-ofZ w32 (args .c) (c .before .before .before .before .before .before .before .before .before .before .before .before .before .before .before .before .before .before .before .before .before .before .before .fits .c)) at (c .before .before .before .before .before .before .before .write-rule .ensures))))
+    (l .none (then2 .if2 .taken)) _ (rw (toZ-ofZ w32 (args .c) (start .fits .c)) at (at-write-rule .write-rule .ensures))))
 
 slice-aggregate-add-fine : tie.Need-slice-aggregate-add-fine
 slice-aggregate-add-fine c = search needs
@@ -89,16 +123,27 @@ slice-aggregate-add-fine-2 : tie.Need-slice-aggregate-add-fine-2
 slice-aggregate-add-fine-2 c = search needs
 
 cast-add-fine : tie.Need-cast-add-fine
-cast-add-fine c = omega (arith, hold-good (c .before .before .before .before .before .before .before .before .before .before .before .before .before .before .before .before .before .before .args .counts) _ _ _ _ (c .before .before .before .before .before .before .before .before .before .before .before .hold-verdict .ensures) (omega (arith, c .before .before .before .before .before .before .before .before .before .before .if1 .left)) .steps-in .first-in, c .before .before .before .before .before .before .before .before .before .before .before .before .before .before .before .before .before .before .pre .0 .ground .steps-in)
+cast-add-fine c =
+    let else1 = else1-before-add-fine-arg5 c in
+    let hold-verdict = else1 .before .hold-verdict in
+    let start = start-before-else1 else1 in
+    omega (arith, hold-good (start .args .counts) _ _ _ _ (hold-verdict .ensures) (omega (arith, else1 .if1 .left)) .steps-in .first-in, start .pre .0 .ground .steps-in)
 
 cast-add-fine-2 : tie.Need-cast-add-fine-2
-cast-add-fine-2 c = omega (arith, hold-good (c .before .before .before .before .before .before .before .before .before .before .before .before .before .before .before .before .before .before .args .counts) _ _ _ _ (c .before .before .before .before .before .before .before .before .before .before .before .hold-verdict .ensures) (omega (arith, c .before .before .before .before .before .before .before .before .before .before .if1 .left)) .steps-in .second-in, c .before .before .before .before .before .before .before .before .before .before .before .before .before .before .before .before .before .before .pre .0 .ground .steps-in)
+cast-add-fine-2 c =
+    let else1 = else1-before-add-fine-arg5 c in
+    let hold-verdict = else1 .before .hold-verdict in
+    let start = start-before-else1 else1 in
+    omega (arith, hold-good (start .args .counts) _ _ _ _ (hold-verdict .ensures) (omega (arith, else1 .if1 .left)) .steps-in .second-in, start .pre .0 .ground .steps-in)
 
 add-fine-requires : tie.Need-add-fine-requires
 add-fine-requires c κs =
-    let args = c .before .before .before .before .before .before .before .before .before .before .before .before .before .before .before .before .before .before .args in (
-      hold-ready (args .counts) _ _ _ _ (c .before .before .before .before .before .before .before .before .before .before .before .hold-verdict .ensures) (args .xs .now) (args .ys .now) (args .cs .now) (args .days .now) (args .heads .now) (args .nexts .now) (c .before .before .before .before .before .before .before .before .before .before .before .before .before .before .before .before .before .before .pre .0) (omega (arith, c .before .before .before .before .before .before .before .before .before .before .if1 .left)),
-      (no-gains (args .counts .steps) (c .before .before .before .before .before .before .before .before .before .before .before .before .before .before .before .before .before .before .pre .0 .ground .steps-in), c .before .before .before .before .before .before .before .before .before .before .before .before .before .before .before .before .before .before .pre .1),
+    let else1 = else1-before-add-fine-arg5 c in
+    let hold-verdict = else1 .before .hold-verdict in
+    let start = start-before-else1 else1 in
+    let args = start .args in (
+      hold-ready (args .counts) _ _ _ _ (hold-verdict .ensures) (args .xs .now) (args .ys .now) (args .cs .now) (args .days .now) (args .heads .now) (args .nexts .now) (start .pre .0) (omega (arith, else1 .if1 .left)),
+      (no-gains (args .counts .steps) (start .pre .0 .ground .steps-in), start .pre .1),
     )
 
 same-length-5 : tie.Need-same-length-5
@@ -117,7 +162,10 @@ same-length-9 : tie.Need-same-length-9
 same-length-9 c = search needs
 
 returns-3 : tie.Need-returns-3
-returns-3 c = rw (toZ-ofZ w32 (c .before .before .before .before .before .before .before .before .before .before .before .before .before .before .before .before .before .before .before .before .before .before .before .before .before .before .before .before .before .before .args .c) (c .before .before .before .before .before .before .before .before .before .before .before .before .before .before .before .before .before .before .before .before .before .before .before .before .before .before .before .before .before .before .fits .c)) at (c .before .before .before .before .before .before .before .before .before .before .before .add-fine .ensures)
+returns-3 c =
+    let at-add-fine = c .before .before .before .before .before .before .before .before .before .before .before in
+    let start = at-add-fine .before .before .before .before .before .before .before .before .before .before .before .before .before .before .before .before .before .before .before in
+    rw (toZ-ofZ w32 (start .args .c) (start .fits .c)) at (at-add-fine .add-fine .ensures)
 
 pub add-spec : {M : Type 1} → statement M
 add-spec =

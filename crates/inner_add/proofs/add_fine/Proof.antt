@@ -25,13 +25,19 @@ cast-n c = search needs
 cast-m : tie.Need-cast-m
 cast-m c = search needs
 
+-- Places of the code, seen from later ones.
+abbrev start-before-slice-known11 : tie.After-slice-known11 → tie.Start
+start-before-slice-known11 c = c .before .before .before .before .before .before .before .before .before .before .before .before .before .before .before .before .before .before .before .before .before .before .before .before .before .before .before .before
+
 fit-with-requires : tie.Need-fit-with-requires
 fit-with-requires c κs =
-    (rw (toZ-ofZ w32 (c .before .before .before .before .before .before .before .before .before .before .before .before .before .before .before .before .args .c) (c .before .before .before .before .before .before .before .before .before .before .before .before .before .before .before .before .fits .c)) (c .before .before .before .before .before .before .before .before .before .before .before .before .before .before .before .before .pre .0), c .before .before .before .before .before .before .before .before .before .before .before .before .before .before .before .before .pre .1 .0)
+    let start = c .before .before .before .before .before .before .before .before .before .before .before .before .before .before .before .before in
+    (rw (toZ-ofZ w32 (start .args .c) (start .fits .c)) (start .pre .0), start .pre .1 .0)
 
 one-more-requires : tie.Need-one-more-requires
 one-more-requires c κs =
-    c .before .before .before .before .before .before .before .before .before .before .before .before .before .before .before .before .before .before .before .before .before .before .before .before .before .before .before .before .before .pre .0 .not-full
+    let start = start-before-slice-known11 (c .before) in
+    start .pre .0 .not-full
 
 done-requires : tie.Need-done-requires
 done-requires c κs = search needs
@@ -56,26 +62,34 @@ same-length-6 c = search needs
 
 returns : tie.Need-returns
 returns c =
-    let args = c .before .before .before .before .before .before .before .before .before .before .before .before .before .before .before .before .before .before .before .before .before .before .before .before .before .before .before .before .before .before .before .args in
-    let t : TellsWhy (args .counts .steps) (first (args .counts .rules)) (args .counts .rules) (args .xs .now) (args .ys .now) (args .cs .now) (args .days .now) (args .x) (args .y) (args .c) (c .before .before .before .before .before .before .before .before .before .before .before .before .before .before .fit-with .result .fits) (c .before .before .before .before .before .before .before .before .before .before .before .before .before .before .fit-with .result .moved) _ _ _ _ _ _
-    = rw (toZ-ofZ w32 (args .c) (c .before .before .before .before .before .before .before .before .before .before .before .before .before .before .before .before .before .before .before .before .before .before .before .before .before .before .before .before .before .before .before .fits .c)) at (c .before .before .before .before .before .before .before .before .before .before .before .before .before .before .fit-with .ensures) in
+    let at-fit-with = c .before .before .before .before .before .before .before .before .before .before .before .before .before .before in
+    let start = at-fit-with .before .before .before .before .before .before .before .before .before .before .before .before .before .before .before .before .before in
+    let args = start .args in
+    let t : TellsWhy (args .counts .steps) (first (args .counts .rules)) (args .counts .rules) (args .xs .now) (args .ys .now) (args .cs .now) (args .days .now) (args .x) (args .y) (args .c) (at-fit-with .fit-with .result .fits) (at-fit-with .fit-with .result .moved) _ _ _ _ _ _
+    = rw (toZ-ofZ w32 (args .c) (start .fits .c)) at (at-fit-with .fit-with .ensures) in
     rw (c .done .ensures)
-    (add-done (args .counts) (args .xs .now) (args .ys .now) (args .cs .now) (args .days .now) (args .heads .now) (args .nexts .now) (args .x) (args .y) (args .c) (c .before .before .before .before .before .before .before .before .before .before .before .before .before .before .before .before .before .before .before .before .before .before .before .before .before .before .before .before .before .before .before .pre .0)
-    (args .list .now) (c .before .before .before .before .before .before .before .before .before .before .before .before .before .before .before .before .before .before .before .before .before .before .before .before .before .before .before .before .before .before .before .pre .1 .1) (c .before .before .before .before .before .before .before .before .before .before .before .before .before .before .fit-with .result .moved) (c .before .one-more .result) _ _ _ _ (c .before .one-more .ensures) (t .tells .when-fits (c .before .before .if1 .taken)))
+    (add-done (args .counts) (args .xs .now) (args .ys .now) (args .cs .now) (args .days .now) (args .heads .now) (args .nexts .now) (args .x) (args .y) (args .c) (start .pre .0)
+    (args .list .now) (start .pre .1 .1) (at-fit-with .fit-with .result .moved) (c .before .one-more .result) _ _ _ _ (c .before .one-more .ensures) (t .tells .when-fits (c .before .before .if1 .taken)))
 
 ring-requires : tie.Need-ring-requires
 ring-requires c κs =
-    (c .before .before .before .before .before .before .before .before .before .before .before .before .before .before .before .before .before .before .before .fit-with .ensures .reached (c .before .before .before .before .before .before .before .if1 .left), (c .before .before .before .before .before .before .before .before .before .before .before .before .before .before .before .before .before .before .before .fit-with .ensures .lacks (c .before .before .before .before .before .before .before .if1 .left), omega (arith, c .before .before .before .before .before .before .before .before .before .before .before .before .before .before .before .before .before .before .before .before .before .before .before .before .before .before .before .before .before .before .before .before .before .before .before .before .pre .1 .1, c .before .before .before .before .before .before .before .before .before .before .before .before .before .before .before .before .before .before .before .before .before .before .before .before .before .before .before .before .before .before .before .before .before .before .before .before .pre .0 .base .ground .steps-in)))
+    let else1 = c .before .before .before .before .before .before .before in
+    let fit-with = else1 .before .before .before .before .before .before .before .before .before .before .before .before .fit-with in
+    let start = start-before-slice-known11 (else1 .before) in
+    (fit-with .ensures .reached (else1 .if1 .left), (fit-with .ensures .lacks (else1 .if1 .left), omega (arith, start .pre .1 .1, start .pre .0 .base .ground .steps-in)))
 
 cast-conflict : tie.Need-cast-conflict
 cast-conflict c =
-    let args = c .before .before .before .before .before .before .before .before .before .before .before .before .before .before .before .before .before .before .before .before .before .before .before .before .before .before .before .before .before .before .before .before .before .before .before .before .before .before .before .args in
-    let t : TellsWhy (args .counts .steps) (first (args .counts .rules)) (args .counts .rules) (args .xs .now) (args .ys .now) (args .cs .now) (args .days .now) (args .x) (args .y) (args .c) (c .before .before .before .before .before .before .before .before .before .before .before .before .before .before .before .before .before .before .before .before .before .before .fit-with .result .fits) (c .before .before .before .before .before .before .before .before .before .before .before .before .before .before .before .before .before .before .before .before .before .before .fit-with .result .moved) _ _ _ _ _ _
-    = rw (toZ-ofZ w32 (args .c) (c .before .before .before .before .before .before .before .before .before .before .before .before .before .before .before .before .before .before .before .before .before .before .before .before .before .before .before .before .before .before .before .before .before .before .before .before .before .before .before .fits .c)) at (c .before .before .before .before .before .before .before .before .before .before .before .before .before .before .before .before .before .before .before .before .before .before .fit-with .ensures) in
+    let else1 = c .before .before .before .before .before .before .before .before .before .before in
+    let at-fit-with = else1 .before .before .before .before .before .before .before .before .before .before .before .before in
+    let start = at-fit-with .before .before .before .before .before .before .before .before .before .before .before .before .before .before .before .before .before in
+    let args = start .args in
+    let t : TellsWhy (args .counts .steps) (first (args .counts .rules)) (args .counts .rules) (args .xs .now) (args .ys .now) (args .cs .now) (args .days .now) (args .x) (args .y) (args .c) (at-fit-with .fit-with .result .fits) (at-fit-with .fit-with .result .moved) _ _ _ _ _ _
+    = rw (toZ-ofZ w32 (args .c) (start .fits .c)) at (at-fit-with .fit-with .ensures) in
     omega (
       arith,
-      ring-short (args .counts .steps) (first (args .counts .rules)) number (args .counts .rules) (args .xs .now) (args .ys .now) (args .cs .now) (args .days .now) (args .heads .now) (args .nexts .now) (args .x) (args .y) (args .c) (c .before .before .before .before .before .before .before .before .before .before .before .before .before .before .before .before .before .before .before .before .before .before .before .before .before .before .before .before .before .before .before .before .before .before .before .before .before .before .before .pre .0) _ _ _
-          (ring-before (first (args .counts .rules)) (args .counts .rules) (args .xs .now) (args .ys .now) (args .cs .now) _ _ _ (args .x) (args .y) (args .c) _ _ _ (t .tells .when-not (c .before .before .before .before .before .before .before .before .before .before .if1 .left) .rules-stay) (rw (toZ-ofZ w32 (args .c) (c .before .before .before .before .before .before .before .before .before .before .before .before .before .before .before .before .before .before .before .before .before .before .before .before .before .before .before .before .before .before .before .before .before .before .before .before .before .before .before .fits .c)) at (c .before .before .ring .ensures))),
+      ring-short (args .counts .steps) (first (args .counts .rules)) number (args .counts .rules) (args .xs .now) (args .ys .now) (args .cs .now) (args .days .now) (args .heads .now) (args .nexts .now) (args .x) (args .y) (args .c) (start .pre .0) _ _ _
+          (ring-before (first (args .counts .rules)) (args .counts .rules) (args .xs .now) (args .ys .now) (args .cs .now) _ _ _ (args .x) (args .y) (args .c) _ _ _ (t .tells .when-not (else1 .if1 .left) .rules-stay) (rw (toZ-ofZ w32 (args .c) (start .fits .c)) at (c .before .before .ring .ensures))),
     )
 
 conflict-requires : tie.Need-conflict-requires
@@ -104,14 +118,17 @@ same-length-13 c = search needs
 
 returns-2 : tie.Need-returns-2
 returns-2 c =
-    let args = c .before .before .before .before .before .before .before .before .before .before .before .before .before .before .before .before .before .before .before .before .before .before .before .before .before .before .before .before .before .before .before .before .before .before .before .before .before .before .before .before .args in
-    let t : TellsWhy (args .counts .steps) (first (args .counts .rules)) (args .counts .rules) (args .xs .now) (args .ys .now) (args .cs .now) (args .days .now) (args .x) (args .y) (args .c) (c .before .before .before .before .before .before .before .before .before .before .before .before .before .before .before .before .before .before .before .before .before .before .before .fit-with .result .fits) (c .before .before .before .before .before .before .before .before .before .before .before .before .before .before .before .before .before .before .before .before .before .before .before .fit-with .result .moved) _ _ _ _ _ _
-    = rw (toZ-ofZ w32 (args .c) (c .before .before .before .before .before .before .before .before .before .before .before .before .before .before .before .before .before .before .before .before .before .before .before .before .before .before .before .before .before .before .before .before .before .before .before .before .before .before .before .before .fits .c)) at (c .before .before .before .before .before .before .before .before .before .before .before .before .before .before .before .before .before .before .before .before .before .before .before .fit-with .ensures) in
-    let left = t .tells .when-not (c .before .before .before .before .before .before .before .before .before .before .before .if1 .left) in
+    let else1 = c .before .before .before .before .before .before .before .before .before .before .before in
+    let at-fit-with = else1 .before .before .before .before .before .before .before .before .before .before .before .before in
+    let start = at-fit-with .before .before .before .before .before .before .before .before .before .before .before .before .before .before .before .before .before in
+    let args = start .args in
+    let t : TellsWhy (args .counts .steps) (first (args .counts .rules)) (args .counts .rules) (args .xs .now) (args .ys .now) (args .cs .now) (args .days .now) (args .x) (args .y) (args .c) (at-fit-with .fit-with .result .fits) (at-fit-with .fit-with .result .moved) _ _ _ _ _ _
+    = rw (toZ-ofZ w32 (args .c) (start .fits .c)) at (at-fit-with .fit-with .ensures) in
+    let left = t .tells .when-not (else1 .if1 .left) in
     rw (c .conflict .ensures)
-    (add-conflict (args .counts) (args .xs .now) (args .ys .now) (args .cs .now) (args .days .now) (args .heads .now) (args .nexts .now) (args .x) (args .y) (args .c) (c .before .before .before .before .before .before .before .before .before .before .before .before .before .before .before .before .before .before .before .before .before .before .before .before .before .before .before .before .before .before .before .before .before .before .before .before .before .before .before .before .pre .0)
-    (args .list .now) _ (c .before .before .before .before .before .before .before .before .before .before .before .before .before .before .before .before .before .before .before .before .before .before .before .before .before .before .before .before .before .before .before .before .before .before .before .before .before .before .before .before .pre .1 .1) _ _ _ _ _ _ left
-    (ring-before (first (args .counts .rules)) (args .counts .rules) (args .xs .now) (args .ys .now) (args .cs .now) _ _ _ (args .x) (args .y) (args .c) _ _ _ (left .rules-stay) (rw (toZ-ofZ w32 (args .c) (c .before .before .before .before .before .before .before .before .before .before .before .before .before .before .before .before .before .before .before .before .before .before .before .before .before .before .before .before .before .before .before .before .before .before .before .before .before .before .before .before .fits .c)) at (c .before .before .before .ring .ensures))))
+    (add-conflict (args .counts) (args .xs .now) (args .ys .now) (args .cs .now) (args .days .now) (args .heads .now) (args .nexts .now) (args .x) (args .y) (args .c) (start .pre .0)
+    (args .list .now) _ (start .pre .1 .1) _ _ _ _ _ _ left
+    (ring-before (first (args .counts .rules)) (args .counts .rules) (args .xs .now) (args .ys .now) (args .cs .now) _ _ _ (args .x) (args .y) (args .c) _ _ _ (left .rules-stay) (rw (toZ-ofZ w32 (args .c) (start .fits .c)) at (c .before .before .before .ring .ensures))))
 
 pub add-fine-spec : {M : Type 1} → statement M
 add-fine-spec =

@@ -42,10 +42,12 @@ same-length-4 c = search needs
 
 returns : tie.Need-returns
 returns c =
-    let start = c .before .before .before .before .before .before .before .before .before .before .before .before .before .before .before .before .before in
-    let lack = c .before .before .before .before .before .before .before .before .before .before .lack in
-    let if1 = c .before .before .before .before .before .before .before .before .before .if1 in
-    let write-rule = c .before .before .before .before .before .write-rule in
+    let at-write-rule = c .before .before .before .before .before in
+    let write-rule = at-write-rule .write-rule in
+    let then1 = at-write-rule .before .before .before .before in
+    let if1 = then1 .if1 in
+    let lack = then1 .before .lack in
+    let start = then1 .before .before .before .before .before .before .before .before in
     let args = start .args in
     let l : Lack (args .days .now) (args .x) (args .y) (args .c) (lack .result) = rw (toZ-ofZ w32 (args .c) (start .fits .c)) at (lack .ensures) in
     record {
@@ -80,8 +82,9 @@ same-length-8 c = search needs
 
 returns-2 : tie.Need-returns-2
 returns-2 c =
-    let start = c .before .before .before .before .before .before .before .before .before .before .before .before .before .before .before .before .before .before .before .before .before .before .before .before in
-    let fit-with = c .before .before .before .before .before .before .before .before .before .fit-with in
+    let at-fit-with = c .before .before .before .before .before .before .before .before .before in
+    let fit-with = at-fit-with .fit-with in
+    let start = at-fit-with .before .before .before .before .before .before .before .before .before .before .before .before .before .before .before in
     (rw (toZ-ofZ w32 (start .args .c) (start .fits .c)) at (fit-with .ensures)) .tells
 
 pub fit-spec : {M : Type 1} → statement M

@@ -44,8 +44,9 @@ same-length-6 c = search needs
 
 returns : tie.Need-returns
 returns c =
-    let start = c .before .before .before .before .before .before .before .before .before .before .before .before .before .before .before .before .before .before .before in
-    let plan = c .before .before .before .before .before .plan in
+    let at-plan = c .before .before .before .before .before in
+    let plan = at-plan .plan in
+    let start = at-plan .before .before .before .before .before .before .before .before .before .before .before .before .before .before in
     let if1 = c .if1 in
     let args = start .args in
     let p : RulePlanned (args .n) (first (args .m)) (args .m) (args .xs .now) (args .ys .now) (args .cs .now) (args .days .now) _ _ (args .x) (args .y) (args .c) (plan .result)
@@ -62,9 +63,10 @@ returns c =
 
 raise-days-requires : tie.Need-raise-days-requires
 raise-days-requires c κs =
-    let start = c .before .before .before .before .before .before .before .before .before .before .before .before .before .before .before .before .before .before .before .before .before in
-    let plan = c .before .before .before .before .before .before .before .plan in
     let if1 = c .before .before .if1 in
+    let at-plan = c .before .before .before .before .before .before .before in
+    let plan = at-plan .plan in
+    let start = at-plan .before .before .before .before .before .before .before .before .before .before .before .before .before .before in
     let args = start .args in
     let p : RulePlanned (args .n) (first (args .m)) (args .m) (args .xs .now) (args .ys .now) (args .cs .now) (args .days .now) _ _ (args .x) (args .y) (args .c) (plan .result)
     = rw (toZ-ofZ w32 (args .c) (start .fits .c)) at (plan .ensures) in
@@ -96,11 +98,15 @@ same-length-12 c = search needs
 
 returns-2 : tie.Need-returns-2
 returns-2 c =
-    let start = c .before .before .before .before .before .before .before .before .before .before .before .before .before .before .before .before .before .before .before .before .before .before .before .before .before .before .before .before .before .before .before .before .before in
-    let plan = c .before .before .before .before .before .before .before .before .before .before .before .before .before .before .before .before .before .before .before .plan in
-    let if1 = c .before .before .before .before .before .before .before .before .before .before .before .before .before .before .if1 in
-    let raise-days = c .before .before .before .before .before .before .before .before .before .before .before .raise-days in
-    let write-rule = c .before .before .before .before .before .write-rule in
+    let at-write-rule = c .before .before .before .before .before in
+    let write-rule = at-write-rule .write-rule in
+    let at-raise-days = at-write-rule .before .before .before .before .before .before in
+    let raise-days = at-raise-days .raise-days in
+    let else1 = at-raise-days .before .before .before in
+    let if1 = else1 .if1 in
+    let at-plan = else1 .before .before .before .before .before in
+    let plan = at-plan .plan in
+    let start = at-plan .before .before .before .before .before .before .before .before .before .before .before .before .before .before in
     let args = start .args in
     let p : RulePlanned (args .n) (first (args .m)) (args .m) (args .xs .now) (args .ys .now) (args .cs .now) (args .days .now) _ _ (args .x) (args .y) (args .c) (plan .result)
     = rw (toZ-ofZ w32 (args .c) (start .fits .c)) at (plan .ensures) in

@@ -22,29 +22,36 @@ rule-verdict-requires c κs = search needs
 
 returns : tie.Need-returns
 returns c =
-    let n = c .before .before .args .counts .steps in
-    let r = rule (c .before .before .args .x) (c .before .before .args .y) (c .before .before .args .c) in
-    let f = rw (toZ-ofZ w32 (c .before .before .args .c) (c .before .before .fits .c)) at (c .before .rule-verdict .ensures) in
-    rule-refused n r (c .before .rule-verdict .result) f (needing FULL (c .before .before .args .counts .rules < RULES) ∷ []) (omega (arith, c .if1 .taken))
+    let start = c .before .before in
+    let n = start .args .counts .steps in
+    let r = rule (start .args .x) (start .args .y) (start .args .c) in
+    let f = rw (toZ-ofZ w32 (start .args .c) (start .fits .c)) at (c .before .rule-verdict .ensures) in
+    rule-refused n r (c .before .rule-verdict .result) f (needing FULL (start .args .counts .rules < RULES) ∷ []) (omega (arith, c .if1 .taken))
 
 cast-if2 : tie.Need-cast-if2
 cast-if2 c = search needs
 
 returns-2 : tie.Need-returns-2
 returns-2 c =
-    let n = c .before .before .before .before .args .counts .steps in
-    let r = rule (c .before .before .before .before .args .x) (c .before .before .before .before .args .y) (c .before .before .before .before .args .c) in
-    let g = c .before .before .before .rule-verdict .result in
-    let f = rw (toZ-ofZ w32 (c .before .before .before .before .args .c) (c .before .before .before .before .fits .c)) at (c .before .before .before .rule-verdict .ensures) in
-    inr (rule-steps n r g f (omega (arith, c .before .before .if1 .left)), inr (rule-amount n r g f (omega (arith, c .before .before .if1 .left)), inl (refl, λ h. omega (arith, h, c .if2 .taken))))
+    let else1 = c .before .before in
+    let rule-verdict = else1 .before .rule-verdict in
+    let start = else1 .before .before in
+    let n = start .args .counts .steps in
+    let r = rule (start .args .x) (start .args .y) (start .args .c) in
+    let g = rule-verdict .result in
+    let f = rw (toZ-ofZ w32 (start .args .c) (start .fits .c)) at (rule-verdict .ensures) in
+    inr (rule-steps n r g f (omega (arith, else1 .if1 .left)), inr (rule-amount n r g f (omega (arith, else1 .if1 .left)), inl (refl, λ h. omega (arith, h, c .if2 .taken))))
 
 returns-3 : tie.Need-returns-3
 returns-3 c =
-    let n = c .before .before .before .before .args .counts .steps in
-    let r = rule (c .before .before .before .before .args .x) (c .before .before .before .before .args .y) (c .before .before .before .before .args .c) in
-    let g = c .before .before .before .rule-verdict .result in
-    let f = rw (toZ-ofZ w32 (c .before .before .before .before .args .c) (c .before .before .before .before .fits .c)) at (c .before .before .before .rule-verdict .ensures) in
-    inr (rule-steps n r g f (omega (arith, c .before .before .if1 .left)), inr (rule-amount n r g f (omega (arith, c .before .before .if1 .left)), inr (omega (arith, c .if2 .left), refl)))
+    let else1 = c .before .before in
+    let rule-verdict = else1 .before .rule-verdict in
+    let start = else1 .before .before in
+    let n = start .args .counts .steps in
+    let r = rule (start .args .x) (start .args .y) (start .args .c) in
+    let g = rule-verdict .result in
+    let f = rw (toZ-ofZ w32 (start .args .c) (start .fits .c)) at (rule-verdict .ensures) in
+    inr (rule-steps n r g f (omega (arith, else1 .if1 .left)), inr (rule-amount n r g f (omega (arith, else1 .if1 .left)), inr (omega (arith, c .if2 .left), refl)))
 
 pub hold-verdict-spec : {M : Type 1} → statement M
 hold-verdict-spec = tie.close (tie.spec rule-verdict-requires returns cast-if2 returns-2 returns-3)

@@ -33,9 +33,10 @@ add-given c = omega (arith, c .before .day-at2 .ensures, c .before .before .befo
 
 returns : tie.Need-returns
 returns c =
-    let b : Biased (c .before .before .before .before .before .args .c) (c .before .biased .result) = rw (toZ-ofZ w32 (c .before .before .before .before .before .args .c) (c .before .before .before .before .before .fits .c)) at (c .before .biased .ensures) in
+    let start = c .before .before .before .before .before in
+    let b : Biased (start .args .c) (c .before .biased .result) = rw (toZ-ofZ w32 (start .args .c) (start .fits .c)) at (c .before .biased .ensures) in
     record {
-      none = λ e. →plan (at (c .before .before .before .before .before .args .days .now)) (rule (c .before .before .before .before .before .args .x) (c .before .before .before .before .before .args .y) (c .before .before .before .before .before .args .c))
+      none = λ e. →plan (at (start .args .days .now)) (rule (start .args .x) (start .args .y) (start .args .c))
           (omega (arith, c .if1 .taken, c .before .before .before .day-at .ensures, c .before .before .day-at2 .ensures, b .is));
       some = λ h. absurd (omega (arith, h));
       small = omega arith;
@@ -46,11 +47,13 @@ sub-result c = search needs
 
 returns-2 : tie.Need-returns-2
 returns-2 c =
-    let b : Biased (c .before .before .before .before .before .args .c) (c .before .biased .result) = rw (toZ-ofZ w32 (c .before .before .before .before .before .args .c) (c .before .before .before .before .before .fits .c)) at (c .before .biased .ensures) in
+    let at-day-at = c .before .before .before in
+    let start = at-day-at .before .before in
+    let b : Biased (start .args .c) (c .before .biased .result) = rw (toZ-ofZ w32 (start .args .c) (start .fits .c)) at (c .before .biased .ensures) in
     record {
       none = λ e. absurd (omega (arith, e, c .if1 .left));
-      some = λ h. omega (arith, c .if1 .left, c .before .before .before .day-at .ensures, c .before .before .day-at2 .ensures, b .is);
-      small = omega (arith, c .before .before .before .day-at .ensures, c .before .before .before .before .shared-slice-known .given (c .before .before .before .before .before .args .x));
+      some = λ h. omega (arith, c .if1 .left, at-day-at .day-at .ensures, c .before .before .day-at2 .ensures, b .is);
+      small = omega (arith, at-day-at .day-at .ensures, c .before .before .before .before .shared-slice-known .given (start .args .x));
     }
 
 pub lack-spec : {M : Type 1} → statement M

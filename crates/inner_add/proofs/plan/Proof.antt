@@ -22,22 +22,25 @@ lack-requires c κs = search needs
 
 returns : tie.Need-returns
 returns c =
-    let l : Lack (c .before .before .before .before .before .before .before .before .before .args .days .now) (c .before .before .before .before .before .before .before .before .before .args .x) (c .before .before .before .before .before .before .before .before .before .args .y) (c .before .before .before .before .before .before .before .before .before .args .c) (c .before .lack .result) = rw (toZ-ofZ w32 (c .before .before .before .before .before .before .before .before .before .args .c) (c .before .before .before .before .before .before .before .before .before .fits .c)) at (c .before .lack .ensures) in
-    fits-at-once (c .before .before .before .before .before .before .before .before .before .args .n) (first (c .before .before .before .before .before .before .before .before .before .args .m)) number (c .before .before .before .before .before .before .before .before .before .args .m) (c .before .before .before .before .before .before .before .before .before .args .xs .now) (c .before .before .before .before .before .before .before .before .before .args .ys .now) (c .before .before .before .before .before .before .before .before .before .args .cs .now) (c .before .before .before .before .before .before .before .before .before .args .days .now)
-    (c .before .before .before .before .before .before .before .before .before .args .heads .now) (c .before .before .before .before .before .before .before .before .before .args .nexts .now) (c .before .before .before .before .before .before .before .before .before .args .gains .now) (c .before .before .before .before .before .before .before .before .before .args .by .now) (c .before .before .before .before .before .before .before .before .before .args .x) (c .before .before .before .before .before .before .before .before .before .args .y) (c .before .before .before .before .before .before .before .before .before .args .c)
-    (c .before .before .before .before .before .before .before .before .before .pre) (l .none (omega (arith, c .if1 .taken))) (c .before .before .before .before .before .before .before .before .before .args .by .now)
+    let start = c .before .before .before .before .before .before .before .before .before in
+    let l : Lack (start .args .days .now) (start .args .x) (start .args .y) (start .args .c) (c .before .lack .result) = rw (toZ-ofZ w32 (start .args .c) (start .fits .c)) at (c .before .lack .ensures) in
+    fits-at-once (start .args .n) (first (start .args .m)) number (start .args .m) (start .args .xs .now) (start .args .ys .now) (start .args .cs .now) (start .args .days .now)
+    (start .args .heads .now) (start .args .nexts .now) (start .args .gains .now) (start .args .by .now) (start .args .x) (start .args .y) (start .args .c)
+    (start .pre) (l .none (omega (arith, c .if1 .taken))) (start .args .by .now)
 
 spread-one-requires : tie.Need-spread-one-requires
 spread-one-requires c κs =
-    let l : Lack (c .before .before .before .before .before .before .before .before .before .before .before .args .days .now) (c .before .before .before .before .before .before .before .before .before .before .before .args .x) (c .before .before .before .before .before .before .before .before .before .before .before .args .y) (c .before .before .before .before .before .before .before .before .before .before .before .args .c) (c .before .before .before .lack .result) = rw (toZ-ofZ w32 (c .before .before .before .before .before .before .before .before .before .before .before .args .c) (c .before .before .before .before .before .before .before .before .before .before .before .fits .c)) at (c .before .before .before .lack .ensures) in (
-      c .before .before .before .before .before .before .before .before .before .before .before .pre .base .ground,
+    let at-lack = c .before .before .before in
+    let start = at-lack .before .before .before .before .before .before .before .before in
+    let l : Lack (start .args .days .now) (start .args .x) (start .args .y) (start .args .c) (at-lack .lack .result) = rw (toZ-ofZ w32 (start .args .c) (start .fits .c)) at (at-lack .lack .ensures) in (
+      start .pre .base .ground,
       record {
-        step-in = c .before .before .before .before .before .before .before .before .before .before .before .pre .new-in .second-in;
+        step-in = start .pre .new-in .second-in;
         some = omega (arith, c .before .before .if1 .left);
         small = l .small;
-        none-yet = c .before .before .before .before .before .before .before .before .before .before .before .pre .no-gains .none-yet;
-        gains-room = c .before .before .before .before .before .before .before .before .before .before .before .pre .no-gains .gains-room;
-        by-room = c .before .before .before .before .before .before .before .before .before .before .before .pre .no-gains .by-room;
+        none-yet = start .pre .no-gains .none-yet;
+        gains-room = start .pre .no-gains .gains-room;
+        by-room = start .pre .no-gains .by-room;
       },
     )
 
@@ -55,10 +58,14 @@ same-length-2 c = search needs
 
 returns-2 : tie.Need-returns-2
 returns-2 c =
-    let l : Lack (c .before .before .before .before .before .before .before .before .before .before .before .before .before .before .before .before .before .args .days .now) (c .before .before .before .before .before .before .before .before .before .before .before .before .before .before .before .before .before .args .x) (c .before .before .before .before .before .before .before .before .before .before .before .before .before .before .before .before .before .args .y) (c .before .before .before .before .before .before .before .before .before .before .before .before .before .before .before .before .before .args .c) (c .before .before .before .before .before .before .before .before .before .lack .result) = rw (toZ-ofZ w32 (c .before .before .before .before .before .before .before .before .before .before .before .before .before .before .before .before .before .args .c) (c .before .before .before .before .before .before .before .before .before .before .before .before .before .before .before .before .before .fits .c)) at (c .before .before .before .before .before .before .before .before .before .lack .ensures) in
-    planned (c .before .before .before .before .before .before .before .before .before .before .before .before .before .before .before .before .before .args .n) (first (c .before .before .before .before .before .before .before .before .before .before .before .before .before .before .before .before .before .args .m)) number (c .before .before .before .before .before .before .before .before .before .before .before .before .before .before .before .before .before .args .m) (c .before .before .before .before .before .before .before .before .before .before .before .before .before .before .before .before .before .args .xs .now) (c .before .before .before .before .before .before .before .before .before .before .before .before .before .before .before .before .before .args .ys .now) (c .before .before .before .before .before .before .before .before .before .before .before .before .before .before .before .before .before .args .cs .now) (c .before .before .before .before .before .before .before .before .before .before .before .before .before .before .before .before .before .args .days .now)
-    (c .before .before .before .before .before .before .before .before .before .before .before .before .before .before .before .before .before .args .heads .now) (c .before .before .before .before .before .before .before .before .before .before .before .before .before .before .before .before .before .args .nexts .now) (c .before .before .before .before .before .before .before .before .before .before .before .before .before .before .before .before .before .args .gains .now) (c .before .before .before .before .before .before .before .before .before .before .before .before .before .before .before .before .before .args .by .now) (c .before .before .before .before .before .before .before .before .before .before .before .before .before .before .before .before .before .args .x) (c .before .before .before .before .before .before .before .before .before .before .before .before .before .before .before .before .before .args .y) (c .before .before .before .before .before .before .before .before .before .before .before .before .before .before .before .before .before .args .c)
-    (c .before .before .before .before .before .before .before .before .before .before .before .before .before .before .before .before .before .pre) (c .before .before .before .before .before .before .before .before .before .lack .result) (l .some (omega (arith, c .before .before .before .before .before .before .before .before .if1 .left))) _ _ _ (omega (arith, c .before .before .before .before .before .spread-one .kept .1 .1 .1 .1 .1 .1 .1 .1 .1 .1 .1 .1 .0, c .before .before .before .before .before .before .before .before .before .before .before .before .before .before .before .before .before .pre .no-gains .by-room)) (c .before .before .before .before .before .spread-one .ensures)
+    let at-spread-one = c .before .before .before .before .before in
+    let else1 = at-spread-one .before .before .before in
+    let lack = else1 .before .lack in
+    let start = else1 .before .before .before .before .before .before .before .before .before in
+    let l : Lack (start .args .days .now) (start .args .x) (start .args .y) (start .args .c) (lack .result) = rw (toZ-ofZ w32 (start .args .c) (start .fits .c)) at (lack .ensures) in
+    planned (start .args .n) (first (start .args .m)) number (start .args .m) (start .args .xs .now) (start .args .ys .now) (start .args .cs .now) (start .args .days .now)
+    (start .args .heads .now) (start .args .nexts .now) (start .args .gains .now) (start .args .by .now) (start .args .x) (start .args .y) (start .args .c)
+    (start .pre) (lack .result) (l .some (omega (arith, else1 .if1 .left))) _ _ _ (omega (arith, at-spread-one .spread-one .kept .1 .1 .1 .1 .1 .1 .1 .1 .1 .1 .1 .1 .0, start .pre .no-gains .by-room)) (at-spread-one .spread-one .ensures)
     _ (λ e. omega (arith, eqb-true, leb-true, ltb-true)) (λ e. omega (arith, eqb-false, leb-false, ltb-false))
 
 pub plan-spec : {M : Type 1} → statement M

@@ -20,11 +20,19 @@ Inv-loop n gains days₀ count₀ v₀ days count v = (v ≤ n) × (count ≤ v)
 abbrev μ-loop : tie.MeasureT-loop
 μ-loop n gains days₀ count₀ v₀ days count v = n - v
 
+-- Places of the code, seen from later ones.
+abbrev start-before-shared-slice-known2 : tie.After-shared-slice-known2 Inv-loop μ-loop → tie.Start Inv-loop μ-loop
+start-before-shared-slice-known2 c = c .before .before .before .before .before .before .before
+
 loop-holds : tie.Need-loop-holds Inv-loop μ-loop
-loop-holds c = (omega arith, omega arith, raised-none (c .before .before .args .days .now) (c .before .before .args .gains .now) (c .before .before .args .days .now))
+loop-holds c =
+    let start = c .before .before in
+    (omega arith, omega arith, raised-none (start .args .days .now) (start .args .gains .now) (start .args .days .now))
 
 day-at-requires : tie.Need-day-at-requires Inv-loop μ-loop
-day-at-requires c κs = omega (arith, c .before .before .loop .inv .2 .past .same-length, c .before .before .before .before .before .pre .days-room)
+day-at-requires c κs =
+    let start = c .before .before .before .before .before in
+    omega (arith, c .before .before .loop .inv .2 .past .same-length, start .pre .days-room)
 
 mul-gain : tie.Need-mul-gain Inv-loop μ-loop
 mul-gain c = search needs
@@ -33,9 +41,11 @@ shared-slice-read-gain : tie.Need-shared-slice-read-gain Inv-loop μ-loop
 shared-slice-read-gain c = search needs
 
 -- The day and its gain fit a u32: the day is still the one from before the loop.
-fits : (c : tie.After-shared-slice-known2 Inv-loop μ-loop) → c .before .day-at .result + at (c .before .before .before .before .before .before .before .args .gains .now) (c .before .before .before .before .loop .v) < 2 ^ 32
+fits : (c : tie.After-shared-slice-known2 Inv-loop μ-loop) → c .before .day-at .result + at (start-before-shared-slice-known2 c .args .gains .now) (c .before .before .before .before .loop .v) < 2 ^ 32
 fits c =
-    omega (arith, c .before .day-at .ensures, c .before .before .before .before .before .before .before .pre .fits (c .before .before .before .before .loop .v) (omega arith), c .before .before .before .before .loop .inv .2 .past .kept (c .before .before .before .before .loop .v) (omega arith))
+    let loop = c .before .before .before .before .loop in
+    let start = start-before-shared-slice-known2 c in
+    omega (arith, c .before .day-at .ensures, start .pre .fits (loop .v) (omega arith), loop .inv .2 .past .kept (loop .v) (omega arith))
 
 add-days : tie.Need-add-days Inv-loop μ-loop
 add-days c = omega (arith, fits c)
@@ -47,7 +57,9 @@ mul-days : tie.Need-mul-days Inv-loop μ-loop
 mul-days c = search needs
 
 slice-write-days : tie.Need-slice-write-days Inv-loop μ-loop
-slice-write-days c = omega (arith, c .before .before .before .before .loop .inv .2 .past .same-length, c .before .before .before .before .before .before .before .pre .days-room)
+slice-write-days c =
+    let start = start-before-shared-slice-known2 c in
+    omega (arith, c .before .before .before .before .loop .inv .2 .past .same-length, start .pre .days-room)
 
 add-count : tie.Need-add-count Inv-loop μ-loop
 add-count c = search needs
@@ -60,14 +72,17 @@ loop-less c = search needs
 
 loop-again : tie.Need-loop-again Inv-loop μ-loop
 loop-again c =
-    let days = c .before .before .before .before .before .before .before .before .args .days .now in
-    let gains = c .before .before .before .before .before .before .before .before .args .gains .now in
-    let list = c .before .before .before .before .before .loop .days in
-    let v = c .before .before .before .before .before .loop .v in
-    let count = c .before .before .before .before .before .loop .count in
-    let so-far = c .before .before .before .before .before .loop .inv .2 in
-    let place : v < length days = omega (arith, c .before .before .before .before .before .before .before .before .pre .days-room) in
-    let day : c .before .before .day-at .result ≡ at days v = c .before .before .day-at .ensures ∙ so-far .past .kept v (omega arith) in
+    let day-at = c .before .before .day-at in
+    let loop = c .before .before .before .before .before .loop in
+    let start = c .before .before .before .before .before .before .before .before in
+    let days = start .args .days .now in
+    let gains = start .args .gains .now in
+    let list = loop .days in
+    let v = loop .v in
+    let count = loop .count in
+    let so-far = loop .inv .2 in
+    let place : v < length days = omega (arith, start .pre .days-room) in
+    let day : day-at .result ≡ at days v = day-at .ensures ∙ so-far .past .kept v (omega arith) in
     ⊎-elim
     (λ w. (omega arith, omega (arith, w .1), rw (day, w .1) (raised-more days gains days list v count place so-far (omega (arith, w .0 .taken)))))
     (λ w. (omega arith, omega (arith, w .1), rw (day, w .1) (raised-same days gains days list v count place so-far (omega (arith, w .0 .left)))))

@@ -19,11 +19,17 @@ hold-verdict-requires c κs = search needs
 refused-requires : tie.Need-refused-requires
 refused-requires c κs = search needs
 
+-- Places of the code, seen from later ones.
+abbrev start-before-hold-verdict : tie.After-hold-verdict → tie.Start
+start-before-hold-verdict c = c .before .before .before .before .before .before .before .before
+
 returns : tie.Need-returns
 returns c =
-    let args = c .before .before .before .before .before .before .before .before .before .before .args in
-    let f = rw (toZ-ofZ w32 (args .c) (c .before .before .before .before .before .before .before .before .before .before .fits .c)) at (c .before .before .hold-verdict .ensures) in
-    rw (c .refused .ensures) (trial-refused (args .counts) (args .x) (args .y) (args .c) (c .before .before .hold-verdict .result) f (args .xs .now) (args .ys .now) (args .cs .now) (args .days .now) (omega (arith, c .before .if1 .taken)) (args .one .now) (args .two .now) (c .before .before .before .before .before .before .before .before .before .before .pre .1))
+    let at-hold-verdict = c .before .before in
+    let start = at-hold-verdict .before .before .before .before .before .before .before .before in
+    let args = start .args in
+    let f = rw (toZ-ofZ w32 (args .c) (start .fits .c)) at (at-hold-verdict .hold-verdict .ensures) in
+    rw (c .refused .ensures) (trial-refused (args .counts) (args .x) (args .y) (args .c) (at-hold-verdict .hold-verdict .result) f (args .xs .now) (args .ys .now) (args .cs .now) (args .days .now) (omega (arith, c .before .if1 .taken)) (args .one .now) (args .two .now) (start .pre .1))
 
 slice-aggregate-trial-fine : tie.Need-slice-aggregate-trial-fine
 slice-aggregate-trial-fine c = search needs
@@ -32,16 +38,24 @@ slice-aggregate-trial-fine-2 : tie.Need-slice-aggregate-trial-fine-2
 slice-aggregate-trial-fine-2 c = search needs
 
 cast-trial-fine : tie.Need-cast-trial-fine
-cast-trial-fine c = omega (arith, hold-good (c .before .before .before .before .before .before .before .before .before .before .before .before .before .args .counts) _ _ _ _ (c .before .before .before .before .before .hold-verdict .ensures) (omega (arith, c .before .before .before .before .if1 .left)) .steps-in .first-in, c .before .before .before .before .before .before .before .before .before .before .before .before .before .pre .0 .ground .steps-in)
+cast-trial-fine c =
+    let at-hold-verdict = c .before .before .before .before .before in
+    let start = start-before-hold-verdict at-hold-verdict in
+    omega (arith, hold-good (start .args .counts) _ _ _ _ (at-hold-verdict .hold-verdict .ensures) (omega (arith, c .before .before .before .before .if1 .left)) .steps-in .first-in, start .pre .0 .ground .steps-in)
 
 cast-trial-fine-2 : tie.Need-cast-trial-fine-2
-cast-trial-fine-2 c = omega (arith, hold-good (c .before .before .before .before .before .before .before .before .before .before .before .before .before .args .counts) _ _ _ _ (c .before .before .before .before .before .hold-verdict .ensures) (omega (arith, c .before .before .before .before .if1 .left)) .steps-in .second-in, c .before .before .before .before .before .before .before .before .before .before .before .before .before .pre .0 .ground .steps-in)
+cast-trial-fine-2 c =
+    let at-hold-verdict = c .before .before .before .before .before in
+    let start = start-before-hold-verdict at-hold-verdict in
+    omega (arith, hold-good (start .args .counts) _ _ _ _ (at-hold-verdict .hold-verdict .ensures) (omega (arith, c .before .before .before .before .if1 .left)) .steps-in .second-in, start .pre .0 .ground .steps-in)
 
 trial-fine-requires : tie.Need-trial-fine-requires
 trial-fine-requires c κs =
-    let args = c .before .before .before .before .before .before .before .before .before .before .before .before .before .args in (
-      hold-ready (args .counts) _ _ _ _ (c .before .before .before .before .before .hold-verdict .ensures) (args .xs .now) (args .ys .now) (args .cs .now) (args .days .now) (args .heads .now) (args .nexts .now) (c .before .before .before .before .before .before .before .before .before .before .before .before .before .pre .0) (omega (arith, c .before .before .before .before .if1 .left)),
-      (no-gains (args .counts .steps) (c .before .before .before .before .before .before .before .before .before .before .before .before .before .pre .0 .ground .steps-in), c .before .before .before .before .before .before .before .before .before .before .before .before .before .pre .1),
+    let at-hold-verdict = c .before .before .before .before .before in
+    let start = start-before-hold-verdict at-hold-verdict in
+    let args = start .args in (
+      hold-ready (args .counts) _ _ _ _ (at-hold-verdict .hold-verdict .ensures) (args .xs .now) (args .ys .now) (args .cs .now) (args .days .now) (args .heads .now) (args .nexts .now) (start .pre .0) (omega (arith, c .before .before .before .before .if1 .left)),
+      (no-gains (args .counts .steps) (start .pre .0 .ground .steps-in), start .pre .1),
     )
 
 same-length : tie.Need-same-length
@@ -51,7 +65,10 @@ same-length-2 : tie.Need-same-length-2
 same-length-2 c = search needs
 
 returns-2 : tie.Need-returns-2
-returns-2 c = rw (toZ-ofZ w32 (c .before .before .before .before .before .before .before .before .before .before .before .before .before .before .before .before .before .before .before .before .args .c) (c .before .before .before .before .before .before .before .before .before .before .before .before .before .before .before .before .before .before .before .before .fits .c)) at (c .before .before .before .before .before .before .trial-fine .ensures)
+returns-2 c =
+    let at-trial-fine = c .before .before .before .before .before .before in
+    let start = at-trial-fine .before .before .before .before .before .before .before .before .before .before .before .before .before .before in
+    rw (toZ-ofZ w32 (start .args .c) (start .fits .c)) at (at-trial-fine .trial-fine .ensures)
 
 pub trial-spec : {M : Type 1} → statement M
 trial-spec =

@@ -27,16 +27,19 @@ cast-m c = search needs
 
 plan-requires : tie.Need-plan-requires
 plan-requires c κs =
-    rw (toZ-ofZ w32 (c .before .before .before .before .before .before .before .before .before .before .before .before .before .args .c) (c .before .before .before .before .before .before .before .before .before .before .before .before .before .fits .c)) (record { base = c .before .before .before .before .before .before .before .before .before .before .before .before .before .pre .0 .base; new-in = c .before .before .before .before .before .before .before .before .before .before .before .before .before .pre .0 .new-good .steps-in; free = c .before .before .before .before .before .before .before .before .before .before .before .before .before .pre .0 .free; free-in = omega (arith, c .before .before .before .before .before .before .before .before .before .before .before .before .before .pre .0 .not-full); no-gains = c .before .before .before .before .before .before .before .before .before .before .before .before .before .pre .1 .0 })
+    let start = c .before .before .before .before .before .before .before .before .before .before .before .before .before in
+    rw (toZ-ofZ w32 (start .args .c) (start .fits .c)) (record { base = start .pre .0 .base; new-in = start .pre .0 .new-good .steps-in; free = start .pre .0 .free; free-in = omega (arith, start .pre .0 .not-full); no-gains = start .pre .1 .0 })
 
 write-days-requires : tie.Need-write-days-requires
 write-days-requires c κs =
-    let args = c .before .before .before .before .before .before .before .before .before .before .before .before .before .before .before .before .before .before .before .before .before .args in
-    let p : RulePlanned (args .counts .steps) (first (args .counts .rules)) (args .counts .rules) (args .xs .now) (args .ys .now) (args .cs .now) (args .days .now) _ _ (args .x) (args .y) (args .c) (c .before .before .before .before .before .before .before .plan .result)
-    = rw (toZ-ofZ w32 (args .c) (c .before .before .before .before .before .before .before .before .before .before .before .before .before .before .before .before .before .before .before .before .before .fits .c)) at (c .before .before .before .before .before .before .before .plan .ensures) in
-    raisable (args .counts .steps) (first (args .counts .rules)) number (args .counts .rules) (args .xs .now) (args .ys .now) (args .cs .now) (args .days .now) (args .heads .now) (args .nexts .now) (args .x) (args .y) (args .c) (c .before .before .before .before .before .before .before .before .before .before .before .before .before .before .before .before .before .before .before .before .before .pre .0)
+    let at-plan = c .before .before .before .before .before .before .before in
+    let start = at-plan .before .before .before .before .before .before .before .before .before .before .before .before .before .before in
+    let args = start .args in
+    let p : RulePlanned (args .counts .steps) (first (args .counts .rules)) (args .counts .rules) (args .xs .now) (args .ys .now) (args .cs .now) (args .days .now) _ _ (args .x) (args .y) (args .c) (at-plan .plan .result)
+    = rw (toZ-ofZ w32 (args .c) (start .fits .c)) at (at-plan .plan .ensures) in
+    raisable (args .counts .steps) (first (args .counts .rules)) number (args .counts .rules) (args .xs .now) (args .ys .now) (args .cs .now) (args .days .now) (args .heads .now) (args .nexts .now) (args .x) (args .y) (args .c) (start .pre .0)
     _ (p .earliest (c .before .before .if1 .taken)) _
-    (omega (arith, c .before .before .before .before .before .before .before .plan .kept .1 .1 .1 .1 .1 .1 .1 .1 .1 .1 .1 .0, c .before .before .before .before .before .before .before .before .before .before .before .before .before .before .before .before .before .before .before .before .before .pre .1 .0 .gains-room)) (omega (arith, c .before .before .before .before .before .before .before .before .before .before .before .before .before .before .before .before .before .before .before .before .before .pre .1 .1 .one-room, c .before .before .before .before .before .before .before .before .before .before .before .before .before .before .before .before .before .before .before .before .before .pre .0 .base .ground .steps-in))
+    (omega (arith, at-plan .plan .kept .1 .1 .1 .1 .1 .1 .1 .1 .1 .1 .1 .0, start .pre .1 .0 .gains-room)) (omega (arith, start .pre .1 .1 .one-room, start .pre .0 .base .ground .steps-in))
 
 done-requires : tie.Need-done-requires
 done-requires c κs = search needs
@@ -52,27 +55,35 @@ same-length-3 c = search needs
 
 returns : tie.Need-returns
 returns c =
-    let args = c .before .before .before .before .before .before .before .before .before .before .before .before .before .before .before .before .before .before .before .before .before .before .before .before .before .args in
-    let p : RulePlanned (args .counts .steps) (first (args .counts .rules)) (args .counts .rules) (args .xs .now) (args .ys .now) (args .cs .now) (args .days .now) _ _ (args .x) (args .y) (args .c) (c .before .before .before .before .before .before .before .before .before .before .before .plan .result)
-    = rw (toZ-ofZ w32 (args .c) (c .before .before .before .before .before .before .before .before .before .before .before .before .before .before .before .before .before .before .before .before .before .before .before .before .before .fits .c)) at (c .before .before .before .before .before .before .before .before .before .before .before .plan .ensures) in
+    let at-write-days = c .before .before .before in
+    let then1 = at-write-days .before .before .before in
+    let at-plan = then1 .before .before .before .before .before in
+    let start = at-plan .before .before .before .before .before .before .before .before .before .before .before .before .before .before in
+    let args = start .args in
+    let p : RulePlanned (args .counts .steps) (first (args .counts .rules)) (args .counts .rules) (args .xs .now) (args .ys .now) (args .cs .now) (args .days .now) _ _ (args .x) (args .y) (args .c) (at-plan .plan .result)
+    = rw (toZ-ofZ w32 (args .c) (start .fits .c)) at (at-plan .plan .ensures) in
     rw (c .done .ensures)
-    (trial-done (args .counts) (args .xs .now) (args .ys .now) (args .cs .now) (args .days .now) (args .heads .now) (args .nexts .now) (args .x) (args .y) (args .c) (c .before .before .before .before .before .before .before .before .before .before .before .before .before .before .before .before .before .before .before .before .before .before .before .before .before .pre .0)
-    (args .one .now) (args .two .now) _ (c .before .before .before .before .before .before .before .before .before .before .before .before .before .before .before .before .before .before .before .before .before .before .before .before .before .pre .1 .1) (c .before .before .before .write-days .result)
-    (planned-list (args .counts .steps) (first (args .counts .rules)) number (args .counts .rules) (args .xs .now) (args .ys .now) (args .cs .now) (args .days .now) (args .heads .now) (args .nexts .now) (args .x) (args .y) (args .c) (c .before .before .before .before .before .before .before .before .before .before .before .before .before .before .before .before .before .before .before .before .before .before .before .before .before .pre .0)
-    _ (p .earliest (c .before .before .before .before .before .before .if1 .taken)) _ _ _ (c .before .before .before .write-days .ensures))
-    (c .before .before .before .write-days .ensures .count))
+    (trial-done (args .counts) (args .xs .now) (args .ys .now) (args .cs .now) (args .days .now) (args .heads .now) (args .nexts .now) (args .x) (args .y) (args .c) (start .pre .0)
+    (args .one .now) (args .two .now) _ (start .pre .1 .1) (at-write-days .write-days .result)
+    (planned-list (args .counts .steps) (first (args .counts .rules)) number (args .counts .rules) (args .xs .now) (args .ys .now) (args .cs .now) (args .days .now) (args .heads .now) (args .nexts .now) (args .x) (args .y) (args .c) (start .pre .0)
+    _ (p .earliest (then1 .if1 .taken)) _ _ _ (at-write-days .write-days .ensures))
+    (at-write-days .write-days .ensures .count))
 
 ring-requires : tie.Need-ring-requires
 ring-requires c κs =
-    (c .before .before .before .before .before .before .before .before .plan .ensures .reached (c .before .before .before .if1 .left), (c .before .before .before .before .before .before .before .before .plan .ensures .lacks (c .before .before .before .if1 .left), omega (arith, c .before .before .before .before .before .before .before .before .before .before .before .before .before .before .before .before .before .before .before .before .before .before .pre .1 .1 .two-room, c .before .before .before .before .before .before .before .before .before .before .before .before .before .before .before .before .before .before .before .before .before .before .pre .0 .base .ground .steps-in)))
+    let else1 = c .before .before .before in
+    let at-plan = else1 .before .before .before .before .before in
+    let start = at-plan .before .before .before .before .before .before .before .before .before .before .before .before .before .before in
+    (at-plan .plan .ensures .reached (else1 .if1 .left), (at-plan .plan .ensures .lacks (else1 .if1 .left), omega (arith, start .pre .1 .1 .two-room, start .pre .0 .base .ground .steps-in)))
 
 cast-conflict : tie.Need-cast-conflict
 cast-conflict c =
-    let args = c .before .before .before .before .before .before .before .before .before .before .before .before .before .before .before .before .before .before .before .before .before .before .before .before .before .args in
+    let start = c .before .before .before .before .before .before .before .before .before .before .before .before .before .before .before .before .before .before .before .before .before .before .before .before .before in
+    let args = start .args in
     omega (
       arith,
-      ring-short (args .counts .steps) (first (args .counts .rules)) number (args .counts .rules) (args .xs .now) (args .ys .now) (args .cs .now) (args .days .now) (args .heads .now) (args .nexts .now) (args .x) (args .y) (args .c) (c .before .before .before .before .before .before .before .before .before .before .before .before .before .before .before .before .before .before .before .before .before .before .before .before .before .pre .0) _ _ _
-          (rw (toZ-ofZ w32 (args .c) (c .before .before .before .before .before .before .before .before .before .before .before .before .before .before .before .before .before .before .before .before .before .before .before .before .before .fits .c)) at (c .before .before .ring .ensures)),
+      ring-short (args .counts .steps) (first (args .counts .rules)) number (args .counts .rules) (args .xs .now) (args .ys .now) (args .cs .now) (args .days .now) (args .heads .now) (args .nexts .now) (args .x) (args .y) (args .c) (start .pre .0) _ _ _
+          (rw (toZ-ofZ w32 (args .c) (start .fits .c)) at (c .before .before .ring .ensures)),
     )
 
 conflict-requires : tie.Need-conflict-requires
@@ -89,10 +100,11 @@ same-length-6 c = search needs
 
 returns-2 : tie.Need-returns-2
 returns-2 c =
-    let args = c .before .before .before .before .before .before .before .before .before .before .before .before .before .before .before .before .before .before .before .before .before .before .before .before .before .before .args in
+    let start = c .before .before .before .before .before .before .before .before .before .before .before .before .before .before .before .before .before .before .before .before .before .before .before .before .before .before in
+    let args = start .args in
     rw (c .conflict .ensures)
-    (trial-conflict (args .counts) (args .xs .now) (args .ys .now) (args .cs .now) (args .days .now) (args .heads .now) (args .nexts .now) (args .x) (args .y) (args .c) (c .before .before .before .before .before .before .before .before .before .before .before .before .before .before .before .before .before .before .before .before .before .before .before .before .before .before .pre .0)
-    (args .one .now) (args .two .now) _ (c .before .before .before .before .before .before .before .before .before .before .before .before .before .before .before .before .before .before .before .before .before .before .before .before .before .before .pre .1 .1) _ (rw (toZ-ofZ w32 (args .c) (c .before .before .before .before .before .before .before .before .before .before .before .before .before .before .before .before .before .before .before .before .before .before .before .before .before .before .fits .c)) at (c .before .before .before .ring .ensures)))
+    (trial-conflict (args .counts) (args .xs .now) (args .ys .now) (args .cs .now) (args .days .now) (args .heads .now) (args .nexts .now) (args .x) (args .y) (args .c) (start .pre .0)
+    (args .one .now) (args .two .now) _ (start .pre .1 .1) _ (rw (toZ-ofZ w32 (args .c) (start .fits .c)) at (c .before .before .before .ring .ensures)))
 
 pub trial-fine-spec : {M : Type 1} → statement M
 trial-fine-spec =

@@ -21,7 +21,9 @@ abbrev μ-loop : tie.MeasureT-loop
 μ-loop n days gains list₀ count₀ v₀ list count v = n - v
 
 loop-holds : tie.Need-loop-holds Inv-loop μ-loop
-loop-holds c = (omega arith, omega arith, raised-none (c .before .before .before .args .days .now) (c .before .before .before .args .gains .now) (c .before .before .before .args .list .now))
+loop-holds c =
+    let start = c .before .before .before in
+    (omega arith, omega arith, raised-none (start .args .days .now) (start .args .gains .now) (start .args .list .now))
 
 day-at-requires : tie.Need-day-at-requires Inv-loop μ-loop
 day-at-requires c κs = search needs
@@ -33,10 +35,14 @@ shared-slice-read-gain : tie.Need-shared-slice-read-gain Inv-loop μ-loop
 shared-slice-read-gain c = search needs
 
 add-list : tie.Need-add-list Inv-loop μ-loop
-add-list c = let f = c .before .before .before .before .before .before .before .pre .fits (c .before .before .before .loop .v) (omega arith) in omega (arith, c .before .day-at .ensures, f)
+add-list c =
+    let start = c .before .before .before .before .before .before .before in
+    let f = start .pre .fits (c .before .before .before .loop .v) (omega arith) in omega (arith, c .before .day-at .ensures, f)
 
 cast-list : tie.Need-cast-list Inv-loop μ-loop
-cast-list c = let f = c .before .before .before .before .before .before .before .pre .fits (c .before .before .before .loop .v) (omega arith) in omega (arith, c .before .day-at .ensures, f)
+cast-list c =
+    let start = c .before .before .before .before .before .before .before in
+    let f = start .pre .fits (c .before .before .before .loop .v) (omega arith) in omega (arith, c .before .day-at .ensures, f)
 
 mul-list : tie.Need-mul-list Inv-loop μ-loop
 mul-list c = search needs
@@ -55,10 +61,13 @@ loop-less c = search needs
 
 loop-again : tie.Need-loop-again Inv-loop μ-loop
 loop-again c =
-    let place = c .before .before .before .before .before .before .before .before .pre .list-room in
+    let day-at = c .before .before .day-at in
+    let loop = c .before .before .before .before .loop in
+    let start = c .before .before .before .before .before .before .before .before in
+    let place = start .pre .list-room in
     ⊎-elim
-    (λ w. (omega arith, omega (arith, w .1), rw (c .before .before .day-at .ensures, w .1) (raised-more (c .before .before .before .before .before .before .before .before .args .days .now) (c .before .before .before .before .before .before .before .before .args .gains .now) (c .before .before .before .before .before .before .before .before .args .list .now) (c .before .before .before .before .loop .list) (c .before .before .before .before .loop .v) (c .before .before .before .before .loop .count) (omega (arith, place)) (c .before .before .before .before .loop .inv .2) (omega (arith, w .0 .taken)))))
-    (λ w. (omega arith, omega (arith, w .1), rw (c .before .before .day-at .ensures, w .1) (raised-same (c .before .before .before .before .before .before .before .before .args .days .now) (c .before .before .before .before .before .before .before .before .args .gains .now) (c .before .before .before .before .before .before .before .before .args .list .now) (c .before .before .before .before .loop .list) (c .before .before .before .before .loop .v) (c .before .before .before .before .loop .count) (omega (arith, place)) (c .before .before .before .before .loop .inv .2) (omega (arith, w .0 .left)))))
+    (λ w. (omega arith, omega (arith, w .1), rw (day-at .ensures, w .1) (raised-more (start .args .days .now) (start .args .gains .now) (start .args .list .now) (loop .list) (loop .v) (loop .count) (omega (arith, place)) (loop .inv .2) (omega (arith, w .0 .taken)))))
+    (λ w. (omega arith, omega (arith, w .1), rw (day-at .ensures, w .1) (raised-same (start .args .days .now) (start .args .gains .now) (start .args .list .now) (loop .list) (loop .v) (loop .count) (omega (arith, place)) (loop .inv .2) (omega (arith, w .0 .left)))))
     (c .if1 .came)
 
 same-length : tie.Need-same-length Inv-loop μ-loop
@@ -66,7 +75,8 @@ same-length c = search needs
 
 returns : tie.Need-returns Inv-loop μ-loop
 returns c =
-    let end : c .before .loop .v ≡ c .before .before .before .before .before .args .n = omega arith in
+    let start = c .before .before .before .before .before in
+    let end : c .before .loop .v ≡ start .args .n = omega arith in
     rw end at (c .before .loop .inv .2)
 
 pub write-days-spec : {M : Type 1} → statement M
