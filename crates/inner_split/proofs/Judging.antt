@@ -1,16 +1,16 @@
 -- Passing verdicts along the chain of a step, and over all steps.
-use Prim.Native.Nat.{ℕ, suc, _+_, _<_}
+use Prim.Native.Nat.{ℕ, suc, _+_, _-_, _≤_, _<_}
 use native.Mathlib.Omega.{arith}
 use native.Mathlib.Decide.{ℕ-discrete}
 use mathlib.Core.Path.{_≡_, refl, _∙_, ap}
 use mathlib.Core.List.{List}
 use mathlib.Core.Logic.{_↔_}
-use lib.ListN.{length, set}
+use lib.ListN.{length, set, length-set}
 use lib.Seq.{getD-set-same, getD-set-other}
 use Rattle.meaning.specs.Tables.{at}
 use Rattle.lent.specs.Lent.{first}
 use Rattle.chains.specs.Chains.{Chained, number}
-use Rattle.chains.proofs.Walk.{Met, met-head, met-next}
+use Rattle.chains.proofs.Walk.{Link, link-head, link-next, Met, met-head, met-next}
 use Rattle.inner_split.specs.Verdicts.{Verdict, Judged}
 
 -- Equivalence: a verdict on X is one on each Y that holds exactly when X does.
@@ -45,6 +45,42 @@ module _ (P : ℕ → Type 0) (n w : ℕ) (steps heads nexts : List ℕ) (chaine
 -- The walk has come to its end.
 pub judging-end : (P : ℕ → Type 0) (w : ℕ) (steps : List ℕ) (a : ℕ) (before after : List ℕ) → Judging P w steps a 0 before after → Judged P w steps a before after
 judging-end P w steps a before after judging = record { decided = λ j j-in of-a. judging .met j j-in (omega arith) of-a; others = judging .others }
+
+-- The walk along the chain of step a that `judge_firsts` and `judge_seconds` make, each over its own column: it has come to the link, the list of verdicts is as long
+-- as before, and verdicts are passed from the link on.
+pub record Along (P : ℕ → Type 0) (w : ℕ) (steps : List ℕ) (a link : ℕ) (before after : List ℕ) : Type 0 where
+  pub long : length after ≡ length before
+  pub linked : Link (first w) steps a link
+  pub judging : Judging P w steps a link before after
+
+module _ (P : ℕ → Type 0) (n w : ℕ) (steps heads nexts : List ℕ) (chained : Chained n w steps heads nexts) (a : ℕ) (before : List ℕ) where
+  -- It begins at the head of the chain.
+  pub along-head : (link : ℕ) → link ≡ at heads a → a < n → Along P w steps a link before before
+  along-head link is a-in = rw is (record {
+    long = refl;
+    linked = link-head n (first w) number steps heads nexts chained a a-in;
+    judging = judging-head P n w steps heads nexts chained a before a-in;
+  })
+
+  -- A verdict is passed on the rule of the link, and the walk goes on at the next of that rule.
+  pub along-next :
+      (link next v : ℕ) (after : List ℕ) → 0 < link → next ≡ at nexts (link - 1) → w ≤ length before → (at steps (link - 1) ≡ a → Verdict v (P (link - 1))) →
+      Along P w steps a link before after → Along P w steps a next before (set after (link - 1) v)
+  along-next link next v after some is room verdict along =
+      let k = link - 1 in
+      let counted : link ≡ suc k = omega (arith, some) in
+      let k-in : k < w = along .linked .held k counted in
+      let own : at steps k ≡ a = along .linked .own k counted in
+      rw is (record {
+        long = length-set after k v ∙ along .long;
+        linked = link-next n (first w) number steps heads nexts chained a k k-in own;
+        judging = judging-next P n w steps heads nexts chained a before k v after k-in (omega (arith, k-in, room, along .long)) own (verdict own) (rw counted at (along .judging));
+      })
+
+-- It has come to its end.
+pub along-end :
+    (P : ℕ → Type 0) (w : ℕ) (steps : List ℕ) (a link : ℕ) (before after : List ℕ) → link ≡ 0 → Along P w steps a link before after → Judged P w steps a before after
+along-end P w steps a link before after done along = judging-end P w steps a before after (rw done at (along .judging))
 
 -- On an empty chain there is nothing to judge.
 pub judged-empty :

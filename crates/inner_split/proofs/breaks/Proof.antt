@@ -1,4 +1,4 @@
--- `inner_split::breaks` meets its contract.
+-- `inner_split::breaks` meets its contract: the test compares the two sides of the rule, both with 2147483648 added.
 use native.Mathlib.Omega.{arith}
 use borrow.Author.Needs.{needs}
 use Rattle.inner_split.proofs.breaks.Statement.{statement}

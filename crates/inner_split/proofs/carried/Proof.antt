@@ -1,4 +1,4 @@
--- `inner_split::carried` meets its contract.
+-- `inner_split::carried` meets its contract: a day is below 2 ^ 32 and the gain is bounded, so that their sum fits.
 use native.Mathlib.Omega.{arith}
 use borrow.Author.Needs.{needs}
 use Rattle.inner_split.proofs.carried.Statement.{statement}

@@ -29,10 +29,24 @@ slice-aggregate-build c = search needs
 slice-aggregate-build-2 : tie.Need-slice-aggregate-build-2
 slice-aggregate-build-2 c = search needs
 
+-- Places of the code, seen from later ones.
+abbrev judge-all-before-pick-arg : tie.After-pick-arg → tie.After-judge-all
+judge-all-before-pick-arg c = c .before .before .before .before .before .before
+
+abbrev pick-before-slice-known4 : tie.After-slice-known4 → tie.After-pick
+pick-before-slice-known4 c = c .before .before .before .before .before .before .before
+
+abbrev start-before-wxnexts : tie.After-wxnexts → tie.Start
+start-before-wxnexts c = c .before .before .before .before .before .before .before .before .before .before .before .before .before .before .before
+
+abbrev start-before-never : tie.After-never → tie.Start
+start-before-never c = start-before-wxnexts (c .before .before .before .before .before .before .before .before .before .before .before .before .before .before .before .before)
+
 build-requires : tie.Need-build-requires
 build-requires c κs =
-    let a = c .before .before .before .before .before .before .before .before .before .before .before .before .before .before .before .args in
-    let border = c .before .before .before .before .before .before .before .before .before .before .before .before .before .before .before .pre .0 in
+    let start = start-before-wxnexts c in
+    let a = start .args in
+    let border = start .pre .0 in
     buildable (a .counts) (a .xs .now) (a .ys .now) (a .cs .now) (a .days .now) (a .marks .now) (a .wxs .now) (a .wys .now) (a .wcs .now) border (a .wxs .now) _ _ (border .room .watched-room .firsts-room) (λ j j-in. border .sound .watched-good j j-in .steps-in .first-in) (omega arith) (omega arith)
 
 slice-aggregate-build-3 : tie.Need-slice-aggregate-build-3
@@ -43,8 +57,9 @@ slice-aggregate-build-4 c = search needs
 
 build-requires-2 : tie.Need-build-requires-2
 build-requires-2 c κs =
-    let a = c .before .before .before .before .before .before .before .before .before .before .before .before .before .before .before .before .before .before .before .before .args in
-    let border = c .before .before .before .before .before .before .before .before .before .before .before .before .before .before .before .before .before .before .before .before .pre .0 in
+    let start = start-before-wxnexts (c .before .before .before .before .before) in
+    let a = start .args in
+    let border = start .pre .0 in
     buildable (a .counts) (a .xs .now) (a .ys .now) (a .cs .now) (a .days .now) (a .marks .now) (a .wxs .now) (a .wys .now) (a .wcs .now) border (a .wys .now) _ _ (border .room .watched-room .seconds-room) (λ j j-in. border .sound .watched-good j j-in .steps-in .second-in) (omega arith) (omega arith)
 
 slice-aggregate-judge-all : tie.Need-slice-aggregate-judge-all
@@ -73,15 +88,18 @@ slice-aggregate-judge-all-8 c = search needs
 
 judge-all-requires : tie.Need-judge-all-requires
 judge-all-requires c κs =
-    let a = c .before .before .before .before .before .before .before .before .before .before .before .before .before .before .before .before .before .before .before .before .before .before .before .before .before .before .before .before .before .before .before .args in
-    let border = c .before .before .before .before .before .before .before .before .before .before .before .before .before .before .before .before .before .before .before .before .before .before .before .before .before .before .before .before .before .before .before .pre .0 in (
-      ground (a .counts) (a .xs .now) (a .ys .now) (a .cs .now) (a .days .now) (a .marks .now) (a .wxs .now) (a .wys .now) (a .wcs .now) border (a .heads .now) (a .nexts .now) (c .before .before .before .before .before .before .before .before .before .before .before .before .before .before .before .before .before .before .before .before .before .before .before .before .before .before .before .before .before .before .before .pre .1 .1 .1 .0) (c .before .before .before .before .before .before .before .before .before .before .before .before .before .before .before .before .before .before .before .before .before .before .before .before .before .before .before .before .before .before .before .pre .1 .1 .1 .1 .0) (c .before .before .before .before .before .before .before .before .before .before .before .before .before .before .before .before .before .before .before .before .before .before .before .before .before .before .before .before .before .before .before .pre .1 .1 .1 .1 .1),
+    let at-build2 = c .before .before .before .before .before .before .before .before .before .before in
+    let build = at-build2 .before .before .before .before .before .build in
+    let start = start-before-never c in
+    let a = start .args in
+    let border = start .pre .0 in (
+      ground (a .counts) (a .xs .now) (a .ys .now) (a .cs .now) (a .days .now) (a .marks .now) (a .wxs .now) (a .wys .now) (a .wcs .now) border (a .heads .now) (a .nexts .now) (start .pre .1 .1 .1 .0) (start .pre .1 .1 .1 .1 .0) (start .pre .1 .1 .1 .1 .1),
       (
         near (a .counts) (a .xs .now) (a .ys .now) (a .cs .now) (a .days .now) (a .marks .now) (a .wxs .now) (a .wys .now) (a .wcs .now) border,
         (
-          watching (a .counts) (a .xs .now) (a .ys .now) (a .cs .now) (a .days .now) (a .marks .now) (a .wxs .now) (a .wys .now) (a .wcs .now) border (c .before .before .before .before .before .before .before .before .before .before .before .before .before .before .before .build .last .1 .1 .1 .0) (c .before .before .before .before .before .before .before .before .before .before .before .before .before .before .before .build .last .1 .1 .1 .1 .0) (c .before .before .before .before .before .before .before .before .before .before .build2 .last .1 .1 .1 .0) (c .before .before .before .before .before .before .before .before .before .before .build2 .last .1 .1 .1 .1 .0)
-              (chains-by (a .counts) (a .xs .now) (a .ys .now) (a .cs .now) (a .days .now) (a .marks .now) (a .wxs .now) (a .wys .now) (a .wcs .now) border (a .wxs .now) (c .before .before .before .before .before .before .before .before .before .before .before .before .before .before .before .build .last .1 .1 .1 .0) (c .before .before .before .before .before .before .before .before .before .before .before .before .before .before .before .build .last .1 .1 .1 .1 .0) (c .before .before .before .before .before .before .before .before .before .before .before .before .before .before .before .build .ensures) (omega (arith, c .before .before .before .before .before .before .before .before .before .before .before .before .before .before .before .build .kept .1 .1 .1 .0)) (omega (arith, c .before .before .before .before .before .before .before .before .before .before .before .before .before .before .before .build .kept .1 .1 .1 .1 .0)))
-              (chains-by (a .counts) (a .xs .now) (a .ys .now) (a .cs .now) (a .days .now) (a .marks .now) (a .wxs .now) (a .wys .now) (a .wcs .now) border (a .wys .now) (c .before .before .before .before .before .before .before .before .before .before .build2 .last .1 .1 .1 .0) (c .before .before .before .before .before .before .before .before .before .before .build2 .last .1 .1 .1 .1 .0) (c .before .before .before .before .before .before .before .before .before .before .build2 .ensures) (omega (arith, c .before .before .before .before .before .before .before .before .before .before .build2 .kept .1 .1 .1 .0)) (omega (arith, c .before .before .before .before .before .before .before .before .before .before .build2 .kept .1 .1 .1 .1 .0))),
+          watching (a .counts) (a .xs .now) (a .ys .now) (a .cs .now) (a .days .now) (a .marks .now) (a .wxs .now) (a .wys .now) (a .wcs .now) border (build .last .1 .1 .1 .0) (build .last .1 .1 .1 .1 .0) (at-build2 .build2 .last .1 .1 .1 .0) (at-build2 .build2 .last .1 .1 .1 .1 .0)
+              (chains-by (a .counts) (a .xs .now) (a .ys .now) (a .cs .now) (a .days .now) (a .marks .now) (a .wxs .now) (a .wys .now) (a .wcs .now) border (a .wxs .now) (build .last .1 .1 .1 .0) (build .last .1 .1 .1 .1 .0) (build .ensures) (omega (arith, build .kept .1 .1 .1 .0)) (omega (arith, build .kept .1 .1 .1 .1 .0)))
+              (chains-by (a .counts) (a .xs .now) (a .ys .now) (a .cs .now) (a .days .now) (a .marks .now) (a .wxs .now) (a .wys .now) (a .wcs .now) border (a .wys .now) (at-build2 .build2 .last .1 .1 .1 .0) (at-build2 .build2 .last .1 .1 .1 .1 .0) (at-build2 .build2 .ensures) (omega (arith, at-build2 .build2 .kept .1 .1 .1 .0)) (omega (arith, at-build2 .build2 .kept .1 .1 .1 .1 .0))),
           record {
             gains-room = omega (arith, border .sound .counts-in .steps-in);
             by-room = omega (arith, border .sound .counts-in .steps-in);
@@ -97,46 +115,58 @@ slice-aggregate-pick c = search needs
 
 pick-requires : tie.Need-pick-requires
 pick-requires c κs =
-    let watched-in = c .before .before .before .before .before .before .before .before .before .before .before .before .before .before .before .before .before .before .before .before .before .before .before .before .before .before .before .before .before .before .before .before .before .before .before .before .before .before .pre .0 .sound .counts-in .watched-in in
-    (watched-in, (omega (arith, watched-in, c .before .before .before .before .before .before .judge-all .kept .1 .1 .1 .1 .1 .1 .1 .1 .1 .1 .1 .1 .1 .1 .1 .1 .1 .1 .0), c .before .before .before .before .before .before .before .before .before .before .before .before .before .before .before .before .before .before .before .before .before .before .before .before .before .before .before .before .before .before .before .before .before .before .before .before .before .before .pre .1 .0))
+    let at-judge-all = judge-all-before-pick-arg c in
+    let start = start-before-never (at-judge-all .before) in
+    let watched-in = start .pre .0 .sound .counts-in .watched-in in
+    (watched-in, (omega (arith, watched-in, at-judge-all .judge-all .kept .1 .1 .1 .1 .1 .1 .1 .1 .1 .1 .1 .1 .1 .1 .1 .1 .1 .1 .0), start .pre .1 .0))
 
 slice-aggregate-pick-2 : tie.Need-slice-aggregate-pick-2
 slice-aggregate-pick-2 c = search needs
 
 pick-requires-2 : tie.Need-pick-requires-2
 pick-requires-2 c κs =
-    let watched-in = c .before .before .before .before .before .before .before .before .before .before .before .before .before .before .before .before .before .before .before .before .before .before .before .before .before .before .before .before .before .before .before .before .before .before .before .before .before .before .before .before .before .before .before .pre .0 .sound .counts-in .watched-in in
-    (watched-in, (omega (arith, watched-in, c .before .before .before .before .before .before .before .before .before .before .before .judge-all .kept .1 .1 .1 .1 .1 .1 .1 .1 .1 .1 .1 .1 .1 .1 .1 .1 .1 .1 .1 .0), c .before .before .before .before .before .before .before .before .before .before .before .before .before .before .before .before .before .before .before .before .before .before .before .before .before .before .before .before .before .before .before .before .before .before .before .before .before .before .before .before .before .before .before .pre .1 .1 .0))
+    let at-judge-all = judge-all-before-pick-arg (c .before .before .before .before .before) in
+    let start = start-before-never (at-judge-all .before) in
+    let watched-in = start .pre .0 .sound .counts-in .watched-in in
+    (watched-in, (omega (arith, watched-in, at-judge-all .judge-all .kept .1 .1 .1 .1 .1 .1 .1 .1 .1 .1 .1 .1 .1 .1 .1 .1 .1 .1 .1 .0), start .pre .1 .1 .0))
 
 cast-done : tie.Need-cast-done
 cast-done c =
-    omega (arith, c .before .before .before .before .before .before .before .pick .ensures .at-most, c .before .before .before .before .before .before .before .before .before .before .before .before .before .before .before .before .before .before .before .before .before .before .before .before .before .before .before .before .before .before .before .before .before .before .before .before .before .before .before .before .before .before .before .before .before .before .pre .0 .sound .counts-in .watched-in)
+    let at-pick = pick-before-slice-known4 c in
+    let start = start-before-never (judge-all-before-pick-arg (at-pick .before) .before) in
+    omega (arith, at-pick .pick .ensures .at-most, start .pre .0 .sound .counts-in .watched-in)
 
 cast-done-2 : tie.Need-cast-done-2
 cast-done-2 c =
-    omega (arith, c .before .before .pick2 .ensures .at-most, c .before .before .before .before .before .before .before .before .before .before .before .before .before .before .before .before .before .before .before .before .before .before .before .before .before .before .before .before .before .before .before .before .before .before .before .before .before .before .before .before .before .before .before .before .before .before .pre .0 .sound .counts-in .watched-in)
+    let start = start-before-never (judge-all-before-pick-arg (pick-before-slice-known4 c .before) .before) in
+    omega (arith, c .before .before .pick2 .ensures .at-most, start .pre .0 .sound .counts-in .watched-in)
 
 done-requires : tie.Need-done-requires
 done-requires c κs = search needs
 
 same-length : tie.Need-same-length
 same-length c =
-    c .before .before .before .before .before .before .before .before .pick .kept .1 .1 .0
+    let pick = pick-before-slice-known4 (c .before) .pick in
+    pick .kept .1 .1 .0
 
 same-length-2 : tie.Need-same-length-2
 same-length-2 c = c .before .before .before .pick2 .kept .1 .1 .0
 
 returns : tie.Need-returns
 returns c =
-    let a = c .before .before .before .before .before .before .before .before .before .before .before .before .before .before .before .before .before .before .before .before .before .before .before .before .before .before .before .before .before .before .before .before .before .before .before .before .before .before .before .before .before .before .before .before .before .before .before .args in
-    let border = c .before .before .before .before .before .before .before .before .before .before .before .before .before .before .before .before .before .before .before .before .before .before .before .before .before .before .before .before .before .before .before .before .before .before .before .before .before .before .before .before .before .before .before .before .before .before .before .pre .0 in
+    let at-pick2 = c .before .before .before in
+    let at-pick = at-pick2 .before .before .before .before .before in
+    let at-judge-all = at-pick .before .before .before .before .before .before .before in
+    let start = at-judge-all .before .before .before .before .before .before .before .before .before .before .before .before .before .before .before .before .before .before .before .before .before .before .before .before .before .before .before .before .before .before .before .before in
+    let a = start .args in
+    let border = start .pre .0 in
     rw (c .done .ensures)
-    (obeys-done _ _ (c .before .before .before .before .before .before .before .before .pick .result) (c .before .before .before .pick2 .result) _
-    ((border .room, c .before .before .before .before .before .before .before .before .before .before .before .before .before .before .before .before .before .before .before .before .before .before .before .before .before .before .before .before .before .before .before .before .before .before .before .before .before .before .before .before .before .before .before .before .before .before .before .pre .1 .0, c .before .before .before .before .before .before .before .before .before .before .before .before .before .before .before .before .before .before .before .before .before .before .before .before .before .before .before .before .before .before .before .before .before .before .before .before .before .before .before .before .before .before .before .before .before .before .before .pre .1 .1 .0), (border .sound, tt))
+    (obeys-done _ _ (at-pick .pick .result) (at-pick2 .pick2 .result) _
+    ((border .room, start .pre .1 .0, start .pre .1 .1 .0), (border .sound, tt))
     (record {
       tables-stay = refl;
-      in-all = picked-decided _ (a .counts .watched) (c .before .before .before .before .before .before .before .before .before .before .before .before .before .before .before .judge-all .last .1 .1 .1 .1 .1 .1 .1 .1 .1 .1 .1 .1 .1 .1 .1 .1 .1 .1 .0) (a .one .now) (c .before .before .before .before .before .before .before .before .pick .last .1 .1 .0) (c .before .before .before .before .before .before .before .before .pick .result) (c .before .before .before .before .before .before .before .before .before .before .before .before .before .before .before .judge-all .ensures .in-all) (c .before .before .before .before .before .before .before .before .pick .ensures);
-      in-none = picked-decided _ (a .counts .watched) (c .before .before .before .before .before .before .before .before .before .before .before .before .before .before .before .judge-all .last .1 .1 .1 .1 .1 .1 .1 .1 .1 .1 .1 .1 .1 .1 .1 .1 .1 .1 .1 .0) (a .two .now) (c .before .before .before .pick2 .last .1 .1 .0) (c .before .before .before .pick2 .result) (c .before .before .before .before .before .before .before .before .before .before .before .before .before .before .before .judge-all .ensures .in-none) (c .before .before .before .pick2 .ensures);
+      in-all = picked-decided _ (a .counts .watched) (at-judge-all .judge-all .last .1 .1 .1 .1 .1 .1 .1 .1 .1 .1 .1 .1 .1 .1 .1 .1 .1 .1 .0) (a .one .now) (at-pick .pick .last .1 .1 .0) (at-pick .pick .result) (at-judge-all .judge-all .ensures .in-all) (at-pick .pick .ensures);
+      in-none = picked-decided _ (a .counts .watched) (at-judge-all .judge-all .last .1 .1 .1 .1 .1 .1 .1 .1 .1 .1 .1 .1 .1 .1 .1 .1 .1 .1 .1 .0) (a .two .now) (at-pick2 .pick2 .last .1 .1 .0) (at-pick2 .pick2 .result) (at-judge-all .judge-all .ensures .in-none) (at-pick2 .pick2 .ensures);
     }))
 
 pub consequences-spec : {M : Type 1} → statement M

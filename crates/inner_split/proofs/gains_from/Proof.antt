@@ -12,8 +12,8 @@ clear-requires c κs = search needs
 
 spread-one-requires : tie.Need-spread-one-requires
 spread-one-requires c κs =
-    let start = c .before .before .before .before .before .before .before .before .before .before .before .before .before in
-    let clear = c .before .before .before .before .clear in (
+    let clear = c .before .before .before .before .clear in
+    let start = c .before .before .before .before .before .before .before .before .before .before .before .before .before in (
       start .pre .0,
       record {
         step-in = start .pre .1 .1 .0;
@@ -38,9 +38,10 @@ same-length-2 c =
 
 returns : tie.Need-returns
 returns c =
-    let start = c .before .before .before .before .before .before .before .before .before .before .before .before .before .before .before .before .before .before in
-    let clear = c .before .before .before .before .before .before .before .before .before .clear in
     let spread-one = c .before .before .before .before .spread-one in
+    let at-clear = c .before .before .before .before .before .before .before .before .before in
+    let clear = at-clear .clear in
+    let start = at-clear .before .before .before .before .before .before .before .before .before in
     let a = start .args in
     spread-tells (a .n) (first (a .m)) (a .xs .now) (a .ys .now) (a .cs .now) (a .days .now) (a .a) (clear .last .1 .0) (spread-one .last .1 .1 .1 .1 .1 .1 .1 .1 .1 .1 .1 .0) (spread-one .last .1 .1 .1 .1 .1 .1 .1 .1 .1 .1 .1 .1 .0)
     (start .pre .1 .0) (start .pre .0 .plan) (spread-one .ensures)

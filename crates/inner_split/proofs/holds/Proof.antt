@@ -1,4 +1,4 @@
--- `inner_split::holds` meets its contract.
+-- `inner_split::holds` meets its contract: the test compares the two sides of the rule, both with 2147483648 added.
 use native.Mathlib.Omega.{arith}
 use borrow.Author.Needs.{needs}
 use Rattle.inner_split.proofs.holds.Statement.{statement}

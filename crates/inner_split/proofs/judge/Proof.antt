@@ -27,26 +27,37 @@ judgeable n w wxs wys wcs wxheads wxnexts wyheads wynexts watching R H days gain
   gained = λ v v-in. record { day-place = omega arith; gain-place = omega arith; bounded = telling .bounded v v-in };
 }
 
+-- Places of the code, seen from later ones.
+abbrev gains-from-before-judge-seconds-arg2 : tie.After-judge-seconds-arg2 → tie.After-gains-from
+gains-from-before-judge-seconds-arg2 c = c .before .before .before .before .before .before .before .before .before .before .before
+
+abbrev start-before-slice-known4 : tie.After-slice-known4 → tie.Start
+start-before-slice-known4 c = c .before .before .before .before .before .before .before .before .before .before .before .before .before .before .before
+
+abbrev start-before-gains-from-arg2 : tie.After-gains-from-arg2 → tie.Start
+start-before-gains-from-arg2 c = start-before-slice-known4 (c .before .before .before .before .before)
+
 number-at-requires : tie.Need-number-at-requires
 number-at-requires c κs =
-    let start = c .before .before .before .before .before .before .before .before .before .before .before .before .before .before .before in
+    let start = start-before-slice-known4 c in
     omega (arith, start .pre .1 .1 .0 .by-first .heads-room, start .pre .1 .1 .1 .1)
 
 number-at-requires-2 : tie.Need-number-at-requires-2
 number-at-requires-2 c κs =
-    let start = c .before .before .before .before .before .before .before .before .before .before .before .before .before .before .before .before in
+    let start = start-before-slice-known4 (c .before) in
     omega (arith, start .pre .1 .1 .0 .by-second .heads-room, start .pre .1 .1 .1 .1)
 
 add-if1 : tie.Need-add-if1
 add-if1 c =
-    let shared-slice-known8 = c .before .before .before .before .before .before .before .before .before .shared-slice-known8 in
-    let start = c .before .before .before .before .before .before .before .before .before .before .before .before .before .before .before .before .before in
-    let shared-slice-known10 = c .before .before .before .before .before .before .before .shared-slice-known10 in
+    let at-shared-slice-known10 = c .before .before .before .before .before .before .before in
+    let shared-slice-known10 = at-shared-slice-known10 .shared-slice-known10 in
+    let shared-slice-known8 = at-shared-slice-known10 .before .before .shared-slice-known8 in
+    let start = start-before-slice-known4 (c .before .before) in
     omega (arith, c .before .number-at .ensures, c .number-at2 .ensures, shared-slice-known8 .given (start .args .a), shared-slice-known10 .given (start .args .a))
 
 returns : tie.Need-returns
 returns c =
-    let start = c .before .before .before .before .before .before .before .before .before .before .before .before .before .before .before .before .before .before in
+    let start = start-before-slice-known4 (c .before .before .before) in
     let a = start .args in
     let watching = start .pre .1 .1 .0 in
     let a-in = start .pre .1 .1 .1 .1 in
@@ -61,13 +72,14 @@ returns c =
 
 gains-from-requires : tie.Need-gains-from-requires
 gains-from-requires c κs =
-    let start = c .before .before .before .before .before .before .before .before .before .before .before .before .before .before .before .before .before .before .before .before in
+    let start = start-before-gains-from-arg2 c in
     (start .pre .0, (start .pre .1 .0, (start .pre .1 .1 .1 .1, (start .pre .1 .1 .1 .0 .gains-room, start .pre .1 .1 .1 .0 .by-room))))
 
 judge-firsts-requires : tie.Need-judge-firsts-requires
 judge-firsts-requires c κs =
-    let start = c .before .before .before .before .before .before .before .before .before .before .before .before .before .before .before .before .before .before .before .before .before .before .before .before .before .before .before in
-    let gains-from = c .before .before .before .before .before .before .gains-from in
+    let at-gains-from = c .before .before .before .before .before .before in
+    let gains-from = at-gains-from .gains-from in
+    let start = start-before-gains-from-arg2 (at-gains-from .before) in
     let a = start .args in
     let watching = start .pre .1 .1 .0 in (
       judgeable (a .n) (a .w) (a .wxs .now) (a .wys .now) (a .wcs .now) (a .wxheads .now) (a .wxnexts .now) (a .wyheads .now) (a .wynexts .now) watching
@@ -78,8 +90,9 @@ judge-firsts-requires c κs =
 
 judge-seconds-requires : tie.Need-judge-seconds-requires
 judge-seconds-requires c κs =
-    let start = c .before .before .before .before .before .before .before .before .before .before .before .before .before .before .before .before .before .before .before .before .before .before .before .before .before .before .before .before .before .before .before .before in
-    let gains-from = c .before .before .before .before .before .before .before .before .before .before .before .gains-from in
+    let at-gains-from = gains-from-before-judge-seconds-arg2 c in
+    let gains-from = at-gains-from .gains-from in
+    let start = start-before-gains-from-arg2 (at-gains-from .before) in
     let a = start .args in
     let watching = start .pre .1 .1 .0 in (
       judgeable (a .n) (a .w) (a .wxs .now) (a .wys .now) (a .wcs .now) (a .wxheads .now) (a .wxnexts .now) (a .wyheads .now) (a .wynexts .now) watching
@@ -90,12 +103,12 @@ judge-seconds-requires c κs =
 
 same-length : tie.Need-same-length
 same-length c =
-    let gains-from = c .before .before .before .before .before .before .before .before .before .before .before .before .before .before .gains-from in
+    let gains-from = gains-from-before-judge-seconds-arg2 (c .before .before .before) .gains-from in
     gains-from .kept .1 .1 .1 .1 .1 .1 .1 .1 .1 .0
 
 same-length-2 : tie.Need-same-length-2
 same-length-2 c =
-    let gains-from = c .before .before .before .before .before .before .before .before .before .before .before .before .before .before .gains-from in
+    let gains-from = gains-from-before-judge-seconds-arg2 (c .before .before .before) .gains-from in
     gains-from .kept .1 .1 .1 .1 .1 .1 .1 .1 .1 .1 .0
 
 same-length-3 : tie.Need-same-length-3
@@ -108,9 +121,11 @@ same-length-4 c = c .before .before .judge-seconds .kept .1 .1 .1 .1 .1 .1 .1 .1
 
 returns-2 : tie.Need-returns-2
 returns-2 c =
-    let start = c .before .before .before .before .before .before .before .before .before .before .before .before .before .before .before .before .before .before .before .before .before .before .before .before .before .before .before .before .before .before .before .before .before .before .before in
-    let gains-from = c .before .before .before .before .before .before .before .before .before .before .before .before .before .before .gains-from in
-    let judge-firsts = c .before .before .before .before .before .before .before .judge-firsts in
+    let at-judge-seconds = c .before .before in
+    let judge-firsts = at-judge-seconds .before .before .before .before .before .judge-firsts in
+    let at-gains-from = gains-from-before-judge-seconds-arg2 (at-judge-seconds .before) in
+    let gains-from = at-gains-from .gains-from in
+    let start = start-before-gains-from-arg2 (at-gains-from .before) in
     let a = start .args in
     let in-bounds = start .pre .1 .1 .0 .in-bounds in
     let watched : ℕ → Rule = rules (a .wxs .now) (a .wys .now) (a .wcs .now) in
@@ -122,9 +137,9 @@ returns-2 c =
           (λ j j-in of-a. always-told (a .n) held (first (a .m)) (at (a .days .now)) (a .a) gains (gains-from .ensures) (watched j) of-a (in-bounds j j-in))
           (judge-firsts .ensures);
       in-none =
-          judged-same _ _ (a .w) (a .wys .now) (a .a) (a .never .now) (c .before .before .judge-seconds .last .1 .1 .1 .1 .1 .1 .1 .1 .1 .1 .0)
+          judged-same _ _ (a .w) (a .wys .now) (a .a) (a .never .now) (at-judge-seconds .judge-seconds .last .1 .1 .1 .1 .1 .1 .1 .1 .1 .1 .0)
           (λ j j-in of-a. never-told (a .n) held (first (a .m)) (at (a .days .now)) (a .a) gains (gains-from .ensures) (watched j) of-a (in-bounds j j-in))
-          (c .before .before .judge-seconds .ensures);
+          (at-judge-seconds .judge-seconds .ensures);
     }
 
 pub judge-spec : {M : Type 1} → statement M

@@ -30,11 +30,19 @@ loop-holds c = (
   λ j j-in step-in. absurd (omega arith),
 )
 
+-- Places of the code, seen from later ones.
+abbrev in-loop-before-slice-known8 : tie.After-slice-known8 Inv-loop μ-loop → tie.In-loop Inv-loop μ-loop
+in-loop-before-slice-known8 c = c .before .before .before .before .before .before .before .before .before .before .before .before .before
+
+abbrev start-before-at-loop : tie.At-loop Inv-loop μ-loop → tie.Start Inv-loop μ-loop
+start-before-at-loop c = c .before .before .before .before .before .before .before .before .before .before .before .before .before .before .before .before
+
 judge-requires : tie.Need-judge-requires Inv-loop μ-loop
 judge-requires c κs =
-    let start = c .before .before .before .before .before .before .before .before .before .before .before .before .before .before .before .before .before .before .before .before .before in
-    let loop = c .before .before .before .before .before .loop in
-    let loop-test = c .before .before .before .before .loop-test in (
+    let loop-test = c .before .before .before .before .loop-test in
+    let at-loop = c .before .before .before .before .before in
+    let loop = at-loop .loop in
+    let start = start-before-at-loop at-loop in (
       start .pre .0,
       (
         start .pre .1 .0,
@@ -55,21 +63,23 @@ judge-requires c κs =
 
 add-a : tie.Need-add-a Inv-loop μ-loop
 add-a c =
-    let loop-test = c .before .before .before .before .before .before .before .before .before .before .before .before .before .loop-test in
-    let start = c .before .before .before .before .before .before .before .before .before .before .before .before .before .before .before .before .before .before .before .before .before .before .before .before .before .before .before .before .before .before in
+    let in-loop = in-loop-before-slice-known8 c in
+    let loop-test = in-loop .loop-test in
+    let start = start-before-at-loop (in-loop .before) in
     omega (arith, loop-test .taken, start .pre .0 .steps-in)
 
 loop-less : tie.Need-loop-less Inv-loop μ-loop
 loop-less c =
-    let loop-test = c .before .before .before .before .before .before .before .before .before .before .before .before .before .loop-test in
+    let loop-test = in-loop-before-slice-known8 c .loop-test in
     omega (arith, loop-test .taken)
 
 loop-again : tie.Need-loop-again Inv-loop μ-loop
 loop-again c =
-    let start = c .before .before .before .before .before .before .before .before .before .before .before .before .before .before .before .before .before .before .before .before .before .before .before .before .before .before .before .before .before .before in
     let judge = c .before .before .before .before .before .before .before .before .judge in
-    let loop = c .before .before .before .before .before .before .before .before .before .before .before .before .before .before .loop in
-    let loop-test = c .before .before .before .before .before .before .before .before .before .before .before .before .before .loop-test in
+    let in-loop = in-loop-before-slice-known8 c in
+    let loop-test = in-loop .loop-test in
+    let loop = in-loop .before .loop in
+    let start = start-before-at-loop (in-loop .before) in
     let a = start .args in (
       judge .kept .1 .1 .1 .1 .1 .1 .1 .1 .1 .1 .1 .1 .1 .1 .1 .1 .1 .0 ∙ loop .inv .0,
       judge .kept .1 .1 .1 .1 .1 .1 .1 .1 .1 .1 .1 .1 .1 .1 .1 .1 .1 .1 .0 ∙ loop .inv .1,
@@ -94,7 +104,7 @@ same-length-4 c = c .before .loop .inv .3
 
 returns : tie.Need-returns Inv-loop μ-loop
 returns c =
-    let start = c .before .before .before .before .before .before .before .before .before .before .before .before .before .before .before .before .before in
+    let start = start-before-at-loop (c .before) in
     let in-bounds = start .pre .1 .1 .0 .in-bounds in
     record {
       in-all = λ j j-in. c .before .loop .inv .5 j j-in (omega (arith, c .loop-test .left, in-bounds j j-in .steps-in .first-in));

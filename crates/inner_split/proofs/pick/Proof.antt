@@ -63,11 +63,12 @@ loop-less c = search needs
 
 loop-again : tie.Need-loop-again Inv-loop μ-loop
 loop-again c =
-    let start = c .before .before .before .before in
-    let loop = c .before .before .before .loop in (
-      omega (arith, c .before .before .loop-test .taken),
+    let loop-test = c .before .before .loop-test in
+    let loop = c .before .before .before .loop in
+    let start = c .before .before .before .before in (
+      omega (arith, loop-test .taken),
       one-more (start .args .verdicts .now) (start .args .list .now) (loop .list) (c .if1 .list) (loop .k) (c .if1 .k) (loop .j) (loop .inv .1)
-          (omega (arith, c .before .before .loop-test .taken, loop .inv .1 .at-most, loop .inv .1 .filled .past .same-length, start .pre .1 .1))
+          (omega (arith, loop-test .taken, loop .inv .1 .at-most, loop .inv .1 .filled .past .same-length, start .pre .1 .1))
           (⊎-elim (λ w. inl (omega (arith, w .0 .taken), w .1, w .2)) (λ w. inr (omega (arith, w .0 .left), w .1, w .2)) (c .if1 .came)),
     )
 
@@ -76,8 +77,9 @@ same-length c = c .before .loop .inv .1 .filled .past .same-length
 
 returns : tie.Need-returns Inv-loop μ-loop
 returns c =
-    let all : c .before .loop .j ≡ c .before .before .args .w = omega (arith, c .before .loop .inv .0, c .loop-test .left) in
-    subst (λ (w : ℕ). Picked w (c .before .before .args .verdicts .now) (c .before .before .args .list .now) (c .before .loop .list) (c .before .loop .k)) all (c .before .loop .inv .1)
+    let start = c .before .before in
+    let all : c .before .loop .j ≡ start .args .w = omega (arith, c .before .loop .inv .0, c .loop-test .left) in
+    subst (λ (w : ℕ). Picked w (start .args .verdicts .now) (start .args .list .now) (c .before .loop .list) (c .before .loop .k)) all (c .before .loop .inv .1)
 
 pub pick-spec : {M : Type 1} → statement M
 pick-spec =
