@@ -28,11 +28,13 @@ ends-line-requires c κs = search needs
 
 returns : tie.Need-returns Inv-loop μ-loop
 returns c =
-    let s = c .before .before .before .before .before .before .args .s .now in
-    let i = c .before .before .before .before .loop .i in
+    let at-loop = c .before .before .before .before in
+    let start = at-loop .before .before in
+    let s = start .args .s .now in
+    let i = at-loop .loop .i in
     let ends : line-end (getD s i 0) ≡ true = sym (c .before .ends-line .ensures) ∙ c .if1 .taken in
-    let on : i ≡ c .before .before .before .before .before .before .args .at → ⊥ = λ e. true≢false (sym ends ∙ ap line-end (ap (λ (n : ℕ). getD s n 0) e ∙ c .before .before .before .before .before .before .pre .1)) in
-    (omega (arith, c .before .before .before .before .loop .inv .0, on), omega (arith, c .before .before .before .before .loop .inv .1, comment-stop s i (c .before .before .before .loop-test .taken) ends))
+    let on : i ≡ start .args .at → ⊥ = λ e. true≢false (sym ends ∙ ap line-end (ap (λ (n : ℕ). getD s n 0) e ∙ start .pre .1)) in
+    (omega (arith, at-loop .loop .inv .0, on), omega (arith, at-loop .loop .inv .1, comment-stop s i (c .before .before .before .loop-test .taken) ends))
 
 add-i : tie.Need-add-i Inv-loop μ-loop
 add-i c = search needs
@@ -42,15 +44,18 @@ loop-less c = search needs
 
 loop-again : tie.Need-loop-again Inv-loop μ-loop
 loop-again c =
-    let s = c .before .before .before .before .before .before .args .s .now in
-    let i = c .before .before .before .before .loop .i in
-    (omega arith, omega (arith, c .before .before .before .before .loop .inv .1, comment-on s i (c .before .before .before .loop-test .taken) (sym (c .before .ends-line .ensures) ∙ c .if1 .left)))
+    let loop = c .before .before .before .before .loop in
+    let start = c .before .before .before .before .before .before in
+    let s = start .args .s .now in
+    let i = loop .i in
+    (omega arith, omega (arith, loop .inv .1, comment-on s i (c .before .before .before .loop-test .taken) (sym (c .before .ends-line .ensures) ∙ c .if1 .left)))
 
 returns-2 : tie.Need-returns-2 Inv-loop μ-loop
 returns-2 c =
-    let s = c .before .before .before .args .s .now in
+    let start = c .before .before .before in
+    let s = start .args .s .now in
     let i = c .before .loop .i in
-    (omega (arith, c .before .before .before .pre .0, c .loop-test .left), omega (arith, c .before .loop .inv .1, skip-end s i true (c .loop-test .left), skip-end s i false (c .loop-test .left)))
+    (omega (arith, start .pre .0, c .loop-test .left), omega (arith, c .before .loop .inv .1, skip-end s i true (c .loop-test .left), skip-end s i false (c .loop-test .left)))
 
 pub comment-end-spec : {M : Type 1} → statement M
 comment-end-spec =

@@ -10,8 +10,9 @@ use Rattle.text.proofs.grow.Tie as tie
 
 returns : tie.Need-returns
 returns c =
-    let is = symbol-stays (c .before .before .args .k) (c .before .before .pre .1 .1) (c .before .if1 .taken) in
-    (subst (λ (p : ℕ). 10 ≡ grown p (c .before .before .args .k)) (sym (c .if2 .taken)) (sym is), omega arith)
+    let start = c .before .before in
+    let is = symbol-stays (start .args .k) (start .pre .1 .1) (c .before .if1 .taken) in
+    (subst (λ (p : ℕ). 10 ≡ grown p (start .args .k)) (sym (c .if2 .taken)) (sym is), omega arith)
 
 mul-result : tie.Need-mul-result
 mul-result c = search needs
@@ -27,10 +28,11 @@ element-copy-out-result c = search needs
 
 returns-2 : tie.Need-returns-2
 returns-2 c =
-    let p = c .before .before .args .p in
-    let k = c .before .before .args .k in
-    let is = grown-is p k (c .before .before .pre .1 .0) (c .before .before .pre .1 .1) in
-    rw (c .before .before .pre .0) (is, rw is (grown-small p k (c .before .before .pre .1 .0) (c .before .before .pre .1 .1)))
+    let start = c .before .before in
+    let p = start .args .p in
+    let k = start .args .k in
+    let is = grown-is p k (start .pre .1 .0) (start .pre .1 .1) in
+    rw (start .pre .0) (is, rw is (grown-small p k (start .pre .1 .0) (start .pre .1 .1)))
 
 pub grow-spec : {M : Type 1} → statement M
 grow-spec = tie.close (tie.spec returns mul-result add-result add-result-2 element-copy-out-result returns-2)

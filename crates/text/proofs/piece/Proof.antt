@@ -26,21 +26,27 @@ grow-requires c κs = (c .before .pre .0, (omega arith, omega (arith, c .before 
 
 loop-holds : tie.Need-loop-holds Inv-loop μ-loop
 loop-holds c =
-    let s = c .before .before .args .s .now in
-    let f = c .before .before .args .f in
-    let starts = c .before .before .pre .1 .0 in
-    let is = c .before .before .pre .1 .1 .0 in
-    let goes-on = c .before .before .pre .1 .1 .1 in
-    (c .grow .ensures .1, piece-more s f 0 (c .before .before .args .first) (c .grow .result) _ starts is goes-on (c .grow .ensures .0) refl, omega (arith, piece-on s f 0 starts (omega (arith, is, goes-on)) .1))
+    let start = c .before .before in
+    let s = start .args .s .now in
+    let f = start .args .f in
+    let starts = start .pre .1 .0 in
+    let is = start .pre .1 .1 .0 in
+    let goes-on = start .pre .1 .1 .1 in
+    (c .grow .ensures .1, piece-more s f 0 (start .args .first) (c .grow .result) _ starts is goes-on (c .grow .ensures .0) refl, omega (arith, piece-on s f 0 starts (omega (arith, is, goes-on)) .1))
 
 shared-slice-read-class-of : tie.Need-shared-slice-read-class-of Inv-loop μ-loop
 shared-slice-read-class-of c = search needs
 
 class-of-requires : tie.Need-class-of-requires Inv-loop μ-loop
-class-of-requires c κs = c .before .before .before .before .before .pre .0
+class-of-requires c κs =
+    let start = c .before .before .before .before .before in
+    start .pre .0
 
 grow-requires-2 : tie.Need-grow-requires-2 Inv-loop μ-loop
-grow-requires-2 c κs = (c .before .before .before .before .before .before .before .pre .0, (c .before .before .before .before .loop .inv .0, omega (arith, c .before .class-of .ensures, class-small (getD (c .before .before .before .before .before .before .before .args .s .now) (c .before .before .before .before .loop .i) 0))))
+grow-requires-2 c κs =
+    let at-loop = c .before .before .before .before in
+    let start = at-loop .before .before .before in
+    (start .pre .0, (at-loop .loop .inv .0, omega (arith, c .before .class-of .ensures, class-small (getD (start .args .s .now) (at-loop .loop .i) 0))))
 
 add-i-2 : tie.Need-add-i-2 Inv-loop μ-loop
 add-i-2 c = search needs
@@ -50,13 +56,16 @@ loop-less c = search needs
 
 loop-again : tie.Need-loop-again Inv-loop μ-loop
 loop-again c =
-    let s = c .before .before .before .before .before .before .before .before .args .s .now in
-    let i = c .before .before .before .before .before .loop .i in
-    let p = c .before .before .before .before .before .loop .p in
+    let at-class-of = c .before .before in
+    let at-loop = at-class-of .before .before .before in
+    let start = at-loop .before .before .before in
+    let s = start .args .s .now in
+    let i = at-loop .loop .i in
+    let p = at-loop .loop .p in
     let inside = c .before .before .before .before .loop-test .taken in (
       c .grow2 .ensures .1,
-      piece-more s i p (c .before .before .class-of .result) (c .grow2 .result) _ inside (c .before .before .class-of .ensures) (c .before .if1 .left) (c .grow2 .ensures .0) (c .before .before .before .before .before .loop .inv .1),
-      omega (arith, c .before .before .before .before .before .loop .inv .2, piece-on s i p inside (omega (arith, c .before .before .class-of .ensures, c .before .if1 .left)) .1),
+      piece-more s i p (at-class-of .class-of .result) (c .grow2 .result) _ inside (at-class-of .class-of .ensures) (c .before .if1 .left) (c .grow2 .ensures .0) (at-loop .loop .inv .1),
+      omega (arith, at-loop .loop .inv .2, piece-on s i p inside (omega (arith, at-class-of .class-of .ensures, c .before .if1 .left)) .1),
     )
 
 kind-of-requires : tie.Need-kind-of-requires Inv-loop μ-loop
@@ -64,10 +73,12 @@ kind-of-requires c κs = (c .before .before .before .before .pre .0, c .before .
 
 returns : tie.Need-returns Inv-loop μ-loop
 returns c =
-    let s = c .before .before .before .before .before .args .s .now in
-    let i = c .before .before .loop .i in
-    let p = c .before .before .loop .p in
-    piece-made s i p (c .before .before .before .before .before .args .f) (c .kind-of .result) (c .kind-of .ensures) (c .before .before .loop .inv .1) (c .before .before .loop .inv .2)
+    let at-loop = c .before .before in
+    let start = at-loop .before .before .before in
+    let s = start .args .s .now in
+    let i = at-loop .loop .i in
+    let p = at-loop .loop .p in
+    piece-made s i p (start .args .f) (c .kind-of .result) (c .kind-of .ensures) (at-loop .loop .inv .1) (at-loop .loop .inv .2)
     (⊎-elim (λ w. piece-end s i p (w .left)) (λ w. piece-stop s i p (w .0 .taken) (omega (arith, w .2 .ensures, w .3 .taken))) (c .before .loop-test .came))
 
 pub piece-spec : {M : Type 1} → statement M

@@ -41,8 +41,11 @@ shared-slice-read-if2-2 c = search needs
 
 returns-2 : tie.Need-returns-2 Inv-loop μ-loop
 returns-2 c =
-    let args = c .before .before .before .before .before .before .args in
-    sym (same-apart (args .s .now) (args .a) (args .b) (args .word .now) (c .before .before .before .before .loop .i) (omega (arith, c .before .before .before .before .before .if1 .left)) (c .before .before .before .before .before .before .pre .1) (c .before .before .before .loop-test .taken) (c .if2 .taken)) ∙ c .before .before .before .before .loop .inv .1
+    let at-loop = c .before .before .before .before in
+    let if1 = at-loop .before .if1 in
+    let start = at-loop .before .before in
+    let args = start .args in
+    sym (same-apart (args .s .now) (args .a) (args .b) (args .word .now) (at-loop .loop .i) (omega (arith, if1 .left)) (start .pre .1) (c .before .before .before .loop-test .taken) (c .if2 .taken)) ∙ at-loop .loop .inv .1
 
 add-i : tie.Need-add-i Inv-loop μ-loop
 add-i c = search needs
@@ -52,8 +55,11 @@ loop-less c = search needs
 
 loop-again : tie.Need-loop-again Inv-loop μ-loop
 loop-again c =
-    let args = c .before .before .before .before .before .before .args in
-    (omega arith, sym (same-on (args .s .now) (args .a) (args .b) (args .word .now) (c .before .before .before .before .loop .i) (omega (arith, c .before .before .before .before .before .if1 .left)) (c .before .before .before .before .before .before .pre .1) (c .before .before .before .loop-test .taken) (c .if2 .left)) ∙ c .before .before .before .before .loop .inv .1)
+    let loop = c .before .before .before .before .loop in
+    let if1 = c .before .before .before .before .before .if1 in
+    let start = c .before .before .before .before .before .before in
+    let args = start .args in
+    (omega arith, sym (same-on (args .s .now) (args .a) (args .b) (args .word .now) (loop .i) (omega (arith, if1 .left)) (start .pre .1) (c .before .before .before .loop-test .taken) (c .if2 .left)) ∙ loop .inv .1)
 
 returns-3 : tie.Need-returns-3 Inv-loop μ-loop
 returns-3 c =

@@ -41,11 +41,13 @@ loop-less c = search needs
 
 loop-again : tie.Need-loop-again Inv-loop μ-loop
 loop-again c =
-    let args = c .before .before .before .before .before .before .args in (
+    let loop = c .before .before .before .before .loop in
+    let start = c .before .before .before .before .before .before in
+    let args = start .args in (
       omega arith,
       omega arith,
-      omega (arith, c .capped .ensures, cut-within (10 * c .before .before .before .before .loop .n + c .before .digit-of .result)),
-      number-more (args .s .now) (c .before .before .before .before .loop .i) (args .b) (c .before .before .before .before .loop .n) (c .before .digit-of .result) (c .capped .result) (c .before .before .before .loop-test .taken) (c .before .before .before .before .before .before .pre .1) (c .before .digit-of .ensures) (c .capped .ensures) ∙ c .before .before .before .before .loop .inv .3,
+      omega (arith, c .capped .ensures, cut-within (10 * loop .n + c .before .digit-of .result)),
+      number-more (args .s .now) (loop .i) (args .b) (loop .n) (c .before .digit-of .result) (c .capped .result) (c .before .before .before .loop-test .taken) (start .pre .1) (c .before .digit-of .ensures) (c .capped .ensures) ∙ loop .inv .3,
     )
 
 returns : tie.Need-returns Inv-loop μ-loop
