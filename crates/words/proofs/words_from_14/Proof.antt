@@ -8,8 +8,15 @@ use Rattle.words.proofs.words_from_14.Tie as tie
 slice-aggregate-same : tie.Need-slice-aggregate-same
 slice-aggregate-same c = search needs
 
+-- Places of the code, seen from later ones.
+abbrev start-before-same-arg5 : tie.After-same-arg5 → tie.Start
+start-before-same-arg5 c = c .before .before .before .before .before .before .before .before .before .before .before .before .before .before
+
+abbrev start-before-same-arg7 : tie.After-same-arg7 → tie.Start
+start-before-same-arg7 c = start-before-same-arg5 (c .before .before .before .before .before .before)
+
 same-requires : tie.Need-same-requires
-same-requires c κs = (c .before .before .pre .0, c .before .before .pre .1)
+same-requires c κs = c .before .before .pre
 
 any-requires : tie.Need-any-requires
 any-requires c κs = search needs
@@ -18,7 +25,9 @@ slice-aggregate-same-2 : tie.Need-slice-aggregate-same-2
 slice-aggregate-same-2 c = search needs
 
 same-requires-2 : tie.Need-same-requires-2
-same-requires-2 c κs = (c .before .before .before .before .before .pre .0, c .before .before .before .before .before .pre .1)
+same-requires-2 c κs =
+    let start = c .before .before .before .before .before in
+    start .pre
 
 any-requires-2 : tie.Need-any-requires-2
 any-requires-2 c κs = search needs
@@ -27,7 +36,9 @@ slice-aggregate-same-3 : tie.Need-slice-aggregate-same-3
 slice-aggregate-same-3 c = search needs
 
 same-requires-3 : tie.Need-same-requires-3
-same-requires-3 c κs = (c .before .before .before .before .before .before .before .before .pre .0, c .before .before .before .before .before .before .before .before .pre .1)
+same-requires-3 c κs =
+    let start = c .before .before .before .before .before .before .before .before in
+    start .pre
 
 any-requires-3 : tie.Need-any-requires-3
 any-requires-3 c κs = search needs
@@ -36,7 +47,9 @@ slice-aggregate-same-4 : tie.Need-slice-aggregate-same-4
 slice-aggregate-same-4 c = search needs
 
 same-requires-4 : tie.Need-same-requires-4
-same-requires-4 c κs = (c .before .before .before .before .before .before .before .before .before .before .before .pre .0, c .before .before .before .before .before .before .before .before .before .before .before .pre .1)
+same-requires-4 c κs =
+    let start = c .before .before .before .before .before .before .before .before .before .before .before in
+    start .pre
 
 any-requires-4 : tie.Need-any-requires-4
 any-requires-4 c κs = search needs
@@ -45,7 +58,9 @@ slice-aggregate-same-5 : tie.Need-slice-aggregate-same-5
 slice-aggregate-same-5 c = search needs
 
 same-requires-5 : tie.Need-same-requires-5
-same-requires-5 c κs = (c .before .before .before .before .before .before .before .before .before .before .before .before .before .before .pre .0, c .before .before .before .before .before .before .before .before .before .before .before .before .before .before .pre .1)
+same-requires-5 c κs =
+    let start = start-before-same-arg5 c in
+    start .pre
 
 any-requires-5 : tie.Need-any-requires-5
 any-requires-5 c κs = search needs
@@ -54,7 +69,9 @@ slice-aggregate-same-6 : tie.Need-slice-aggregate-same-6
 slice-aggregate-same-6 c = search needs
 
 same-requires-6 : tie.Need-same-requires-6
-same-requires-6 c κs = (c .before .before .before .before .before .before .before .before .before .before .before .before .before .before .before .before .before .pre .0, c .before .before .before .before .before .before .before .before .before .before .before .before .before .before .before .before .before .pre .1)
+same-requires-6 c κs =
+    let start = start-before-same-arg5 (c .before .before .before) in
+    start .pre
 
 any-requires-6 : tie.Need-any-requires-6
 any-requires-6 c κs = search needs
@@ -63,7 +80,9 @@ slice-aggregate-same-7 : tie.Need-slice-aggregate-same-7
 slice-aggregate-same-7 c = search needs
 
 same-requires-7 : tie.Need-same-requires-7
-same-requires-7 c κs = (c .before .before .before .before .before .before .before .before .before .before .before .before .before .before .before .before .before .before .before .before .pre .0, c .before .before .before .before .before .before .before .before .before .before .before .before .before .before .before .before .before .before .before .before .pre .1)
+same-requires-7 c κs =
+    let start = start-before-same-arg7 c in
+    start .pre
 
 any-requires-7 : tie.Need-any-requires-7
 any-requires-7 c κs = search needs
@@ -72,7 +91,9 @@ slice-aggregate-same-8 : tie.Need-slice-aggregate-same-8
 slice-aggregate-same-8 c = search needs
 
 same-requires-8 : tie.Need-same-requires-8
-same-requires-8 c κs = (c .before .before .before .before .before .before .before .before .before .before .before .before .before .before .before .before .before .before .before .before .before .before .before .pre .0, c .before .before .before .before .before .before .before .before .before .before .before .before .before .before .before .before .before .before .before .before .before .before .before .pre .1)
+same-requires-8 c κs =
+    let start = start-before-same-arg7 (c .before .before .before) in
+    start .pre
 
 any-requires-8 : tie.Need-any-requires-8
 any-requires-8 c κs = search needs
@@ -81,7 +102,9 @@ slice-aggregate-same-9 : tie.Need-slice-aggregate-same-9
 slice-aggregate-same-9 c = search needs
 
 same-requires-9 : tie.Need-same-requires-9
-same-requires-9 c κs = (c .before .before .before .before .before .before .before .before .before .before .before .before .before .before .before .before .before .before .before .before .before .before .before .before .before .before .pre .0, c .before .before .before .before .before .before .before .before .before .before .before .before .before .before .before .before .before .before .before .before .before .before .before .before .before .before .pre .1)
+same-requires-9 c κs =
+    let start = start-before-same-arg7 (c .before .before .before .before .before .before) in
+    start .pre
 
 any-requires-9 : tie.Need-any-requires-9
 any-requires-9 c κs = search needs
@@ -90,23 +113,41 @@ slice-aggregate-same-10 : tie.Need-slice-aggregate-same-10
 slice-aggregate-same-10 c = search needs
 
 same-requires-10 : tie.Need-same-requires-10
-same-requires-10 c κs = (c .before .before .before .before .before .before .before .before .before .before .before .before .before .before .before .before .before .before .before .before .before .before .before .before .before .before .before .before .before .pre .0, c .before .before .before .before .before .before .before .before .before .before .before .before .before .before .before .before .before .before .before .before .before .before .before .before .before .before .before .before .before .pre .1)
+same-requires-10 c κs =
+    let start = start-before-same-arg7 (c .before .before .before .before .before .before .before .before .before) in
+    start .pre
 
 any-requires-10 : tie.Need-any-requires-10
 any-requires-10 c κs = search needs
 
 returns : tie.Need-returns
 returns c =
+    let at-any8 = c .before .before .before .before .before .before in
+    let same8 = at-any8 .before .same8 in
+    let at-any7 = at-any8 .before .before .before in
+    let same7 = at-any7 .before .same7 in
+    let at-any6 = at-any7 .before .before .before in
+    let same6 = at-any6 .before .same6 in
+    let at-any5 = at-any6 .before .before .before in
+    let same5 = at-any5 .before .same5 in
+    let at-any4 = at-any5 .before .before .before in
+    let same4 = at-any4 .before .same4 in
+    let at-any3 = at-any4 .before .before .before in
+    let same3 = at-any3 .before .same3 in
+    let at-any2 = at-any3 .before .before .before in
+    let same2 = at-any2 .before .same2 in
+    let at-any = at-any2 .before .before .before in
+    let same = at-any .before .same in
     link (c .any10 .ensures) (c .before .same10 .ensures)
     (link (c .before .before .before .any9 .ensures) (c .before .before .before .before .same9 .ensures)
-    (link (c .before .before .before .before .before .before .any8 .ensures) (c .before .before .before .before .before .before .before .same8 .ensures)
-    (link (c .before .before .before .before .before .before .before .before .before .any7 .ensures) (c .before .before .before .before .before .before .before .before .before .before .same7 .ensures)
-    (link (c .before .before .before .before .before .before .before .before .before .before .before .before .any6 .ensures) (c .before .before .before .before .before .before .before .before .before .before .before .before .before .same6 .ensures)
-    (link (c .before .before .before .before .before .before .before .before .before .before .before .before .before .before .before .any5 .ensures) (c .before .before .before .before .before .before .before .before .before .before .before .before .before .before .before .before .same5 .ensures)
-    (link (c .before .before .before .before .before .before .before .before .before .before .before .before .before .before .before .before .before .before .any4 .ensures) (c .before .before .before .before .before .before .before .before .before .before .before .before .before .before .before .before .before .before .before .same4 .ensures)
-    (link (c .before .before .before .before .before .before .before .before .before .before .before .before .before .before .before .before .before .before .before .before .before .any3 .ensures) (c .before .before .before .before .before .before .before .before .before .before .before .before .before .before .before .before .before .before .before .before .before .before .same3 .ensures)
-    (link (c .before .before .before .before .before .before .before .before .before .before .before .before .before .before .before .before .before .before .before .before .before .before .before .before .any2 .ensures) (c .before .before .before .before .before .before .before .before .before .before .before .before .before .before .before .before .before .before .before .before .before .before .before .before .before .same2 .ensures)
-    (link (c .before .before .before .before .before .before .before .before .before .before .before .before .before .before .before .before .before .before .before .before .before .before .before .before .before .before .before .any .ensures) (c .before .before .before .before .before .before .before .before .before .before .before .before .before .before .before .before .before .before .before .before .before .before .before .before .before .before .before .before .same .ensures)
+    (link (at-any8 .any8 .ensures) (same8 .ensures)
+    (link (at-any7 .any7 .ensures) (same7 .ensures)
+    (link (at-any6 .any6 .ensures) (same6 .ensures)
+    (link (at-any5 .any5 .ensures) (same5 .ensures)
+    (link (at-any4 .any4 .ensures) (same4 .ensures)
+    (link (at-any3 .any3 .ensures) (same3 .ensures)
+    (link (at-any2 .any2 .ensures) (same2 .ensures)
+    (link (at-any .any .ensures) (same .ensures)
     refl)))))))))
 
 pub words-from-14-spec : {M : Type 1} → statement M
