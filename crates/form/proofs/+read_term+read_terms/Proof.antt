@@ -82,95 +82,179 @@ read-terms-calls t = (
   read-term.Post,
 )
 
+-- Places of the code, seen from later ones.
+abbrev token-before-else4 : (t : ℕ) → read-term-lts.Else4 (read-term-calls t) (read-term-at t) read-term.Post → read-term-lts.After-token (read-term-calls t) (read-term-at t) read-term.Post
+token-before-else4 t c = c .before .before .before .before .before
+
+abbrev else4-before-same : (t : ℕ) → read-term-lts.After-same (read-term-calls t) (read-term-at t) read-term.Post → read-term-lts.Else4 (read-term-calls t) (read-term-at t) read-term.Post
+else4-before-same t c = c .before .before .before .before .before
+
+abbrev start-before-else4 : (t : ℕ) → read-term-lts.Else4 (read-term-calls t) (read-term-at t) read-term.Post → read-term-lts.Start (read-term-calls t) (read-term-at t) read-term.Post
+start-before-else4 t c = token-before-else4 t c .before .before
+
 read-term-token-requires : (t : ℕ) → read-term-lts.Need-token-requires (read-term-calls t) (read-term-at t) read-term.Post
 read-term-token-requires t c κs = c .before .pre .1
 
 read-term-is-operator-requires : (t : ℕ) → read-term-lts.Need-is-operator-requires (read-term-calls t) (read-term-at t) read-term.Post
 read-term-is-operator-requires t c κs =
-    let p = token-placed _ _ (c .before .before .token .result) (c .before .before .token .ensures) in
+    let token = c .before .before .token in
+    let p = token-placed _ _ (token .result) (token .ensures) in
     (p .ordered, p .some (λ z. omega (arith, c .if1 .taken)) .1)
 
 read-term-returns : (t : ℕ) → read-term-lts.Need-returns (read-term-calls t) (read-term-at t) read-term.Post
-read-term-returns t c = bare-operator (c .before .before .before .before .before .before .args .s .now) (c .before .before .before .before .before .before .args .at) (c .before .before .before .before .token .result) (c .before .before .before .before .token .ensures) _ _ _ (c .before .before .if1 .taken) (c .before .is-operator .ensures) (c .if2 .taken)
+read-term-returns t c =
+    let at-token = c .before .before .before .before in
+    let start = at-token .before .before in
+    bare-operator (start .args .s .now) (start .args .at) (at-token .token .result) (at-token .token .ensures) _ _ _ (c .before .before .if1 .taken) (c .before .is-operator .ensures) (c .if2 .taken)
 
 read-term-returns-2 : (t : ℕ) → read-term-lts.Need-returns-2 (read-term-calls t) (read-term-at t) read-term.Post
-read-term-returns-2 t c = bare-symbol (c .before .before .before .before .before .before .args .s .now) (c .before .before .before .before .before .before .args .at) (c .before .before .before .before .token .result) (c .before .before .before .before .token .ensures) _ _ _ (c .before .before .if1 .taken) (c .before .is-operator .ensures) (c .if2 .left)
+read-term-returns-2 t c =
+    let at-token = c .before .before .before .before in
+    let start = at-token .before .before in
+    bare-symbol (start .args .s .now) (start .args .at) (at-token .token .result) (at-token .token .ensures) _ _ _ (c .before .before .if1 .taken) (c .before .is-operator .ensures) (c .if2 .left)
 
 read-term-returns-3 : (t : ℕ) → read-term-lts.Need-returns-3 (read-term-calls t) (read-term-at t) read-term.Post
-read-term-returns-3 t c = no-term (c .before .before .before .before .before .before .args .s .now) (c .before .before .before .before .before .before .args .at) (c .before .before .before .before .token .result) (c .before .before .before .before .token .ensures) _ _ (c .before .before .if1 .left) (c .if3 .taken)
+read-term-returns-3 t c =
+    let at-token = c .before .before .before .before in
+    let start = at-token .before .before in
+    no-term (start .args .s .now) (start .args .at) (at-token .token .result) (at-token .token .ensures) _ _ (c .before .before .if1 .left) (c .if3 .taken)
 
 read-term-returns-4 : (t : ℕ) → read-term-lts.Need-returns-4 (read-term-calls t) (read-term-at t) read-term.Post
-read-term-returns-4 t c = too-deep (c .before .before .before .before .before .before .before .args .s .now) (c .before .before .before .before .before .before .before .args .at) (c .before .before .before .before .before .token .result) (c .before .before .before .before .before .token .ensures) _ _ (c .before .if3 .left) (c .if4 .taken)
+read-term-returns-4 t c =
+    let at-token = c .before .before .before .before .before in
+    let start = at-token .before .before in
+    too-deep (start .args .s .now) (start .args .at) (at-token .token .result) (at-token .token .ensures) _ _ (c .before .if3 .left) (c .if4 .taken)
 
 read-term-token-requires-2 : (t : ℕ) → read-term-lts.Need-token-requires-2 (read-term-calls t) (read-term-at t) read-term.Post
-read-term-token-requires-2 t c κs = c .before .before .before .before .before .before .before .pre .1
+read-term-token-requires-2 t c κs =
+    let start = start-before-else4 t c in
+    start .pre .1
 
 read-term-returns-5 : (t : ℕ) → read-term-lts.Need-returns-5 (read-term-calls t) (read-term-at t) read-term.Post
-read-term-returns-5 t c = no-operator (c .before .before .before .before .before .before .before .before .before .before .args .s .now) (c .before .before .before .before .before .before .before .before .before .before .args .at) (c .before .before .before .before .before .before .before .before .token .result) (c .before .before .before .before .before .before .before .before .token .ensures) _ _ (c .before .before .before .before .if3 .left) (c .before .before .before .if4 .left) (c .before .before .token2 .result) (c .before .before .token2 .ensures) (c .if5 .taken)
+read-term-returns-5 t c =
+    let at-token2 = c .before .before in
+    let token = token-before-else4 t (at-token2 .before) .token in
+    let start = start-before-else4 t (at-token2 .before) in
+    no-operator (start .args .s .now) (start .args .at) (token .result) (token .ensures) _ _ (c .before .before .before .before .if3 .left) (c .before .before .before .if4 .left) (at-token2 .token2 .result) (at-token2 .token2 .ensures) (c .if5 .taken)
 
 read-term-slice-aggregate-same : (t : ℕ) → read-term-lts.Need-slice-aggregate-same (read-term-calls t) (read-term-at t) read-term.Post
 read-term-slice-aggregate-same t c = search needs
 
 read-term-same-requires : (t : ℕ) → read-term-lts.Need-same-requires (read-term-calls t) (read-term-at t) read-term.Post
 read-term-same-requires t c κs =
-    let p = token-placed _ _ (c .before .before .before .token2 .result) (c .before .before .before .token2 .ensures) in
+    let token2 = c .before .before .before .token2 in
+    let p = token-placed _ _ (token2 .result) (token2 .ensures) in
     (p .ordered, p .some (λ z. omega (arith, c .before .if5 .left)) .1)
 
 read-term-sub-read-term : (t : ℕ) → read-term-lts.Need-sub-read-term (read-term-calls t) (read-term-at t) read-term.Post
-read-term-sub-read-term t c = omega (arith, c .before .before .before .before .before .before .if4 .left)
+read-term-sub-read-term t c =
+    let if4 = else4-before-same t (c .before) .if4 in
+    omega (arith, if4 .left)
 
 read-term-read-term-requires : (t : ℕ) → read-term-lts.Need-read-term-requires (read-term-calls t) (read-term-at t) read-term.Post
 read-term-read-term-requires t c κs =
-    let less : 2 * (c .before .before .before .before .before .before .before .before .before .before .before .before .before .args .d - 1) < t = omega (arith, c .before .before .before .before .before .before .if4 .left, c .before .before .before .before .before .before .before .before .before .before .before .before .before .pre .0) in
-    (less, c .before .before .before .before .before .before .before .before .before .before .before .before .before .pre .1)
+    let else4 = else4-before-same t (c .before) in
+    let start = start-before-else4 t else4 in
+    let less : 2 * (start .args .d - 1) < t = omega (arith, else4 .if4 .left, start .pre .0) in
+    (less, start .pre .1)
 
 read-term-read-kind-requires : (t : ℕ) → read-term-lts.Need-read-kind-requires (read-term-calls t) (read-term-at t) read-term.Post
-read-term-read-kind-requires t c κs = c .before .before .before .before .before .before .before .before .before .before .before .before .before .before .pre .1
+read-term-read-kind-requires t c κs =
+    let start = start-before-else4 t (else4-before-same t (c .before .before)) in
+    start .pre .1
 
 read-term-returns-6 : (t : ℕ) → read-term-lts.Need-returns-6 (read-term-calls t) (read-term-at t) read-term.Post
 read-term-returns-6 t c =
-    on _ _ _ _ (c .before .read-term .ensures ∙ ap (λ (b : Bool). term (c .before .before .before .before .before .before .before .before .before .before .before .before .before .before .before .args .d - 1) (c .before .before .before .before .before .before .before .before .before .before .before .before .before .before .before .args .s .now) b (c .before .before .before .before .before .before .before .token2 .result .to)) (not-is (c .before .before .before .before .before .before .before .before .before .before .before .before .before .before .before .args .odd))) (c .read-kind .ensures)
-    ∙ negated (c .before .before .before .before .before .before .before .before .before .before .before .before .before .before .before .args .s .now) (c .before .before .before .before .before .before .before .before .before .before .before .before .before .before .before .args .at) (c .before .before .before .before .before .before .before .before .before .before .before .before .before .token .result) (c .before .before .before .before .before .before .before .before .before .before .before .before .before .token .ensures) _ _ (c .before .before .before .before .before .before .before .before .before .if3 .left) (c .before .before .before .before .before .before .before .before .if4 .left) (c .before .before .before .before .before .before .before .token2 .result) (c .before .before .before .before .before .before .before .token2 .ensures) (c .before .before .before .before .before .if5 .left) _ (c .before .before .before .same .ensures) (c .before .before .if6 .taken)
+    let else5 = c .before .before .before .before .before in
+    let at-token2 = else5 .before .before in
+    let if4 = at-token2 .before .if4 in
+    let if3 = at-token2 .before .before .if3 in
+    let token = token-before-else4 t (at-token2 .before) .token in
+    let start = start-before-else4 t (at-token2 .before) in
+    on _ _ _ _ (c .before .read-term .ensures ∙ ap (λ (b : Bool). term (start .args .d - 1) (start .args .s .now) b (at-token2 .token2 .result .to)) (not-is (start .args .odd))) (c .read-kind .ensures)
+    ∙ negated (start .args .s .now) (start .args .at) (token .result) (token .ensures) _ _ (if3 .left) (if4 .left) (at-token2 .token2 .result) (at-token2 .token2 .ensures) (else5 .if5 .left) _ (c .before .before .before .same .ensures) (c .before .before .if6 .taken)
 
 read-term-slice-aggregate-same-2 : (t : ℕ) → read-term-lts.Need-slice-aggregate-same-2 (read-term-calls t) (read-term-at t) read-term.Post
 read-term-slice-aggregate-same-2 t c = search needs
 
 read-term-same-requires-2 : (t : ℕ) → read-term-lts.Need-same-requires-2 (read-term-calls t) (read-term-at t) read-term.Post
 read-term-same-requires-2 t c κs =
-    let p = token-placed _ _ (c .before .before .before .before .before .before .token2 .result) (c .before .before .before .before .before .before .token2 .ensures) in
+    let token2 = c .before .before .before .before .before .before .token2 in
+    let p = token-placed _ _ (token2 .result) (token2 .ensures) in
     (p .ordered, p .some (λ z. omega (arith, c .before .before .before .before .if5 .left)) .1)
 
 read-term-returns-7 : (t : ℕ) → read-term-lts.Need-returns-7 (read-term-calls t) (read-term-at t) read-term.Post
-read-term-returns-7 t c = and-under-not (c .before .before .before .before .before .before .before .before .before .before .before .before .before .before .before .before .before .args .s .now) (c .before .before .before .before .before .before .before .before .before .before .before .before .before .before .before .before .before .args .at) (c .before .before .before .before .before .before .before .before .before .before .before .before .before .before .before .token .result) (c .before .before .before .before .before .before .before .before .before .before .before .before .before .before .before .token .ensures) _ _ (c .before .before .before .before .before .before .before .before .before .before .before .if3 .left) (c .before .before .before .before .before .before .before .before .before .before .if4 .left) (c .before .before .before .before .before .before .before .before .before .token2 .result) (c .before .before .before .before .before .before .before .before .before .token2 .ensures) (c .before .before .before .before .before .before .before .if5 .left) _ (c .before .before .before .before .before .same .ensures) (c .before .before .before .before .if6 .left) _ (c .before .before .same2 .ensures) (c .before .if7 .taken) (c .if8 .taken)
+read-term-returns-7 t c =
+    let at-same = c .before .before .before .before .before in
+    let else5 = at-same .before .before in
+    let token2 = else5 .before .before .token2 in
+    let else4 = else4-before-same t at-same in
+    let if3 = else4 .before .if3 in
+    let token = token-before-else4 t else4 .token in
+    let start = start-before-else4 t else4 in
+    and-under-not (start .args .s .now) (start .args .at) (token .result) (token .ensures) _ _ (if3 .left) (else4 .if4 .left) (token2 .result) (token2 .ensures) (else5 .if5 .left) _ (at-same .same .ensures) (c .before .before .before .before .if6 .left) _ (c .before .before .same2 .ensures) (c .before .if7 .taken) (c .if8 .taken)
 
 read-term-sub-read-terms : (t : ℕ) → read-term-lts.Need-sub-read-terms (read-term-calls t) (read-term-at t) read-term.Post
-read-term-sub-read-terms t c = omega (arith, c .before .before .before .before .before .before .before .before .before .before .if4 .left)
+read-term-sub-read-terms t c =
+    let if4 = else4-before-same t (c .before .before .before .before .before) .if4 in
+    omega (arith, if4 .left)
 
 read-term-read-terms-requires : (t : ℕ) → read-term-lts.Need-read-terms-requires (read-term-calls t) (read-term-at t) read-term.Post
 read-term-read-terms-requires t c κs =
-    let less : 2 * (c .before .before .before .before .before .before .before .before .before .before .before .before .before .before .before .before .before .args .d - 1) + 1 < t = omega (arith, c .before .before .before .before .before .before .before .before .before .before .if4 .left, c .before .before .before .before .before .before .before .before .before .before .before .before .before .before .before .before .before .pre .0) in
-    (less, c .before .before .before .before .before .before .before .before .before .before .before .before .before .before .before .before .before .pre .1)
+    let else4 = else4-before-same t (c .before .before .before .before .before) in
+    let start = start-before-else4 t else4 in
+    let less : 2 * (start .args .d - 1) + 1 < t = omega (arith, else4 .if4 .left, start .pre .0) in
+    (less, start .pre .1)
 
 read-term-returns-8 : (t : ℕ) → read-term-lts.Need-returns-8 (read-term-calls t) (read-term-at t) read-term.Post
 read-term-returns-8 t c =
+    let else6 = c .before .before .before .before .before in
+    let same = else6 .before .same in
+    let else5 = else6 .before .before .before in
+    let at-token2 = else5 .before .before in
+    let if4 = at-token2 .before .if4 in
+    let if3 = at-token2 .before .before .if3 in
+    let token = token-before-else4 t (at-token2 .before) .token in
+    let start = start-before-else4 t (at-token2 .before) in
     c .read-terms .ensures
-    ∙ conjoined (c .before .before .before .before .before .before .before .before .before .before .before .before .before .before .before .before .before .before .args .s .now) (c .before .before .before .before .before .before .before .before .before .before .before .before .before .before .before .before .before .before .args .at) (c .before .before .before .before .before .before .before .before .before .before .before .before .before .before .before .before .token .result) (c .before .before .before .before .before .before .before .before .before .before .before .before .before .before .before .before .token .ensures) _ _ (c .before .before .before .before .before .before .before .before .before .before .before .before .if3 .left) (c .before .before .before .before .before .before .before .before .before .before .before .if4 .left) (c .before .before .before .before .before .before .before .before .before .before .token2 .result) (c .before .before .before .before .before .before .before .before .before .before .token2 .ensures) (c .before .before .before .before .before .before .before .before .if5 .left) _ (c .before .before .before .before .before .before .same .ensures) (c .before .before .before .before .before .if6 .left) _ (c .before .before .before .same2 .ensures) (c .before .before .if7 .taken) (c .before .if8 .left)
+    ∙ conjoined (start .args .s .now) (start .args .at) (token .result) (token .ensures) _ _ (if3 .left) (if4 .left) (at-token2 .token2 .result) (at-token2 .token2 .ensures) (else5 .if5 .left) _ (same .ensures) (else6 .if6 .left) _ (c .before .before .before .same2 .ensures) (c .before .before .if7 .taken) (c .before .if8 .left)
 
 read-term-is-comparison-requires : (t : ℕ) → read-term-lts.Need-is-comparison-requires (read-term-calls t) (read-term-at t) read-term.Post
 read-term-is-comparison-requires t c κs =
-    let p = token-placed _ _ (c .before .before .before .before .before .before .before .before .token2 .result) (c .before .before .before .before .before .before .before .before .token2 .ensures) in
-    (p .ordered, p .some (λ z. omega (arith, c .before .before .before .before .before .before .if5 .left)) .1)
+    let else5 = c .before .before .before .before .before .before in
+    let token2 = else5 .before .before .token2 in
+    let p = token-placed _ _ (token2 .result) (token2 .ensures) in
+    (p .ordered, p .some (λ z. omega (arith, else5 .if5 .left)) .1)
 
 read-term-read-comparison-requires : (t : ℕ) → read-term-lts.Need-read-comparison-requires (read-term-calls t) (read-term-at t) read-term.Post
-read-term-read-comparison-requires t c κs = c .before .before .before .before .before .before .before .before .before .before .before .before .before .before .before .before .before .before .pre .1
+read-term-read-comparison-requires t c κs =
+    let start = start-before-else4 t (else4-before-same t (c .before .before .before .before .before .before)) in
+    start .pre .1
 
 read-term-returns-9 : (t : ℕ) → read-term-lts.Need-returns-9 (read-term-calls t) (read-term-at t) read-term.Post
 read-term-returns-9 t c =
+    let else6 = c .before .before .before .before .before .before in
+    let same = else6 .before .same in
+    let else5 = else6 .before .before .before in
+    let at-token2 = else5 .before .before in
+    let if4 = at-token2 .before .if4 in
+    let if3 = at-token2 .before .before .if3 in
+    let token = token-before-else4 t (at-token2 .before) .token in
+    let start = start-before-else4 t (at-token2 .before) in
     c .read-comparison .ensures
-    ∙ compared (c .before .before .before .before .before .before .before .before .before .before .before .before .before .before .before .before .before .before .before .args .s .now) (c .before .before .before .before .before .before .before .before .before .before .before .before .before .before .before .before .before .before .before .args .at) (c .before .before .before .before .before .before .before .before .before .before .before .before .before .before .before .before .before .token .result) (c .before .before .before .before .before .before .before .before .before .before .before .before .before .before .before .before .before .token .ensures) _ _ (c .before .before .before .before .before .before .before .before .before .before .before .before .before .if3 .left) (c .before .before .before .before .before .before .before .before .before .before .before .before .if4 .left) (c .before .before .before .before .before .before .before .before .before .before .before .token2 .result) (c .before .before .before .before .before .before .before .before .before .before .before .token2 .ensures) (c .before .before .before .before .before .before .before .before .before .if5 .left) _ (c .before .before .before .before .before .before .before .same .ensures) (c .before .before .before .before .before .before .if6 .left) _ (c .before .before .before .before .same2 .ensures) (c .before .before .before .if7 .left) _ (c .before .before .is-comparison .ensures) (c .before .if9 .taken)
+    ∙ compared (start .args .s .now) (start .args .at) (token .result) (token .ensures) _ _ (if3 .left) (if4 .left) (at-token2 .token2 .result) (at-token2 .token2 .ensures) (else5 .if5 .left) _ (same .ensures) (else6 .if6 .left) _ (c .before .before .before .before .same2 .ensures) (c .before .before .before .if7 .left) _ (c .before .before .is-comparison .ensures) (c .before .if9 .taken)
 
 read-term-returns-10 : (t : ℕ) → read-term-lts.Need-returns-10 (read-term-calls t) (read-term-at t) read-term.Post
-read-term-returns-10 t c = unknown (c .before .before .before .before .before .before .before .before .before .before .before .before .before .before .before .before .before .before .args .s .now) (c .before .before .before .before .before .before .before .before .before .before .before .before .before .before .before .before .before .before .args .at) (c .before .before .before .before .before .before .before .before .before .before .before .before .before .before .before .before .token .result) (c .before .before .before .before .before .before .before .before .before .before .before .before .before .before .before .before .token .ensures) _ _ (c .before .before .before .before .before .before .before .before .before .before .before .before .if3 .left) (c .before .before .before .before .before .before .before .before .before .before .before .if4 .left) (c .before .before .before .before .before .before .before .before .before .before .token2 .result) (c .before .before .before .before .before .before .before .before .before .before .token2 .ensures) (c .before .before .before .before .before .before .before .before .if5 .left) _ (c .before .before .before .before .before .before .same .ensures) (c .before .before .before .before .before .if6 .left) _ (c .before .before .before .same2 .ensures) (c .before .before .if7 .left) _ (c .before .is-comparison .ensures) (c .if9 .left)
+read-term-returns-10 t c =
+    let else6 = c .before .before .before .before .before in
+    let same = else6 .before .same in
+    let else5 = else6 .before .before .before in
+    let at-token2 = else5 .before .before in
+    let if4 = at-token2 .before .if4 in
+    let if3 = at-token2 .before .before .if3 in
+    let token = token-before-else4 t (at-token2 .before) .token in
+    let start = start-before-else4 t (at-token2 .before) in
+    unknown (start .args .s .now) (start .args .at) (token .result) (token .ensures) _ _ (if3 .left) (if4 .left) (at-token2 .token2 .result) (at-token2 .token2 .ensures) (else5 .if5 .left) _ (same .ensures) (else6 .if6 .left) _ (c .before .before .before .same2 .ensures) (c .before .before .if7 .left) _ (c .before .is-comparison .ensures) (c .if9 .left)
 
 abbrev read-terms-Inv-loop : read-terms-lts.InvT-loop
 read-terms-Inv-loop s tab at d i₀ n₀ i n = (n ≤ i) × ((r : Read) → Says s (λ f m j. terms-from (term d s false) f s m j) n i r → r ≡ terms d s at)
@@ -185,40 +269,59 @@ read-terms-token-requires : (t : ℕ) → read-terms-lts.Need-token-requires (re
 read-terms-token-requires t c κs = c .before .before .before .pre .1
 
 read-terms-returns : (t : ℕ) → read-terms-lts.Need-returns (read-terms-calls t) (read-terms-at t) read-terms.Post read-terms-Inv-loop read-terms-μ-loop
-read-terms-returns t c = c .before .before .before .before .before .loop .inv .1 _ (closed (a-row-of-terms (term (c .before .before .before .before .before .before .before .args .d) (c .before .before .before .before .before .before .before .args .s .now) false) (c .before .before .before .before .before .before .before .args .s .now)) _ _ (c .before .before .before .token .result) (c .before .before .before .token .ensures) (c .before .before .before .before .loop-test .taken) (c .before .if1 .taken) (c .if2 .taken))
+read-terms-returns t c =
+    let at-token = c .before .before .before in
+    let at-loop = at-token .before .before in
+    let start = at-loop .before .before in
+    at-loop .loop .inv .1 _ (closed (a-row-of-terms (term (start .args .d) (start .args .s .now) false) (start .args .s .now)) _ _ (at-token .token .result) (at-token .token .ensures) (c .before .before .before .before .loop-test .taken) (c .before .if1 .taken) (c .if2 .taken))
 
 read-terms-returns-2 : (t : ℕ) → read-terms-lts.Need-returns-2 (read-terms-calls t) (read-terms-at t) read-terms.Post read-terms-Inv-loop read-terms-μ-loop
-read-terms-returns-2 t c = c .before .before .before .before .before .loop .inv .1 _ (too-few (a-row-of-terms (term (c .before .before .before .before .before .before .before .args .d) (c .before .before .before .before .before .before .before .args .s .now) false) (c .before .before .before .before .before .before .before .args .s .now)) _ _ (c .before .before .before .token .result) (c .before .before .before .token .ensures) (c .before .before .before .before .loop-test .taken) (c .before .if1 .taken) (c .if2 .left))
+read-terms-returns-2 t c =
+    let at-token = c .before .before .before in
+    let at-loop = at-token .before .before in
+    let start = at-loop .before .before in
+    at-loop .loop .inv .1 _ (too-few (a-row-of-terms (term (start .args .d) (start .args .s .now) false) (start .args .s .now)) _ _ (at-token .token .result) (at-token .token .ensures) (c .before .before .before .before .loop-test .taken) (c .before .if1 .taken) (c .if2 .left))
 
 read-terms-read-term-requires : (t : ℕ) → read-terms-lts.Need-read-term-requires (read-terms-calls t) (read-terms-at t) read-terms.Post read-terms-Inv-loop read-terms-μ-loop
 read-terms-read-term-requires t c κs =
-    let less : 2 * c .before .before .before .before .before .before .args .d < t = omega (arith, c .before .before .before .before .before .before .pre .0) in
-    (less, c .before .before .before .before .before .before .pre .1)
+    let start = c .before .before .before .before .before .before in
+    let less : 2 * start .args .d < t = omega (arith, start .pre .0) in
+    (less, start .pre .1)
 
 read-terms-enum-known-j : (t : ℕ) → read-terms-lts.Need-enum-known-j (read-terms-calls t) (read-terms-at t) read-terms.Post read-terms-Inv-loop read-terms-μ-loop
 read-terms-enum-known-j t c = search needs
 
 read-terms-add-n : (t : ℕ) → read-terms-lts.Need-add-n (read-terms-calls t) (read-terms-at t) read-terms.Post read-terms-Inv-loop read-terms-μ-loop
-read-terms-add-n t c = omega (arith, c .before .before .before .before .before .before .before .before .loop .inv .0, c .before .before .before .before .before .before .before .loop-test .taken)
+read-terms-add-n t c =
+    let in-loop = c .before .before .before .before .before .before .before in
+    let loop = in-loop .before .loop in
+    omega (arith, loop .inv .0, in-loop .loop-test .taken)
 
 read-terms-loop-less : (t : ℕ) → read-terms-lts.Need-loop-less (read-terms-calls t) (read-terms-at t) read-terms.Post read-terms-Inv-loop read-terms-μ-loop
 read-terms-loop-less t c =
-    let s = c .before .before .before .before .before .before .before .before .before .before .args .s .now in
-    let d = c .before .before .before .before .before .before .before .before .before .before .args .d in
-    let i = c .before .before .before .before .before .before .before .before .loop .i in
+    let in-loop = c .before .before .before .before .before .before .before in
+    let loop = in-loop .before .loop in
+    let start = in-loop .before .before .before in
+    let s = start .args .s .now in
+    let d = start .args .d in
+    let i = loop .i in
     let read : At (c .before .j .given .0 .0) ≡ term d s false i = sym (c .before .j .given .1) ∙ c .before .before .before .read-term .ensures in
     let far = came s i _ (term d s false i) read (term-moves s d false i) in
-    omega (arith, far .0, c .before .before .before .before .before .before .before .loop-test .taken)
+    omega (arith, far .0, in-loop .loop-test .taken)
 
 read-terms-loop-again : (t : ℕ) → read-terms-lts.Need-loop-again (read-terms-calls t) (read-terms-at t) read-terms.Post read-terms-Inv-loop read-terms-μ-loop
 read-terms-loop-again t c =
-    let s = c .before .before .before .before .before .before .before .before .before .before .args .s .now in
-    let d = c .before .before .before .before .before .before .before .before .before .before .args .d in
-    let i = c .before .before .before .before .before .before .before .before .loop .i in
+    let at-token = c .before .before .before .before .before .before in
+    let loop-test = at-token .before .loop-test in
+    let at-loop = at-token .before .before in
+    let start = at-loop .before .before in
+    let s = start .args .s .now in
+    let d = start .args .d in
+    let i = at-loop .loop .i in
     let read : At (c .before .j .given .0 .0) ≡ term d s false i = sym (c .before .j .given .1) ∙ c .before .before .before .read-term .ensures in
     let far : i < c .before .j .given .0 .0 = came s i _ (term d s false i) read (term-moves s d false i) .0 in (
-      omega (arith, c .before .before .before .before .before .before .before .before .loop .inv .0),
-      λ r says. c .before .before .before .before .before .before .before .before .loop .inv .1 r (gone-on (a-row-of-terms (term d s false) s) _ _ (c .before .before .before .before .before .before .token .result) (c .before .before .before .before .before .before .token .ensures) (c .before .before .before .before .before .before .before .loop-test .taken) (c .before .before .before .before .if1 .left) _ read far (λ x. refl) r says),
+      omega (arith, at-loop .loop .inv .0),
+      λ r says. at-loop .loop .inv .1 r (gone-on (a-row-of-terms (term d s false) s) _ _ (at-token .token .result) (at-token .token .ensures) (loop-test .taken) (c .before .before .before .before .if1 .left) _ read far (λ x. refl) r says),
     )
 
 read-terms-enum-told : (t : ℕ) → read-terms-lts.Need-enum-told (read-terms-calls t) (read-terms-at t) read-terms.Post read-terms-Inv-loop read-terms-μ-loop
@@ -226,29 +329,42 @@ read-terms-enum-told t c = search needs
 
 read-terms-returns-3 : (t : ℕ) → read-terms-lts.Need-returns-3 (read-terms-calls t) (read-terms-at t) read-terms.Post read-terms-Inv-loop read-terms-μ-loop
 read-terms-returns-3 t c =
-    let s = c .before .before .before .before .before .before .before .before .before .args .s .now in
-    c .before .before .before .before .before .before .before .loop .inv .1 _ (stopped (a-row-of-terms (term (c .before .before .before .before .before .before .before .before .before .args .d) s false) s) _ _ (c .before .before .before .before .before .token .result) (c .before .before .before .before .before .token .ensures) (c .before .before .before .before .before .before .loop-test .taken) (c .before .before .before .if1 .left) _ (sym (c .enum-told .given .1) ∙ c .before .before .read-term .ensures) (λ next. refl))
+    let at-token = c .before .before .before .before .before in
+    let loop-test = at-token .before .loop-test in
+    let at-loop = at-token .before .before in
+    let start = at-loop .before .before in
+    let s = start .args .s .now in
+    at-loop .loop .inv .1 _ (stopped (a-row-of-terms (term (start .args .d) s false) s) _ _ (at-token .token .result) (at-token .token .ensures) (loop-test .taken) (c .before .before .before .if1 .left) _ (sym (c .enum-told .given .1) ∙ c .before .before .read-term .ensures) (λ next. refl))
 
 read-terms-enum-told-2 : (t : ℕ) → read-terms-lts.Need-enum-told-2 (read-terms-calls t) (read-terms-at t) read-terms.Post read-terms-Inv-loop read-terms-μ-loop
 read-terms-enum-told-2 t c = search needs
 
 read-terms-returns-4 : (t : ℕ) → read-terms-lts.Need-returns-4 (read-terms-calls t) (read-terms-at t) read-terms.Post read-terms-Inv-loop read-terms-μ-loop
 read-terms-returns-4 t c =
-    let s = c .before .before .before .before .before .before .before .before .before .args .s .now in
-    c .before .before .before .before .before .before .before .loop .inv .1 _ (stopped (a-row-of-terms (term (c .before .before .before .before .before .before .before .before .before .args .d) s false) s) _ _ (c .before .before .before .before .before .token .result) (c .before .before .before .before .before .token .ensures) (c .before .before .before .before .before .before .loop-test .taken) (c .before .before .before .if1 .left) _ (sym (c .enum-told2 .given .1) ∙ c .before .before .read-term .ensures) (λ next. refl))
+    let at-token = c .before .before .before .before .before in
+    let loop-test = at-token .before .loop-test in
+    let at-loop = at-token .before .before in
+    let start = at-loop .before .before in
+    let s = start .args .s .now in
+    at-loop .loop .inv .1 _ (stopped (a-row-of-terms (term (start .args .d) s false) s) _ _ (at-token .token .result) (at-token .token .ensures) (loop-test .taken) (c .before .before .before .if1 .left) _ (sym (c .enum-told2 .given .1) ∙ c .before .before .read-term .ensures) (λ next. refl))
 
 read-terms-enum-told-3 : (t : ℕ) → read-terms-lts.Need-enum-told-3 (read-terms-calls t) (read-terms-at t) read-terms.Post read-terms-Inv-loop read-terms-μ-loop
 read-terms-enum-told-3 t c = search needs
 
 read-terms-returns-5 : (t : ℕ) → read-terms-lts.Need-returns-5 (read-terms-calls t) (read-terms-at t) read-terms.Post read-terms-Inv-loop read-terms-μ-loop
 read-terms-returns-5 t c =
-    let s = c .before .before .before .before .before .before .before .before .before .args .s .now in
-    c .before .before .before .before .before .before .before .loop .inv .1 _ (stopped (a-row-of-terms (term (c .before .before .before .before .before .before .before .before .before .args .d) s false) s) _ _ (c .before .before .before .before .before .token .result) (c .before .before .before .before .before .token .ensures) (c .before .before .before .before .before .before .loop-test .taken) (c .before .before .before .if1 .left) _ (sym (c .enum-told3 .given .1) ∙ c .before .before .read-term .ensures) (λ next. refl))
+    let at-token = c .before .before .before .before .before in
+    let loop-test = at-token .before .loop-test in
+    let at-loop = at-token .before .before in
+    let start = at-loop .before .before in
+    let s = start .args .s .now in
+    at-loop .loop .inv .1 _ (stopped (a-row-of-terms (term (start .args .d) s false) s) _ _ (at-token .token .result) (at-token .token .ensures) (loop-test .taken) (c .before .before .before .if1 .left) _ (sym (c .enum-told3 .given .1) ∙ c .before .before .read-term .ensures) (λ next. refl))
 
 read-terms-returns-6 : (t : ℕ) → read-terms-lts.Need-returns-6 (read-terms-calls t) (read-terms-at t) read-terms.Post read-terms-Inv-loop read-terms-μ-loop
 read-terms-returns-6 t c =
-    let s = c .before .before .before .args .s .now in
-    let d = c .before .before .before .args .d in
+    let start = c .before .before .before in
+    let s = start .args .s .now in
+    let d = start .args .d in
     let i = c .before .loop .i in
     c .before .loop .inv .1 _ (ended (a-row-of-terms (term d s false) s) _ i (token-at s i) refl (c .loop-test .left) (no-term-at-end s i (token-at s i) refl d false))
 

@@ -13,15 +13,25 @@ token-requires-2 : tie.Need-token-requires-2
 token-requires-2 c κs = search needs
 
 returns : tie.Need-returns
-returns c = no-name (c .before .before .before .before .before .args .s .now) (c .before .before .before .token .result) (c .before .before .before .token .ensures) (c .before .before .token2 .result) (c .before .before .token2 .ensures) (c .if1 .taken)
+returns c =
+    let at-token2 = c .before .before in
+    let token = at-token2 .before .token in
+    let start = at-token2 .before .before .before in
+    no-name (start .args .s .now) (token .result) (token .ensures) (at-token2 .token2 .result) (at-token2 .token2 .ensures) (c .if1 .taken)
 
 headed-by-requires : tie.Need-headed-by-requires
 headed-by-requires c κs =
-    let p = token-placed _ _ (c .before .before .token2 .result) (c .before .before .token2 .ensures) in
-    (c .before .before .before .before .before .pre, (p .ordered, p .some (λ z. omega (arith, c .if1 .left)) .1))
+    let at-token2 = c .before .before in
+    let start = at-token2 .before .before .before in
+    let p = token-placed _ _ (at-token2 .token2 .result) (at-token2 .token2 .ensures) in
+    (start .pre, (p .ordered, p .some (λ z. omega (arith, c .if1 .left)) .1))
 
 returns-2 : tie.Need-returns-2
-returns-2 c = by-name (c .before .before .before .before .before .before .args .s .now) (c .before .before .before .before .token .result) (c .before .before .before .before .token .ensures) (c .before .before .before .token2 .result) (c .before .before .before .token2 .ensures) (c .before .if1 .left) _ (c .headed-by .ensures)
+returns-2 c =
+    let at-token2 = c .before .before .before in
+    let token = at-token2 .before .token in
+    let start = at-token2 .before .before .before in
+    by-name (start .args .s .now) (token .result) (token .ensures) (at-token2 .token2 .result) (at-token2 .token2 .ensures) (c .before .if1 .left) _ (c .headed-by .ensures)
 
 pub form-of-spec : {M : Type 1} → statement M
 form-of-spec =

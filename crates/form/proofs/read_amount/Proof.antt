@@ -25,8 +25,11 @@ read-kind-requires-2 c κs = search needs
 
 returns : tie.Need-returns
 returns c =
-    from-there _ _ _ _ (c .before .before .before .before .before .before .before .before .r .given .1)
-    (on _ _ _ _ (on _ _ _ _ (c .before .before .read-word .ensures) (c .before .read-kind .ensures)) (c .read-kind2 .ensures) ∙ amount-below (c .before .before .before .before .before .before .before .before .before .before .before .args .s .now) (c .before .before .before .before .before .before .before .before .r .given .0 .0) (c .before .before .before .before .before .before .token .result) (c .before .before .before .before .before .before .token .ensures) (c .before .before .before .before .if1 .taken))
+    let at-token = c .before .before .before .before .before .before in
+    let at-r = at-token .before .before in
+    let start = at-r .before .before .before in
+    from-there _ _ _ _ (at-r .r .given .1)
+    (on _ _ _ _ (on _ _ _ _ (c .before .before .read-word .ensures) (c .before .read-kind .ensures)) (c .read-kind2 .ensures) ∙ amount-below (start .args .s .now) (at-r .r .given .0 .0) (at-token .token .result) (at-token .token .ensures) (c .before .before .before .before .if1 .taken))
 
 read-kind-requires-3 : tie.Need-read-kind-requires-3
 read-kind-requires-3 c κs = search needs
@@ -41,7 +44,11 @@ enum-told-3 : tie.Need-enum-told-3
 enum-told-3 c = search needs
 
 returns-2 : tie.Need-returns-2
-returns-2 c = from-there _ _ _ _ (c .before .before .before .before .before .r .given .1) (c .read-kind3 .ensures ∙ amount-plain (c .before .before .before .before .before .before .before .before .args .s .now) (c .before .before .before .before .before .r .given .0 .0) (c .before .before .before .token .result) (c .before .before .before .token .ensures) (c .before .if1 .left))
+returns-2 c =
+    let at-token = c .before .before .before in
+    let at-r = at-token .before .before in
+    let start = at-r .before .before .before in
+    from-there _ _ _ _ (at-r .r .given .1) (c .read-kind3 .ensures ∙ amount-plain (start .args .s .now) (at-r .r .given .0 .0) (at-token .token .result) (at-token .token .ensures) (c .before .if1 .left))
 
 returns-3 : tie.Need-returns-3
 returns-3 c = search needs

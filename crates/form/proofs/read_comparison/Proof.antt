@@ -30,7 +30,9 @@ read-kind-requires-3 c κs = search needs
 
 returns : tie.Need-returns
 returns c =
-    on _ _ _ _ (on _ _ _ _ (on _ _ _ _ (on _ _ _ _ (on _ _ _ _ (on _ _ _ _ (c .before .before .before .before .before .before .before .read-kind .ensures) (c .before .before .before .before .before .read-word .ensures)) (c .before .before .before .before .read-name .ensures)) (c .before .before .before .read-name2 .ensures)) (c .before .before .read-kind2 .ensures)) (c .before .read-amount .ensures)) (c .read-kind3 .ensures)
+    let at-read-word = c .before .before .before .before .before in
+    let read-kind = at-read-word .before .before .read-kind in
+    on _ _ _ _ (on _ _ _ _ (on _ _ _ _ (on _ _ _ _ (on _ _ _ _ (on _ _ _ _ (read-kind .ensures) (at-read-word .read-word .ensures)) (c .before .before .before .before .read-name .ensures)) (c .before .before .before .read-name2 .ensures)) (c .before .before .read-kind2 .ensures)) (c .before .read-amount .ensures)) (c .read-kind3 .ensures)
 
 pub read-comparison-spec : {M : Type 1} → statement M
 read-comparison-spec =

@@ -11,7 +11,11 @@ token-requires : tie.Need-token-requires
 token-requires c κs = search needs
 
 returns : tie.Need-returns
-returns c = from-there _ _ _ _ (c .before .before .before .before .r .given .1) (of-kind (c .before .before .before .before .before .before .before .args .s .now) (c .before .before .before .before .r .given .0 .0) (c .before .before .token .result) (c .before .before .token .ensures) _ (c .if1 .taken))
+returns c =
+    let at-token = c .before .before in
+    let at-r = at-token .before .before in
+    let start = at-r .before .before .before in
+    from-there _ _ _ _ (at-r .r .given .1) (of-kind (start .args .s .now) (at-r .r .given .0 .0) (at-token .token .result) (at-token .token .ensures) _ (c .if1 .taken))
 
 enum-told : tie.Need-enum-told
 enum-told c = search needs
@@ -23,7 +27,11 @@ enum-told-3 : tie.Need-enum-told-3
 enum-told-3 c = search needs
 
 returns-2 : tie.Need-returns-2
-returns-2 c = from-there _ _ _ _ (c .before .before .before .before .r .given .1) (other-kind (c .before .before .before .before .before .before .before .args .s .now) (c .before .before .before .before .r .given .0 .0) (c .before .before .token .result) (c .before .before .token .ensures) _ (c .if1 .left))
+returns-2 c =
+    let at-token = c .before .before in
+    let at-r = at-token .before .before in
+    let start = at-r .before .before .before in
+    from-there _ _ _ _ (at-r .r .given .1) (other-kind (start .args .s .now) (at-r .r .given .0 .0) (at-token .token .result) (at-token .token .ensures) _ (c .if1 .left))
 
 returns-3 : tie.Need-returns-3
 returns-3 c = search needs

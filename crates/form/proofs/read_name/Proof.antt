@@ -13,21 +13,36 @@ token-requires : tie.Need-token-requires
 token-requires c κs = search needs
 
 returns : tie.Need-returns
-returns c = from-there _ _ _ _ (c .before .before .before .before .r .given .1) (name-no-symbol (c .before .before .before .before .before .before .before .args .s .now) (c .before .before .before .before .r .given .0 .0) (c .before .before .token .result) (c .before .before .token .ensures) (c .if1 .taken))
+returns c =
+    let at-token = c .before .before in
+    let at-r = at-token .before .before in
+    let start = at-r .before .before .before in
+    from-there _ _ _ _ (at-r .r .given .1) (name-no-symbol (start .args .s .now) (at-r .r .given .0 .0) (at-token .token .result) (at-token .token .ensures) (c .if1 .taken))
 
 is-reserved-requires : tie.Need-is-reserved-requires
 is-reserved-requires c κs =
-    let p = token-placed _ _ (c .before .before .token .result) (c .before .before .token .ensures) in
+    let token = c .before .before .token in
+    let p = token-placed _ _ (token .result) (token .ensures) in
     (p .ordered, p .some (λ z. omega (arith, c .if1 .left)) .1)
 
 returns-2 : tie.Need-returns-2
-returns-2 c = from-there _ _ _ _ (c .before .before .before .before .before .before .r .given .1) (name-reserved (c .before .before .before .before .before .before .before .before .before .args .s .now) (c .before .before .before .before .before .before .r .given .0 .0) (c .before .before .before .before .token .result) (c .before .before .before .before .token .ensures) _ (c .before .before .if1 .left) (c .before .is-reserved .ensures) (c .if2 .taken))
+returns-2 c =
+    let at-token = c .before .before .before .before in
+    let at-r = at-token .before .before in
+    let start = at-r .before .before .before in
+    from-there _ _ _ _ (at-r .r .given .1) (name-reserved (start .args .s .now) (at-r .r .given .0 .0) (at-token .token .result) (at-token .token .ensures) _ (c .before .before .if1 .left) (c .before .is-reserved .ensures) (c .if2 .taken))
 
 sub-if3 : tie.Need-sub-if3
-sub-if3 c = token-placed _ _ (c .before .before .before .before .before .token .result) (c .before .before .before .before .before .token .ensures) .ordered
+sub-if3 c =
+    let token = c .before .before .before .before .before .token in
+    token-placed _ _ (token .result) (token .ensures) .ordered
 
 returns-3 : tie.Need-returns-3
-returns-3 c = from-there _ _ _ _ (c .before .before .before .before .before .before .before .before .r .given .1) (name-fits (c .before .before .before .before .before .before .before .before .before .before .before .args .s .now) (c .before .before .before .before .before .before .before .before .r .given .0 .0) (c .before .before .before .before .before .before .token .result) (c .before .before .before .before .before .before .token .ensures) _ (c .before .before .before .before .if1 .left) (c .before .before .before .is-reserved .ensures) (c .before .before .if2 .left) (c .if3 .taken))
+returns-3 c =
+    let at-token = c .before .before .before .before .before .before in
+    let at-r = at-token .before .before in
+    let start = at-r .before .before .before in
+    from-there _ _ _ _ (at-r .r .given .1) (name-fits (start .args .s .now) (at-r .r .given .0 .0) (at-token .token .result) (at-token .token .ensures) _ (c .before .before .before .before .if1 .left) (c .before .before .before .is-reserved .ensures) (c .before .before .if2 .left) (c .if3 .taken))
 
 enum-told : tie.Need-enum-told
 enum-told c = search needs
@@ -39,7 +54,11 @@ enum-told-3 : tie.Need-enum-told-3
 enum-told-3 c = search needs
 
 returns-4 : tie.Need-returns-4
-returns-4 c = from-there _ _ _ _ (c .before .before .before .before .before .before .before .before .r .given .1) (name-long (c .before .before .before .before .before .before .before .before .before .before .before .args .s .now) (c .before .before .before .before .before .before .before .before .r .given .0 .0) (c .before .before .before .before .before .before .token .result) (c .before .before .before .before .before .before .token .ensures) _ (c .before .before .before .before .if1 .left) (c .before .before .before .is-reserved .ensures) (c .before .before .if2 .left) (c .if3 .left))
+returns-4 c =
+    let at-token = c .before .before .before .before .before .before in
+    let at-r = at-token .before .before in
+    let start = at-r .before .before .before in
+    from-there _ _ _ _ (at-r .r .given .1) (name-long (start .args .s .now) (at-r .r .given .0 .0) (at-token .token .result) (at-token .token .ensures) _ (c .before .before .before .before .if1 .left) (c .before .before .before .is-reserved .ensures) (c .before .before .if2 .left) (c .if3 .left))
 
 returns-5 : tie.Need-returns-5
 returns-5 c = search needs

@@ -27,56 +27,98 @@ token-requires : tie.Need-token-requires Inv-loop μ-loop
 token-requires c κs = c .before .before .before .pre
 
 returns : tie.Need-returns Inv-loop μ-loop
-returns c = c .before .before .before .before .before .loop .inv .1 _ (closed (a-row-of-names (c .before .before .before .before .before .before .before .args .s .now)) _ _ (c .before .before .before .token .result) (c .before .before .before .token .ensures) (c .before .before .before .before .loop-test .taken) (c .before .if1 .taken) (c .if2 .taken))
+returns c =
+    let at-token = c .before .before .before in
+    let at-loop = at-token .before .before in
+    let start = at-loop .before .before in
+    at-loop .loop .inv .1 _ (closed (a-row-of-names (start .args .s .now)) _ _ (at-token .token .result) (at-token .token .ensures) (c .before .before .before .before .loop-test .taken) (c .before .if1 .taken) (c .if2 .taken))
 
 returns-2 : tie.Need-returns-2 Inv-loop μ-loop
-returns-2 c = c .before .before .before .before .before .loop .inv .1 _ (too-few (a-row-of-names (c .before .before .before .before .before .before .before .args .s .now)) _ _ (c .before .before .before .token .result) (c .before .before .before .token .ensures) (c .before .before .before .before .loop-test .taken) (c .before .if1 .taken) (c .if2 .left))
+returns-2 c =
+    let at-token = c .before .before .before in
+    let at-loop = at-token .before .before in
+    let start = at-loop .before .before in
+    at-loop .loop .inv .1 _ (too-few (a-row-of-names (start .args .s .now)) _ _ (at-token .token .result) (at-token .token .ensures) (c .before .before .before .before .loop-test .taken) (c .before .if1 .taken) (c .if2 .left))
 
 read-name-requires : tie.Need-read-name-requires Inv-loop μ-loop
-read-name-requires c κs = c .before .before .before .before .before .before .pre
+read-name-requires c κs =
+    let start = c .before .before .before .before .before .before in
+    start .pre
 
 enum-known-j : tie.Need-enum-known-j Inv-loop μ-loop
 enum-known-j c = search needs
 
 returns-3 : tie.Need-returns-3 Inv-loop μ-loop
 returns-3 c =
-    c .before .before .before .before .before .before .before .before .before .loop .inv .1 _
-    (too-many (a-row-of-names (c .before .before .before .before .before .before .before .before .before .before .before .args .s .now)) _ _ (c .before .before .before .before .before .before .before .token .result) (c .before .before .before .before .before .before .before .token .ensures) (c .before .before .before .before .before .before .before .before .loop-test .taken) (c .before .before .before .before .before .if1 .left) _ (sym (c .before .before .j .given .1) ∙ c .before .before .before .before .read-name .ensures) (λ x. pick-false _ _ _ (le-ltb _ _ (c .if3 .taken))))
+    let else1 = c .before .before .before .before .before in
+    let at-token = else1 .before .before in
+    let loop-test = at-token .before .loop-test in
+    let at-loop = at-token .before .before in
+    let start = at-loop .before .before in
+    at-loop .loop .inv .1 _
+    (too-many (a-row-of-names (start .args .s .now)) _ _ (at-token .token .result) (at-token .token .ensures) (loop-test .taken) (else1 .if1 .left) _ (sym (c .before .before .j .given .1) ∙ c .before .before .before .before .read-name .ensures) (λ x. pick-false _ _ _ (le-ltb _ _ (c .if3 .taken))))
 
 add-n : tie.Need-add-n Inv-loop μ-loop
-add-n c = omega (arith, c .before .before .before .before .before .before .before .before .before .loop .inv .0, c .before .before .before .before .before .before .before .before .loop-test .taken)
+add-n c =
+    let in-loop = c .before .before .before .before .before .before .before .before in
+    let loop = in-loop .before .loop in
+    omega (arith, loop .inv .0, in-loop .loop-test .taken)
 
 loop-less : tie.Need-loop-less Inv-loop μ-loop
 loop-less c =
-    let far = came (c .before .before .before .before .before .before .before .before .before .before .before .args .s .now) (c .before .before .before .before .before .before .before .before .before .loop .i) _ _ (sym (c .before .before .j .given .1) ∙ c .before .before .before .before .read-name .ensures) (name-moves (c .before .before .before .before .before .before .before .before .before .before .before .args .s .now) (c .before .before .before .before .before .before .before .before .before .loop .i)) in
-    omega (arith, far .0, c .before .before .before .before .before .before .before .before .loop-test .taken)
+    let in-loop = c .before .before .before .before .before .before .before .before in
+    let loop = in-loop .before .loop in
+    let start = in-loop .before .before .before in
+    let far = came (start .args .s .now) (loop .i) _ _ (sym (c .before .before .j .given .1) ∙ c .before .before .before .before .read-name .ensures) (name-moves (start .args .s .now) (loop .i)) in
+    omega (arith, far .0, in-loop .loop-test .taken)
 
 loop-again : tie.Need-loop-again Inv-loop μ-loop
 loop-again c =
-    let s = c .before .before .before .before .before .before .before .before .before .before .before .args .s .now in
-    let read = sym (c .before .before .j .given .1) ∙ c .before .before .before .before .read-name .ensures in
-    let far : c .before .before .before .before .before .before .before .before .before .loop .i < c .before .before .j .given .0 .0 = came s (c .before .before .before .before .before .before .before .before .before .loop .i) _ _ read (name-moves s (c .before .before .before .before .before .before .before .before .before .loop .i)) .0 in (
-      omega (arith, c .before .before .before .before .before .before .before .before .before .loop .inv .0),
-      λ r says. c .before .before .before .before .before .before .before .before .before .loop .inv .1 r (gone-on (a-row-of-names s) _ _ (c .before .before .before .before .before .before .before .token .result) (c .before .before .before .before .before .before .before .token .ensures) (c .before .before .before .before .before .before .before .before .loop-test .taken) (c .before .before .before .before .before .if1 .left) _ read far (λ x. pick-true _ _ _ (lt-ltb _ _ (c .if3 .left))) r says),
+    let at-j = c .before .before in
+    let else1 = at-j .before .before .before in
+    let at-token = else1 .before .before in
+    let loop-test = at-token .before .loop-test in
+    let at-loop = at-token .before .before in
+    let start = at-loop .before .before in
+    let s = start .args .s .now in
+    let read = sym (at-j .j .given .1) ∙ c .before .before .before .before .read-name .ensures in
+    let far : at-loop .loop .i < at-j .j .given .0 .0 = came s (at-loop .loop .i) _ _ read (name-moves s (at-loop .loop .i)) .0 in (
+      omega (arith, at-loop .loop .inv .0),
+      λ r says. at-loop .loop .inv .1 r (gone-on (a-row-of-names s) _ _ (at-token .token .result) (at-token .token .ensures) (loop-test .taken) (else1 .if1 .left) _ read far (λ x. pick-true _ _ _ (lt-ltb _ _ (c .if3 .left))) r says),
     )
 
 enum-told : tie.Need-enum-told Inv-loop μ-loop
 enum-told c = search needs
 
 returns-4 : tie.Need-returns-4 Inv-loop μ-loop
-returns-4 c = c .before .before .before .before .before .before .before .loop .inv .1 _ (stopped (a-row-of-names (c .before .before .before .before .before .before .before .before .before .args .s .now)) _ _ (c .before .before .before .before .before .token .result) (c .before .before .before .before .before .token .ensures) (c .before .before .before .before .before .before .loop-test .taken) (c .before .before .before .if1 .left) _ (sym (c .enum-told .given .1) ∙ c .before .before .read-name .ensures) (λ next. refl))
+returns-4 c =
+    let at-token = c .before .before .before .before .before in
+    let loop-test = at-token .before .loop-test in
+    let at-loop = at-token .before .before in
+    let start = at-loop .before .before in
+    at-loop .loop .inv .1 _ (stopped (a-row-of-names (start .args .s .now)) _ _ (at-token .token .result) (at-token .token .ensures) (loop-test .taken) (c .before .before .before .if1 .left) _ (sym (c .enum-told .given .1) ∙ c .before .before .read-name .ensures) (λ next. refl))
 
 enum-told-2 : tie.Need-enum-told-2 Inv-loop μ-loop
 enum-told-2 c = search needs
 
 returns-5 : tie.Need-returns-5 Inv-loop μ-loop
-returns-5 c = c .before .before .before .before .before .before .before .loop .inv .1 _ (stopped (a-row-of-names (c .before .before .before .before .before .before .before .before .before .args .s .now)) _ _ (c .before .before .before .before .before .token .result) (c .before .before .before .before .before .token .ensures) (c .before .before .before .before .before .before .loop-test .taken) (c .before .before .before .if1 .left) _ (sym (c .enum-told2 .given .1) ∙ c .before .before .read-name .ensures) (λ next. refl))
+returns-5 c =
+    let at-token = c .before .before .before .before .before in
+    let loop-test = at-token .before .loop-test in
+    let at-loop = at-token .before .before in
+    let start = at-loop .before .before in
+    at-loop .loop .inv .1 _ (stopped (a-row-of-names (start .args .s .now)) _ _ (at-token .token .result) (at-token .token .ensures) (loop-test .taken) (c .before .before .before .if1 .left) _ (sym (c .enum-told2 .given .1) ∙ c .before .before .read-name .ensures) (λ next. refl))
 
 enum-told-3 : tie.Need-enum-told-3 Inv-loop μ-loop
 enum-told-3 c = search needs
 
 returns-6 : tie.Need-returns-6 Inv-loop μ-loop
-returns-6 c = c .before .before .before .before .before .before .before .loop .inv .1 _ (stopped (a-row-of-names (c .before .before .before .before .before .before .before .before .before .args .s .now)) _ _ (c .before .before .before .before .before .token .result) (c .before .before .before .before .before .token .ensures) (c .before .before .before .before .before .before .loop-test .taken) (c .before .before .before .if1 .left) _ (sym (c .enum-told3 .given .1) ∙ c .before .before .read-name .ensures) (λ next. refl))
+returns-6 c =
+    let at-token = c .before .before .before .before .before in
+    let loop-test = at-token .before .loop-test in
+    let at-loop = at-token .before .before in
+    let start = at-loop .before .before in
+    at-loop .loop .inv .1 _ (stopped (a-row-of-names (start .args .s .now)) _ _ (at-token .token .result) (at-token .token .ensures) (loop-test .taken) (c .before .before .before .if1 .left) _ (sym (c .enum-told3 .given .1) ∙ c .before .before .read-name .ensures) (λ next. refl))
 
 returns-7 : tie.Need-returns-7 Inv-loop μ-loop
 returns-7 c =

@@ -9,15 +9,22 @@ token-requires : tie.Need-token-requires
 token-requires c κs = search needs
 
 returns : tie.Need-returns
-returns c = no-number (c .before .before .before .before .args .s .now) (c .before .before .before .before .args .at) (c .before .before .token .result) (c .before .before .token .ensures) (c .if1 .taken)
+returns c =
+    let at-token = c .before .before in
+    let start = at-token .before .before in
+    no-number (start .args .s .now) (start .args .at) (at-token .token .result) (at-token .token .ensures) (c .if1 .taken)
 
 value-requires : tie.Need-value-requires
 value-requires c κs =
-    let p = token-placed _ _ (c .before .before .token .result) (c .before .before .token .ensures) in
+    let token = c .before .before .token in
+    let p = token-placed _ _ (token .result) (token .ensures) in
     (p .ordered, p .some (c .if1 .left) .1)
 
 returns-2 : tie.Need-returns-2
-returns-2 c = number-of (c .before .before .before .before .before .args .s .now) (c .before .before .before .before .before .args .at) (c .before .before .before .token .result) (c .before .before .before .token .ensures) _ (c .value .ensures)
+returns-2 c =
+    let at-token = c .before .before .before in
+    let start = at-token .before .before in
+    number-of (start .args .s .now) (start .args .at) (at-token .token .result) (at-token .token .ensures) _ (c .value .ensures)
 
 pub read-number-spec : {M : Type 1} → statement M
 read-number-spec = tie.close (tie.spec token-requires returns value-requires returns-2)

@@ -13,15 +13,24 @@ token-requires : tie.Need-token-requires
 token-requires c κs = search needs
 
 returns : tie.Need-returns
-returns c = from-there _ _ _ _ (c .before .before .before .before .r .given .1) (word-no-symbol (c .before .before .before .before .before .before .before .before .args .s .now) (c .before .before .before .before .r .given .0 .0) (c .before .before .token .result) (c .before .before .token .ensures) _ (c .if1 .taken))
+returns c =
+    let at-token = c .before .before in
+    let at-r = at-token .before .before in
+    let start = at-r .before .before .before .before in
+    from-there _ _ _ _ (at-r .r .given .1) (word-no-symbol (start .args .s .now) (at-r .r .given .0 .0) (at-token .token .result) (at-token .token .ensures) _ (c .if1 .taken))
 
 same-requires : tie.Need-same-requires
 same-requires c κs =
-    let p = token-placed _ _ (c .before .before .token .result) (c .before .before .token .ensures) in
+    let token = c .before .before .token in
+    let p = token-placed _ _ (token .result) (token .ensures) in
     (p .ordered, p .some (λ z. omega (arith, c .if1 .left)) .1)
 
 returns-2 : tie.Need-returns-2
-returns-2 c = from-there _ _ _ _ (c .before .before .before .before .before .before .r .given .1) (word-is (c .before .before .before .before .before .before .before .before .before .before .args .s .now) (c .before .before .before .before .before .before .r .given .0 .0) (c .before .before .before .before .token .result) (c .before .before .before .before .token .ensures) _ _ _ (c .before .before .if1 .left) (c .before .same .ensures) (c .if2 .taken))
+returns-2 c =
+    let at-token = c .before .before .before .before in
+    let at-r = at-token .before .before in
+    let start = at-r .before .before .before .before in
+    from-there _ _ _ _ (at-r .r .given .1) (word-is (start .args .s .now) (at-r .r .given .0 .0) (at-token .token .result) (at-token .token .ensures) _ _ _ (c .before .before .if1 .left) (c .before .same .ensures) (c .if2 .taken))
 
 enum-told : tie.Need-enum-told
 enum-told c = search needs
@@ -33,7 +42,11 @@ enum-told-3 : tie.Need-enum-told-3
 enum-told-3 c = search needs
 
 returns-3 : tie.Need-returns-3
-returns-3 c = from-there _ _ _ _ (c .before .before .before .before .before .before .r .given .1) (word-is (c .before .before .before .before .before .before .before .before .before .before .args .s .now) (c .before .before .before .before .before .before .r .given .0 .0) (c .before .before .before .before .token .result) (c .before .before .before .before .token .ensures) _ _ _ (c .before .before .if1 .left) (c .before .same .ensures) (c .if2 .left))
+returns-3 c =
+    let at-token = c .before .before .before .before in
+    let at-r = at-token .before .before in
+    let start = at-r .before .before .before .before in
+    from-there _ _ _ _ (at-r .r .given .1) (word-is (start .args .s .now) (at-r .r .given .0 .0) (at-token .token .result) (at-token .token .ensures) _ _ _ (c .before .before .if1 .left) (c .before .same .ensures) (c .if2 .left))
 
 returns-4 : tie.Need-returns-4
 returns-4 c = search needs
