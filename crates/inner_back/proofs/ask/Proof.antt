@@ -24,13 +24,17 @@ day-at-requires : tie.Need-day-at-requires Inv-loop μ-loop
 day-at-requires c κs = search needs
 
 sub-gains : tie.Need-sub-gains Inv-loop μ-loop
-sub-gains c = omega (arith, c .day-at .ensures, c .before .before .before .before .before .pre .not-after (c .before .before .loop .v) (c .before .loop-test .taken))
+sub-gains c =
+    let start = c .before .before .before .before .before in
+    omega (arith, c .day-at .ensures, start .pre .not-after (c .before .before .loop .v) (c .before .loop-test .taken))
 
 mul-gains : tie.Need-mul-gains Inv-loop μ-loop
 mul-gains c = search needs
 
 slice-write-gains : tie.Need-slice-write-gains Inv-loop μ-loop
-slice-write-gains c = omega (arith, c .before .loop-test .taken, c .before .before .loop .inv .0, c .before .before .before .before .before .pre .gains-room)
+slice-write-gains c =
+    let start = c .before .before .before .before .before in
+    omega (arith, c .before .loop-test .taken, c .before .before .loop .inv .0, start .pre .gains-room)
 
 add-v : tie.Need-add-v Inv-loop μ-loop
 add-v c = search needs
@@ -40,15 +44,16 @@ loop-less c = search needs
 
 loop-again : tie.Need-loop-again Inv-loop μ-loop
 loop-again c =
-    let start = c .before .before .before .before .before in
-    let gains = c .before .before .loop .gains in
-    let v = c .before .before .loop .v in
+    let at-loop = c .before .before in
+    let start = at-loop .before .before .before in
+    let gains = at-loop .loop .gains in
+    let v = at-loop .loop .v in
     let v-in = c .before .loop-test .taken in
     rw (c .day-at .ensures) (
-      length-set gains v _ ∙ c .before .before .loop .inv .0,
+      length-set gains v _ ∙ at-loop .loop .inv .0,
       omega (arith, v-in),
-      reaches-more (start .args .k) v (start .args .days .now) gains (omega (arith, v-in, c .before .before .loop .inv .0, start .pre .gains-room))
-          (start .pre .not-after v v-in) (c .before .before .loop .inv .2),
+      reaches-more (start .args .k) v (start .args .days .now) gains (omega (arith, v-in, at-loop .loop .inv .0, start .pre .gains-room))
+          (start .pre .not-after v v-in) (at-loop .loop .inv .2),
     )
 
 same-length : tie.Need-same-length Inv-loop μ-loop

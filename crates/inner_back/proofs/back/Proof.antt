@@ -25,9 +25,10 @@ refused-requires c κs = search needs
 
 returns : tie.Need-returns
 returns c =
+    let start = c .before .before .before .before .before .before .before .before .before in
     rw (c .refused .ensures)
     (obeys-refused _ _ NOMARK (λ e. omega arith) (λ e. omega arith)
-    (inr (c .before .before .before .before .before .before .before .before .before .pre .room, inr (c .before .before .before .before .before .before .before .before .before .pre .sound, inl (refl, λ some. omega (arith, c .before .if1 .taken))))))
+    (inr (start .pre .room, inr (start .pre .sound, inl (refl, λ some. omega (arith, c .before .if1 .taken))))))
 
 sub-mark : tie.Need-sub-mark
 sub-mark c = search needs
@@ -45,10 +46,14 @@ cast-keep-first-2 : tie.Need-cast-keep-first-2
 cast-keep-first-2 c = search needs
 
 cast-keep-first-3 : tie.Need-cast-keep-first-3
-cast-keep-first-3 c = omega (arith, c .before .before .shared-slice-known6 .given (c .before .before .before .before .before .before .before .before .before .before .before .args .counts .marks - 1))
+cast-keep-first-3 c =
+    let start = c .before .before .before .before .before .before .before .before .before .before .before in
+    omega (arith, c .before .before .shared-slice-known6 .given (start .args .counts .marks - 1))
 
 keep-first-requires : tie.Need-keep-first-requires
-keep-first-requires c κs = droppable (c .before .before .before .before .before .before .before .before .before .before .before .before .pre) (omega (arith, c .before .before .before .before .if1 .left))
+keep-first-requires c κs =
+    let start = c .before .before .before .before .before .before .before .before .before .before .before .before in
+    droppable (start .pre) (omega (arith, c .before .before .before .before .if1 .left))
 
 sub-left : tie.Need-sub-left
 sub-left c = search needs
@@ -67,9 +72,12 @@ same-length c = search needs
 
 returns-2 : tie.Need-returns-2
 returns-2 c =
+    let at-keep-first = c .before .before .before .before .before .before in
+    let else1 = at-keep-first .before .before .before .before .before in
+    let start = else1 .before .before .before .before .before .before .before .before in
     rw (c .done .ensures, c .before .marks-now .ensures, c .before .before .rules-now .ensures)
-    (obeys-done _ _ 0 0 _ (c .before .before .before .before .before .before .before .before .before .before .before .before .before .before .before .before .before .before .before .pre .room, (c .before .before .before .before .before .before .before .before .before .before .before .before .before .before .before .before .before .before .before .pre .sound, (omega (arith, c .before .before .before .before .before .before .before .before .before .before .before .if1 .left), tt)))
-    (record { no-values = (refl, refl); dropped = refl; planned = c .before .before .before .before .before .before .keep-first .ensures }))
+    (obeys-done _ _ 0 0 _ (start .pre .room, (start .pre .sound, (omega (arith, else1 .if1 .left), tt)))
+    (record { no-values = (refl, refl); dropped = refl; planned = at-keep-first .keep-first .ensures }))
 
 pub back-spec : {M : Type 1} → statement M
 back-spec =

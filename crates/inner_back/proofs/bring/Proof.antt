@@ -16,8 +16,14 @@ Inv-loop n k gains days₀ v₀ days v = (v ≤ n) × Brought v k gains days₀ 
 abbrev μ-loop : tie.MeasureT-loop
 μ-loop n k gains days₀ v₀ days v = n - v
 
+-- Places of the code, seen from later ones.
+abbrev start-before-day-at : tie.After-day-at Inv-loop μ-loop → tie.Start Inv-loop μ-loop
+start-before-day-at c = c .before .before .before .before .before .before .before
+
 loop-holds : tie.Need-loop-holds Inv-loop μ-loop
-loop-holds c = (omega arith, brought-none (c .before .before .args .k) (c .before .before .args .gains .now) (c .before .before .args .days .now))
+loop-holds c =
+    let start = c .before .before in
+    (omega arith, brought-none (start .args .k) (start .args .gains .now) (start .args .days .now))
 
 mul-gain : tie.Need-mul-gain Inv-loop μ-loop
 mul-gain c = search needs
@@ -31,14 +37,15 @@ day-at-requires c κs = search needs
 -- The day read is that before the loop, so with its gain it is not before k and is past it by what fits a u32.
 day-at-hand :
     (c : tie.After-day-at Inv-loop μ-loop) →
-    (c .before .before .before .before .before .before .before .args .k ≤ c .day-at .result + at (c .before .before .before .before .before .before .before .args .gains .now) (c .before .before .before .before .loop .v))
-    × (c .day-at .result + at (c .before .before .before .before .before .before .before .args .gains .now) (c .before .before .before .before .loop .v) < c .before .before .before .before .before .before .before .args .k + 2 ^ 32)
-    × (c .before .before .before .before .before .before .before .args .k < 2 ^ 32)
+    (start-before-day-at c .args .k ≤ c .day-at .result + at (start-before-day-at c .args .gains .now) (c .before .before .before .before .loop .v))
+    × (c .day-at .result + at (start-before-day-at c .args .gains .now) (c .before .before .before .before .loop .v) < start-before-day-at c .args .k + 2 ^ 32)
+    × (start-before-day-at c .args .k < 2 ^ 32)
 day-at-hand c =
-    let pre = c .before .before .before .before .before .before .before .pre in
-    let v = c .before .before .before .before .loop .v in
+    let loop = c .before .before .before .before .loop in
+    let pre = start-before-day-at c .pre in
+    let v = loop .v in
     let v-in = c .before .before .before .loop-test .taken in
-    let day-is = c .before .before .before .before .loop .inv .1 .past .kept v (omega arith) in
+    let day-is = loop .inv .1 .past .kept v (omega arith) in
     omega (arith, c .day-at .ensures, day-is, pre .narrow, pre .not-before v v-in, pre .fits v v-in)
 
 add-days : tie.Need-add-days Inv-loop μ-loop
@@ -64,11 +71,12 @@ loop-less c = search needs
 
 loop-again : tie.Need-loop-again Inv-loop μ-loop
 loop-again c =
+    let start = c .before .before .before .before .before .before .before in
     let v-in = c .before .before .before .loop-test .taken in
     let passed = c .before .before .before .before .loop .inv .1 in
     rw (c .day-at .ensures) (
       omega (arith, v-in),
-      brought-more passed (omega (arith, v-in, passed .past .same-length, c .before .before .before .before .before .before .before .pre .days-room)) _ (omega arith),
+      brought-more passed (omega (arith, v-in, passed .past .same-length, start .pre .days-room)) _ (omega arith),
     )
 
 same-length : tie.Need-same-length Inv-loop μ-loop

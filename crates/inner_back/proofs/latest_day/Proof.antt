@@ -30,8 +30,9 @@ loop-less c = search needs
 
 loop-again : tie.Need-loop-again Inv-loop μ-loop
 loop-again c =
+    let loop = c .before .before .before .loop in
     let day-is = c .before .day-at .ensures in (
-      latest-more (c .before .before .before .loop .inv .0) (omega (arith, c .before .before .before .before .shared-slice-known .given (c .before .before .before .loop .v)))
+      latest-more (loop .inv .0) (omega (arith, c .before .before .before .before .shared-slice-known .given (loop .v)))
           (⊎-elim (λ w. inl (omega (arith, w .0 .taken, w .1, day-is))) (λ w. inr (omega (arith, w .0 .left, w .1, day-is))) (c .if1 .came)),
       omega (arith, c .before .before .loop-test .taken),
     )
