@@ -33,16 +33,20 @@ cast-result : tie.Need-cast-result
 cast-result c = search needs
 
 returns-5 : tie.Need-returns-5
-returns-5 c = record {
-  so = λ e. record {
-    some-step = omega (arith, c .before .before .before .before .before .before .before .if1 .left);
-    steps-in = omega (arith, c .before .before .before .before .before .if2 .left);
-    rules-in = omega (arith, c .before .before .before .if3 .left);
-    marks-in = omega (arith, c .before .if4 .left);
-    watched-in = leb-true (c .before .before .before .before .before .before .before .before .before .args .counts .watched) WATCHED e;
-  };
-  not-so = λ e h. omega (arith, leb-false (c .before .before .before .before .before .before .before .before .before .args .counts .watched) WATCHED e, h .watched-in);
-}
+returns-5 c =
+    let else2 = c .before .before .before .before .before in
+    let else1 = else2 .before .before in
+    let start = else1 .before .before in
+    record {
+      so = λ e. record {
+        some-step = omega (arith, else1 .if1 .left);
+        steps-in = omega (arith, else2 .if2 .left);
+        rules-in = omega (arith, c .before .before .before .if3 .left);
+        marks-in = omega (arith, c .before .if4 .left);
+        watched-in = leb-true (start .args .counts .watched) WATCHED e;
+      };
+      not-so = λ e h. omega (arith, leb-false (start .args .counts .watched) WATCHED e, h .watched-in);
+    }
 
 pub counts-in-spec : {M : Type 1} → statement M
 counts-in-spec =

@@ -127,9 +127,10 @@ number-at-requires-2 c κs =
 
 enter-requires : tie.Need-enter-requires Inv-loop μ-loop
 enter-requires c κs =
-    let head = c .before .before .before .before .before .before .before .before in
+    let in-loop = c .before .before .before .before .before .before .before in
+    let head = in-loop .before in
     let args = entry head .args in
-    let looped = c .before .before .before .before .before .before .before in
+    let looped = in-loop in
     let i = head .loop .link - 1 in
     rw (c .before .before .number-at2 .ensures)
     (enterable (args .n) (at (args .ys .now) i) (head .loop .k) (head .loop .places) (head .loop .work) (entry head .pre .0 .rules-in i (rule-held looped) .second-in) (entry head .pre .0 .steps-few)
@@ -141,7 +142,8 @@ turned :
     (length (c .if2 .places) ≡ length (c .before .before .before .before .before .loop .places)) × (length (c .if2 .work) ≡ length (c .before .before .before .before .before .loop .work)) ×
     Turned (args .n) (first (args .m)) (args .xs .now) (args .ys .now) (args .cs .now) (args .days .now) (c .before .before .before .before .before .loop .link - 1) (c .before .before .before .before .before .loop .places) (c .if2 .k) (c .if2 .places) (c .if2 .work)
 turned c =
-    let head = c .before .before .before .before .before in
+    let else1 = c .before .before in
+    let head = else1 .before .before .before in
     let args = entry head .args in
     let l = head .loop in
     let looped = c .before .before .before .before in
@@ -151,7 +153,7 @@ turned c =
       w .4 .kept .1 .1 .0,
       w .4 .kept .1 .1 .1 .0,
       turned-tight (args .n) (first (args .m)) (args .xs .now) (args .ys .now) (args .cs .now) (args .days .now) i (c .before .slack .result) (l .k) (w .4 .result) (l .places) (l .work)
-          (w .4 .last .1 .1 .0) (w .4 .last .1 .1 .1 .0) (rule-held looped) (c .before .slack .ensures) (w .0 .taken) (rule-kept (c .before .before)) (first-grounded looped) (walking-at looped .underway)
+          (w .4 .last .1 .1 .0) (w .4 .last .1 .1 .1 .0) (rule-held looped) (c .before .slack .ensures) (w .0 .taken) (rule-kept else1) (first-grounded looped) (walking-at looped .underway)
           (entering (args .n) (at (args .ys .now) i) (l .k) (l .places) (l .work) (entry head .pre .0 .rules-in i (rule-held looped) .second-in) (lists-room looped)
           (walking-at looped .underway .worklist) (w .4 .result) (w .4 .last .1 .1 .0) (w .4 .last .1 .1 .1 .0) (rw (w .1 .ensures) at (w .4 .ensures))),
     ))
@@ -159,7 +161,7 @@ turned c =
       refl,
       refl,
       turned-loose (args .n) (first (args .m)) (args .xs .now) (args .ys .now) (args .cs .now) (args .days .now) i (c .before .slack .result) (l .k) (l .places) (l .work) (c .before .slack .ensures) (w .0 .left)
-          (rule-kept (c .before .before)) (walking-at looped .underway),
+          (rule-kept else1) (walking-at looped .underway),
     ))
     (c .if2 .came)
 
@@ -170,12 +172,14 @@ number-at-requires-3 c κs =
 
 loop-less : tie.Need-loop-less Inv-loop μ-loop
 loop-less c =
-    let head = c .before .before .before .before .before .before in
-    omega (arith, c .number-at3 .ensures, next-in (entry head .args .n) (entry head .args .m) (entry head .args .xs .now) (entry head .args .heads .now) (entry head .args .nexts .now) (entry head .pre .0 .chained) (head .loop .link - 1) (rule-held (c .before .before .before .before .before)), c .before .before .before .before .before .loop-test .taken)
+    let in-loop = c .before .before .before .before .before in
+    let head = in-loop .before in
+    omega (arith, c .number-at3 .ensures, next-in (entry head .args .n) (entry head .args .m) (entry head .args .xs .now) (entry head .args .heads .now) (entry head .args .nexts .now) (entry head .pre .0 .chained) (head .loop .link - 1) (rule-held in-loop), in-loop .loop-test .taken)
 
 loop-again : tie.Need-loop-again Inv-loop μ-loop
 loop-again c =
-    let head = c .before .before .before .before .before .before in
+    let in-loop = c .before .before .before .before .before in
+    let head = in-loop .before in
     let args = entry head .args in
     let l = head .loop in
     let turn = turned (c .before) in (
@@ -184,7 +188,7 @@ loop-again c =
       rw (c .number-at3 .ensures)
           (walking-on (args .n) (first (args .m)) (args .xs .now) (args .ys .now) (args .cs .now) (args .days .now) number (args .heads .now) (args .nexts .now) (entry head .pre .0 .chained)
           (entry head .pre .0 .rules-in) (args .a) (entry head .pre .1 .1 .1 .0) (args .places .now) (l .link - 1) (l .k) (c .before .if2 .k) (l .places) (l .work) (c .before .if2 .places) (c .before .if2 .work)
-          (turn .2) (walking-at (c .before .before .before .before .before))),
+          (turn .2) (walking-at in-loop)),
     )
 
 same-length-3 : tie.Need-same-length-3 Inv-loop μ-loop

@@ -23,15 +23,17 @@ columns-have-requires-2 : tie.Need-columns-have-requires-2
 columns-have-requires-2 c κs = search needs
 
 returns-4 : tie.Need-returns-4
-returns-4 c counts = record {
-  so = λ e. record {
-    rules-room = c .before .before .before .before .columns-have .ensures .so (not-false (c .before .before .before .before .columns-have .result) (c .before .before .before .if1 .left));
-    days-room = omega (arith, c .before .before .if2 .left);
-    marks-room = omega (arith, c .before .if3 .left);
-    watched-room = c .columns-have2 .ensures .so e;
-  };
-  not-so = λ e h. c .columns-have2 .ensures .not-so e (h .watched-room);
-}
+returns-4 c counts =
+    let columns-have = c .before .before .before .before .columns-have in
+    record {
+      so = λ e. record {
+        rules-room = columns-have .ensures .so (not-false (columns-have .result) (c .before .before .before .if1 .left));
+        days-room = omega (arith, c .before .before .if2 .left);
+        marks-room = omega (arith, c .before .if3 .left);
+        watched-room = c .columns-have2 .ensures .so e;
+      };
+      not-so = λ e h. c .columns-have2 .ensures .not-so e (h .watched-room);
+    }
 
 pub has-room-spec : {M : Type 1} → statement M
 has-room-spec =

@@ -69,10 +69,13 @@ slice-aggregate-follow : tie.Need-slice-aggregate-follow Inv-loop μ-loop
 slice-aggregate-follow c = sym (c .before .before .before .before .loop .inv .0)
 
 slice-aggregate-follow-2 : tie.Need-slice-aggregate-follow-2 Inv-loop μ-loop
-slice-aggregate-follow-2 c = sym (c .before .before .before .before .before .loop .inv .1)
+slice-aggregate-follow-2 c =
+    let loop = c .before .before .before .before .before .loop in
+    sym (loop .inv .1)
 
 follow-requires : tie.Need-follow-requires Inv-loop μ-loop
 follow-requires c κs =
+    let number-at = c .before .before .number-at in
     let turn = c .before .before .before .before in
     let head = turn .before in
     let worklist = head .loop .inv .2 .underway .worklist in (
@@ -85,8 +88,8 @@ follow-requires c κs =
         (
           head .loop .inv .2 .underway,
           (
-            omega (arith, c .before .before .number-at .ensures, worklist .step-in (head .loop .done) (turn .loop-test .taken), turn .loop-test .taken, entered-few turn),
-            omega (arith, ap (at (head .loop .places)) (c .before .before .number-at .ensures), worklist .step-placed (head .loop .done) (turn .loop-test .taken)),
+            omega (arith, number-at .ensures, worklist .step-in (head .loop .done) (turn .loop-test .taken), turn .loop-test .taken, entered-few turn),
+            omega (arith, ap (at (head .loop .places)) (number-at .ensures), worklist .step-placed (head .loop .done) (turn .loop-test .taken)),
           ),
         ),
       ),
@@ -110,7 +113,8 @@ loop-less c =
 
 loop-again : tie.Need-loop-again Inv-loop μ-loop
 loop-again c =
-    let turn = c .before .before .before .before .before .before .before .before .before in
+    let at-number-at = c .before .before .before .before .before .before .before in
+    let turn = at-number-at .before .before in
     let head = turn .before in
     let args = entry head .args in
     let l = head .loop in
@@ -121,7 +125,7 @@ loop-again c =
       followed .kept .1 .1 .1 .1 .1 .1 .1 .1 .1 .1 .1 .0 ∙ l .inv .1,
       grounding-on (args .n) (first (args .m)) (args .xs .now) (args .ys .now) (args .cs .now) (args .days .now) (entry head .pre .rules-in) (l .done) (l .entered) (followed .result .entered)
           (l .places) (l .work) places′ work′ (turn .loop-test .taken) (followed .ensures .underway) (followed .ensures .grown)
-          (rw (c .before .before .before .before .before .before .before .number-at .ensures) at (followed .ensures .when-kept (not-false (followed .result .kept) (c .if1 .left)))) (l .inv .2),
+          (rw (at-number-at .number-at .ensures) at (followed .ensures .when-kept (not-false (followed .result .kept) (c .if1 .left)))) (l .inv .2),
     )
 
 returns-2 : tie.Need-returns-2 Inv-loop μ-loop

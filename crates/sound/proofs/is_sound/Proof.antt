@@ -22,6 +22,10 @@ lent c = tables (c .args .counts) (c .args .xs .now) (c .args .ys .now) (c .args
 abbrev entry : tie.Else1 → tie.Start
 entry c = c .before .before .before .before .before .before .before .before .before .before
 
+-- Places of the code, seen from later ones.
+abbrev else2-before-marks-in : tie.After-marks-in → tie.Else2
+else2-before-marks-in c = c .before .before .before .before .before
+
 -- The counts are within bounds there.
 counts-good : (c : tie.Else1) → InCounts (entry c .args .counts)
 counts-good c = c .before .counts-in .ensures .so (not-false (c .before .counts-in .result) (c .if1 .left))
@@ -45,12 +49,16 @@ nexts-same c = c .before .before .before .before .rules-in .kept .1 .1 .1 .1 .1 
 
 -- The rules held are within bounds, and on chains.
 rules-good : (c : tie.Else2) → let args = entry (counted (c .before)) .args in AllIn (args .counts .steps) (args .counts .rules) (args .xs .now) (args .ys .now) (args .cs .now)
-rules-good c = c .before .before .before .before .before .rules-in .ensures .decides .so (not-false (c .before .before .before .before .before .rules-in .result) (c .if2 .left))
+rules-good c =
+    let rules-in = c .before .before .before .before .before .rules-in in
+    rules-in .ensures .decides .so (not-false (rules-in .result) (c .if2 .left))
 
 rules-chained :
     (c : tie.Else2) → let args = entry (counted (c .before)) .args in
     Chained (args .counts .steps) (args .counts .rules) (args .xs .now) (heads-there (c .before)) (nexts-there (c .before))
-rules-chained c = c .before .before .before .before .before .rules-in .ensures .chained (not-false (c .before .before .before .before .before .rules-in .result) (c .if2 .left))
+rules-chained c =
+    let rules-in = c .before .before .before .before .before .rules-in in
+    rules-in .ensures .chained (not-false (rules-in .result) (c .if2 .left))
 
 counts-in-requires : tie.Need-counts-in-requires
 counts-in-requires c κs = tt
@@ -82,8 +90,9 @@ same-length-2 c = nexts-same (c .before)
 returns-2 : tie.Need-returns-2
 returns-2 c =
     let past = c .before in
+    let rules-in = c .before .before .before .before .before .rules-in in
     tested-no (lent (entry (counted past))) (heads-there past) (nexts-there past)
-    (λ sound. c .before .before .before .before .before .rules-in .ensures .decides .not-so (not-true (c .before .before .before .before .before .rules-in .result) (c .if2 .taken)) (sound .rules-good))
+    (λ sound. rules-in .ensures .decides .not-so (not-true (rules-in .result) (c .if2 .taken)) (sound .rules-good))
 
 cast-all-in : tie.Need-cast-all-in
 cast-all-in c = search needs
@@ -110,42 +119,54 @@ cast-marks-in c = search needs
 
 marks-in-requires : tie.Need-marks-in-requires
 marks-in-requires c κs =
-    let past = counted (c .before .before .before .before .before) in
+    let at-slice-known4 = c .before .before .before .before .before in
+    let past = counted at-slice-known4 in
     omega (arith, counts-good past .marks-in, entry past .pre .room .marks-room)
 
 same-length-5 : tie.Need-same-length-5
-same-length-5 c = heads-same (c .before .before .before .before .before .before .before)
+same-length-5 c =
+    let at-slice-known4 = else2-before-marks-in (c .before) .before in
+    heads-same at-slice-known4
 
 same-length-6 : tie.Need-same-length-6
-same-length-6 c = nexts-same (c .before .before .before .before .before .before .before)
+same-length-6 c =
+    let at-slice-known4 = else2-before-marks-in (c .before) .before in
+    nexts-same at-slice-known4
 
 returns-4 : tie.Need-returns-4
 returns-4 c =
-    let past = c .before .before .before .before .before .before .before in
+    let past = else2-before-marks-in (c .before) .before in
     tested-no (lent (entry (counted past))) (heads-there past) (nexts-there past)
     (λ sound. c .before .marks-in .ensures .not-so (not-true (c .before .marks-in .result) (c .if4 .taken)) (record { never-fall = sound .marks-never-fall; held = sound .marks-held }))
 
 is-earliest-requires : tie.Need-is-earliest-requires
 is-earliest-requires c κs =
-    let rules = c .before .before .before .before .before .before .before .before in
+    let rules = else2-before-marks-in (c .before .before .before) in
     let past = rules .before in
     let start = entry (counted past) in
     ready (lent start) (counts-good (counted past)) (rules-good rules) (heads-there past) (nexts-there past) (rules-chained rules)
     (testable-on (lent start) (start .args .heads .now) (start .args .nexts .now) (heads-there past) (nexts-there past) (heads-same past) (nexts-same past) (start .pre))
 
 same-length-7 : tie.Need-same-length-7
-same-length-7 c = heads-same (c .before .before .before .before .before .before .before .before .before .before)
+same-length-7 c =
+    let at-slice-known4 = else2-before-marks-in (c .before .before .before .before) .before in
+    heads-same at-slice-known4
 
 same-length-8 : tie.Need-same-length-8
-same-length-8 c = nexts-same (c .before .before .before .before .before .before .before .before .before .before)
+same-length-8 c =
+    let at-slice-known4 = else2-before-marks-in (c .before .before .before .before) .before in
+    nexts-same at-slice-known4
 
 returns-5 : tie.Need-returns-5
 returns-5 c =
-    let rules = c .before .before .before .before .before .before .before .before .before in
+    let at-marks-in = c .before .before .before .before in
+    let else3 = at-marks-in .before .before in
+    let all-in = else3 .before .all-in in
+    let rules = else2-before-marks-in at-marks-in in
     let past = rules .before in
     tested-by-days (lent (entry (counted past))) (counts-good (counted past)) (rules-good rules) (heads-there past) (nexts-there past) (rules-chained rules)
-    (c .before .before .before .before .before .before .before .all-in .ensures .so (not-false (c .before .before .before .before .before .before .before .all-in .result) (c .before .before .before .before .before .before .if3 .left)))
-    (c .before .before .before .before .marks-in .ensures .so (not-false (c .before .before .before .before .marks-in .result) (c .before .before .before .if4 .left))) (c .is-earliest .result) (c .is-earliest .ensures)
+    (all-in .ensures .so (not-false (all-in .result) (else3 .if3 .left)))
+    (at-marks-in .marks-in .ensures .so (not-false (at-marks-in .marks-in .result) (c .before .before .before .if4 .left))) (c .is-earliest .result) (c .is-earliest .ensures)
 
 pub is-sound-spec : {M : Type 1} → statement M
 is-sound-spec =

@@ -33,8 +33,8 @@ clear-requires c κs = search needs
 
 loop-holds : tie.Need-loop-holds Inv-loop μ-loop
 loop-holds c =
-    let start = c .before .before .before .before .before .before .before .before in
     let cleared = c .before .before .clear in
+    let start = c .before .before .before .before .before .before .before .before in
     (refl, refl, omega arith, below-none _, chained-none (start .args .n) (start .args .xs .now) (cleared .last .1 .0) (start .args .nexts .now) (cleared .ensures))
 
 rule-in-requires : tie.Need-rule-in-requires Inv-loop μ-loop
@@ -47,7 +47,9 @@ rule-in-requires c κs =
     }
 
 same-length : tie.Need-same-length Inv-loop μ-loop
-same-length c = c .before .before .before .loop .inv .0 ∙ c .before .before .before .before .before .before .clear .kept .1 .0
+same-length c =
+    let clear = c .before .before .before .before .before .before .clear in
+    c .before .before .before .loop .inv .0 ∙ clear .kept .1 .0
 
 same-length-2 : tie.Need-same-length-2 Inv-loop μ-loop
 same-length-2 c = c .before .before .before .loop .inv .1
@@ -83,9 +85,10 @@ loop-less c = search needs
 
 loop-again : tie.Need-loop-again Inv-loop μ-loop
 loop-again c =
-    let turn = c .before .before .before .before .before .before .before .before .before in
+    let else1 = c .before .before .before .before .before .before .before in
+    let turn = else1 .before .before in
     let head = turn .before in
-    let in-bounds = rule-good (c .before .before .before .before .before .before .before) in
+    let in-bounds = rule-good else1 in
     let pushed = c .before .before .before .before .push in (
       pushed .kept .1 .0 ∙ head .loop .inv .0,
       pushed .kept .1 .1 .0 ∙ head .loop .inv .1,

@@ -44,6 +44,7 @@ loop-less c = search needs
 
 loop-again : tie.Need-loop-again Inv-loop μ-loop
 loop-again c =
+    let loop-test = c .before .before .loop-test in
     let head = c .before .before .before in
     let args = entry head .args in
     let day : c .before .day-at .result ≡ getD (args .days .now) (head .loop .v) 0 = c .before .day-at .ensures in
@@ -51,10 +52,10 @@ loop-again c =
     (λ w. rw (w .8, w .9, w .10) (
       w .3 .kept .1 .1 .0 ∙ head .loop .inv .0,
       w .3 .kept .1 .1 .1 .0 ∙ head .loop .inv .1,
-      omega (arith, c .before .before .loop-test .taken),
+      omega (arith, loop-test .taken),
       seeded-more (args .n) (args .days .now) (head .loop .v) (head .loop .k) (w .3 .result) (head .loop .places) (head .loop .work) (w .3 .last .1 .1 .0) (w .3 .last .1 .1 .1 .0)
-          (c .before .before .loop-test .taken) (omega (arith, w .0 .taken))
-          (entering (args .n) (head .loop .v) (head .loop .k) (head .loop .places) (head .loop .work) (c .before .before .loop-test .taken)
+          (loop-test .taken) (omega (arith, w .0 .taken))
+          (entering (args .n) (head .loop .v) (head .loop .k) (head .loop .places) (head .loop .work) (loop-test .taken)
           (record { places-room = omega (arith, entry head .pre .1 .0 .places-room, head .loop .inv .0); work-room = omega (arith, entry head .pre .1 .0 .work-room, head .loop .inv .1) })
           (head .loop .inv .3 .worklist) (w .3 .result) (w .3 .last .1 .1 .0) (w .3 .last .1 .1 .1 .0) (w .3 .ensures))
           (head .loop .inv .3),
@@ -62,7 +63,7 @@ loop-again c =
     (λ w. rw (w .1, w .2, w .3) (
       head .loop .inv .0,
       head .loop .inv .1,
-      omega (arith, c .before .before .loop-test .taken),
+      omega (arith, loop-test .taken),
       seeded-past (args .n) (args .days .now) (head .loop .v) (head .loop .k) (head .loop .places) (head .loop .work) (λ zero. w .0 .left (day ∙ zero)) (head .loop .inv .3),
     ))
     (c .if1 .came)
