@@ -26,16 +26,21 @@ Inv-loop m xs ys cs x y amount list met₀ reached₀ sum₀ k₀ met reached su
 abbrev μ-loop : tie.MeasureT-loop
 μ-loop m xs ys cs x y amount list met₀ reached₀ sum₀ k₀ met reached sum k = length list - k
 
+-- Places of the code, seen from later ones.
+abbrev start-before-at-loop : tie.At-loop Inv-loop μ-loop → tie.Start Inv-loop μ-loop
+start-before-at-loop c = c .before .before .before .before .before
+
 loop-holds : tie.Need-loop-holds Inv-loop μ-loop
 loop-holds c =
-    (refl, omega arith, c .before .before .before .before .pre .flag-room, omega (arith, c .before .before .before .before .pre .one-amount), (λ h. h, λ h. h))
+    let start = c .before .before .before .before in
+    (refl, omega arith, start .pre .flag-room, omega (arith, start .pre .one-amount), (λ h. h, λ h. h))
 
 entry-at-requires : tie.Need-entry-at-requires Inv-loop μ-loop
 entry-at-requires c κs = search needs
 
 goes-on-requires : tie.Need-goes-on-requires Inv-loop μ-loop
 goes-on-requires c κs =
-    let start = c .before .before .before .before .before .before .before .before in
+    let start = start-before-at-loop (c .before .before .before) in
     (λ i h. start .pre .placed i h .first-place, c .before .before .before .loop .inv .2)
 
 same-length : tie.Need-same-length Inv-loop μ-loop
@@ -43,9 +48,10 @@ same-length c = search needs
 
 returns : tie.Need-returns Inv-loop μ-loop
 returns c =
-    let args = c .before .before .before .before .before .before .before .before .before .before .args in
-    let loop = c .before .before .before .before .before .loop in
     let entry = c .before .before .before .entry-at in
+    let at-loop = c .before .before .before .before .before in
+    let loop = at-loop .loop in
+    let args = start-before-at-loop at-loop .args in
     decides-no refl (λ closes.
     c .before .goes-on .ensures .not-so (not-true (c .before .goes-on .result) (c .if1 .taken))
     (sought-goes-on (args .list .now) (loop .k) (loop .inv .4) (entry .result) (c .before .before .before .before .loop-test .taken) (entry .ensures) closes))
@@ -55,14 +61,17 @@ slice-write-met c = search needs
 
 amount-at-requires : tie.Need-amount-at-requires Inv-loop μ-loop
 amount-at-requires c κs =
-    c .before .before .before .before .before .before .before .before .before .before .pre .placed _ (c .before .goes-on .ensures .so (not-false (c .before .goes-on .result) (c .if1 .left)) .is-held) .amount-place
+    let start = start-before-at-loop (c .before .before .before .before .before) in
+    start .pre .placed _ (c .before .goes-on .ensures .so (not-false (c .before .goes-on .result) (c .if1 .left)) .is-held) .amount-place
 
 add-sum : tie.Need-add-sum Inv-loop μ-loop
 add-sum c = search needs
 
 number-at-requires : tie.Need-number-at-requires Inv-loop μ-loop
 number-at-requires c κs =
-    c .before .before .before .before .before .before .before .before .before .before .before .pre .placed _ (c .before .before .goes-on .ensures .so (not-false (c .before .before .goes-on .result) (c .before .if1 .left)) .is-held) .second-place
+    let at-goes-on = c .before .before in
+    let start = start-before-at-loop (at-goes-on .before .before .before .before) in
+    start .pre .placed _ (at-goes-on .goes-on .ensures .so (not-false (at-goes-on .goes-on .result) (c .before .if1 .left)) .is-held) .second-place
 
 add-k : tie.Need-add-k Inv-loop μ-loop
 add-k c = search needs
@@ -72,17 +81,21 @@ loop-less c = search needs
 
 loop-again : tie.Need-loop-again Inv-loop μ-loop
 loop-again c =
+    let goes-on = c .before .before .before .goes-on in
+    let entry-at = c .before .before .before .before .before .entry-at in
+    let loop-test = c .before .before .before .before .before .before .loop-test in
+    let loop-there = c .before .before .before .before .before .before .before .loop in
     let start = c .before .before .before .before .before .before .before .before .before .before .before .before in
     let args = start .args in
-    let loop = c .before .before .before .before .before .before .before .loop in
-    let here = c .before .before .before .before .before .before .loop-test .taken in
-    let i = c .before .before .before .before .before .entry-at .result in
-    let on = c .before .before .before .goes-on .ensures .so (not-false (c .before .before .before .goes-on .result) (c .before .before .if1 .left)) in (
+    let loop = loop-there in
+    let here = loop-test .taken in
+    let i = entry-at .result in
+    let on = goes-on .ensures .so (not-false (goes-on .result) (c .before .before .if1 .left)) in (
       simp length-set (loop .inv .0),
       omega (arith, here),
       simp length-set (omega (arith, c .number-at .ensures, start .pre .flags-room i (on .is-held), loop .inv .0)),
       omega (arith, loop .inv .3, c .before .amount-at .ensures .narrow),
-      one-further (args .list .now) (loop .k) (loop .inv .4) i here (c .before .before .before .before .before .entry-at .ensures) (c .before .amount-at .result) (c .number-at .result) _ (omega arith) (loop .inv .2) (c .before .amount-at .ensures) (c .number-at .ensures) on,
+      one-further (args .list .now) (loop .k) (loop .inv .4) i here (entry-at .ensures) (c .before .amount-at .result) (c .number-at .result) _ (omega arith) (loop .inv .2) (c .before .amount-at .ensures) (c .number-at .ensures) on,
     )
 
 mul-result : tie.Need-mul-result Inv-loop μ-loop
@@ -93,15 +106,17 @@ same-length-2 c = search needs
 
 returns-2 : tie.Need-returns-2 Inv-loop μ-loop
 returns-2 c =
-    sum-decides (c .before .before .before .before .before .before .before .args .list .now) (c .before .before .loop .k) (c .before .before .loop .inv .4) (c .before .loop-test .left) (c .if2 .taken)
+    let at-loop = c .before .before in
+    let start = start-before-at-loop at-loop in
+    sum-decides (start .args .list .now) (at-loop .loop .k) (at-loop .loop .inv .4) (c .before .loop-test .left) (c .if2 .taken)
 
 same-length-3 : tie.Need-same-length-3 Inv-loop μ-loop
 same-length-3 c = search needs
 
 returns-3 : tie.Need-returns-3 Inv-loop μ-loop
 returns-3 c =
-    let args = c .before .before .before .before .before .before .before .args in
     let loop = c .before .before .loop in
+    let args = start-before-at-loop (c .before .before) .args in
     decides-no (ne-eqb (loop .reached) (args .x) (c .if2 .left)) (λ closes.
     c .if2 .left (sought-back (args .list .now) (loop .k) (loop .inv .4) (c .before .loop-test .left) closes))
 

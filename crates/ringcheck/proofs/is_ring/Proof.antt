@@ -68,14 +68,16 @@ closes-requires c κs =
 
 returns-4 : tie.Need-returns-4
 returns-4 c =
-    let start = c .before .before .before .before .before .before .before .before .before .before .before in
+    let at-entry-at = c .before .before .before .before .before in
+    let else1 = at-entry-at .before .before in
+    let start = else1 .before .before .before .before in
     let m = start .args .m in
     let biased = c .before .before .before .biased in
     rest-decides (lent start) (first m) m (new start) (λ h. omega (arith, h))
     (replicate STEPS 0) (none-met STEPS) (omega (arith, start .pre .rule-in .first-in, start .pre .steps-in))
     (biased .result) (rw (toZ-ofZ w32 (start .args .c) (start .fits .c)) at (biased .ensures))
-    (start .args .list .now) (c .before .before .before .before .before .before .before .if1 .left)
-    (sym (c .before .before .before .before .before .entry-at .ensures) ∙ c .before .before .before .before .if3 .left)
+    (start .args .list .now) (else1 .if1 .left)
+    (sym (at-entry-at .entry-at .ensures) ∙ c .before .before .before .before .if3 .left)
     (c .before .closes .ensures)
 
 pub is-ring-spec : {M : Type 1} → statement M
