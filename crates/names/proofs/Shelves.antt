@@ -11,8 +11,8 @@ use Rattle.meaning.specs.Tables.{at}
 use Rattle.chains.specs.Chains.{Linkable, Pushed}
 use Rattle.chains.proofs.Laws.{chained-agree, chained-more}
 use Rattle.write.specs.Written.{over}
-use Rattle.write.proofs.Laws.{length-over, part-written, part-before}
-use Rattle.names.specs.Names.{BUCKETS, hash, name-at, Shelved, IndexRoom, Indexed, Unknown, AllDifferent, Declared}
+use Rattle.write.proofs.Laws.{part-written, part-before}
+use Rattle.names.specs.Names.{BUCKETS, hash, name-at, Shelved, IndexRoom, Indexed, Declared}
 
 -- Fewer names are shelved too.
 pub shelved-less : (n k : ℕ) (names lens : List ℕ) → k < n → Shelved n names lens → Shelved (k + 1) names lens
@@ -72,24 +72,3 @@ module _ (n : ℕ) (w names lens : List ℕ) (few : n < STEPS) (short : length w
         Declared n w names lens hashes heads nexts names′ (set lens n long) (set hashes n h) heads′ nexts′
     declared names′ long names-is long-is pushed =
         rw (names-is, long-is) (record { names-are = refl; lens-are = refl; name-is = name-new; others-stay = name-old; indexed = indexed-more pushed })
-
--- Once a name is declared, it is shelved with the others, and all are different where they were and it was unknown.
-module _ (n : ℕ) (w names lens hashes heads nexts names′ lens′ hashes′ heads′ nexts′ : List ℕ) (d : Declared n w names lens hashes heads nexts names′ lens′ hashes′ heads′ nexts′) where
-  pub shelved-more : n < STEPS → length w ≤ NAME-BYTES → Shelved n names lens → Shelved (n + 1) names′ lens′
-  shelved-more few short s = record {
-    names-room = omega (arith, ap length (d .names-are) ∙ length-over names (NAME-BYTES * n) w, s .names-room);
-    lens-room = omega (arith, ap length (d .lens-are) ∙ length-set lens n (length w), s .lens-room);
-    names-in = omega arith;
-    short-names = λ k h. by-place k h (ℕ-discrete k n);
-  }
-    where
-      by-place : (k : ℕ) → k < n + 1 → Dec (k ≡ n) → at lens′ k ≤ NAME-BYTES
-      by-place k h (yes e) = rw (e, d .lens-are) (omega (arith, getD-set-same lens n (length w) 0 (omega (arith, s .lens-room))))
-      by-place k h (no other) = rw (d .lens-are) (omega (arith, getD-set-other lens n k (length w) 0 other, s .short-names k (omega arith)))
-
-  pub different-declared : AllDifferent n names lens → Unknown n names lens w → AllDifferent (n + 1) names′ lens′
-  different-declared all unknown j k before below e = by-place (ℕ-discrete k n)
-    where
-      by-place : Dec (k ≡ n) → ⊥
-      by-place (yes is) = unknown j (omega arith) (sym (d .others-stay j (omega arith)) ∙ e ∙ ap (name-at names′ lens′) is ∙ d .name-is)
-      by-place (no other) = all j k before (omega arith) (sym (d .others-stay j (omega arith)) ∙ e ∙ d .others-stay k (omega arith))

@@ -44,10 +44,7 @@ decimal-short (suc d) n h =
       | no large ↦ omega (arith, length-more n (omega arith), decimal-short d (n / 10) (div-lt-iff-lt-mul (omega arith) .1 (omega arith)))
     ]
 
--- Below 10 to the power 9 there are at most 9 digits, and below 10 to the power 10 at most 10.
-pub decimal-nine : (n : ℕ) → n < 1000000000 → length (decimal n) ≤ 9
-decimal-nine n h = decimal-short 8 n h
-
+-- Below 10 to the power 10 there are at most 10 digits.
 pub decimal-ten : (n : ℕ) → n < 10000000000 → length (decimal n) ≤ 10
 decimal-ten n h = decimal-short 9 n h
 

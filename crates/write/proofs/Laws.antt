@@ -45,11 +45,6 @@ unfolding over
 getD-over-before l i [] k h = refl
 getD-over-before l i (b ∷ w) k h = getD-over-before (set l i b) (i + 1) w k (omega arith) ∙ getD-set-other l i k b 0 (λ e. absurd (omega arith))
 
-pub getD-over-past : (l : List ℕ) (i : ℕ) (w : List ℕ) (k : ℕ) → i + length w ≤ k → getD (over l i w) k 0 ≡ getD l k 0
-unfolding over
-getD-over-past l i [] k h = refl
-getD-over-past l i (b ∷ w) k h = getD-over-past (set l i b) (i + 1) w k (omega arith) ∙ getD-set-other l i k b 0 (λ e. absurd (omega arith))
-
 pub getD-over-in : (l : List ℕ) (i : ℕ) (w : List ℕ) (k : ℕ) → k < length w → i + length w ≤ length l → getD (over l i w) (i + k) 0 ≡ getD w k 0
 unfolding over
 getD-over-in l i [] k h room = absurd (omega arith)
@@ -83,9 +78,6 @@ part-written l i w room = ext-getD 0 (take (length w) (drop i (over l i w))) w l
         let below : k < length w = omega (arith, long) in
         getD-take (length w) (drop i (over l i w)) k 0 below ∙ getD-drop i (over l i w) k 0 ∙ getD-over-in l i w k below room
 
--- A part that ends before the word, or begins past it, is as it was.
+-- A part that ends before the word is as it was.
 pub part-before : (l : List ℕ) (i : ℕ) (w : List ℕ) (a n : ℕ) → a + n ≤ i → take n (drop a (over l i w)) ≡ take n (drop a l)
 part-before l i w a n h = same-part (over l i w) l a n (length-over l i w) (λ k below. getD-over-before l i w (a + k) (omega arith))
-
-pub part-past : (l : List ℕ) (i : ℕ) (w : List ℕ) (a n : ℕ) → i + length w ≤ a → take n (drop a (over l i w)) ≡ take n (drop a l)
-part-past l i w a n h = same-part (over l i w) l a n (length-over l i w) (λ k below. getD-over-past l i w (a + k) (omega arith))

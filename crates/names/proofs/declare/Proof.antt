@@ -80,11 +80,13 @@ same-length-5 c = search needs
 
 returns : tie.Need-returns
 returns c =
-    let start = c .before .before .before .before .before .before .before .before .before .before .before .before .before .before .before .before .before .before .before .before in
+    let at-hash-of = c .before .before .before .before .before .before .before .before in
+    let at-word = at-hash-of .before .before .before in
+    let start = at-word .before .before .before .before .before .before .before .before .before in
     let args = start .args in
-    let hash-of = c .before .before .before .before .before .before .before .before .hash-of in
+    let hash-of = at-hash-of .hash-of in
     let push = c .before .before .before .before .push in
-    let word = c .before .before .before .before .before .before .before .before .before .before .before .word in
+    let word = at-word .word in
     declared (args .n) (name start) (args .names .now) (args .lens .now) (start .pre .0) (short start) (start .pre .1 .0)
     (args .hashes .now) (args .heads .now) (args .nexts .now) (push .last .1 .0) (push .last .1 .1 .0) (hash-of .result) (hash-of .ensures .0) (hash-of .ensures .1) (start .pre .1 .1 .0)
     (word .last .0) (args .b - args .a) (word .ensures .0) (sym (long start)) (push .ensures)

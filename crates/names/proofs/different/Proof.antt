@@ -46,7 +46,9 @@ cast-to : tie.Need-cast-to Inv-loop μ-loop
 cast-to c = omega (arith, c .shared-slice-known6 .given (c .before .before .loop .k))
 
 add-to : tie.Need-add-to Inv-loop μ-loop
-add-to c = omega (arith, c .shared-slice-known6 .given (c .before .before .loop .k), entry (c .before .before) .pre .0 .names-in, place (c .before .before) (c .before .loop-test .taken))
+add-to c =
+    let at-loop = c .before .before in
+    omega (arith, c .shared-slice-known6 .given (at-loop .loop .k), entry at-loop .pre .0 .names-in, place at-loop (c .before .loop-test .taken))
 
 number-at-requires : tie.Need-number-at-requires Inv-loop μ-loop
 number-at-requires c κs = omega (arith, c .before .loop-test .taken, links (entry (c .before .before)) .links-room)

@@ -27,7 +27,9 @@ sought c =
 
 -- The link is the head of their hash.
 head-is : (c : tie.After-number-at) → c .number-at .result ≡ at (c .before .before .before .before .before .before .before .before .args .heads .now) (hash (sought c))
-head-is c = c .number-at .ensures ∙ ap (at (c .before .before .before .before .before .before .before .before .args .heads .now)) (c .before .hash-of .ensures .0)
+head-is c =
+    let start = c .before .before .before .before .before .before .before .before in
+    c .number-at .ensures ∙ ap (at (start .args .heads .now)) (c .before .hash-of .ensures .0)
 
 follow-requires : tie.Need-follow-requires
 follow-requires c κs =

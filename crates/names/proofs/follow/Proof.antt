@@ -50,8 +50,9 @@ number-at-requires c κs =
 
 loop-less : tie.Need-loop-less Inv-loop μ-loop
 loop-less c =
+    let loop-test = c .before .before .before .loop-test in
     let head = c .before .before .before .before in
-    omega (arith, c .before .before .before .loop-test .taken, c .number-at .ensures, next-below head (c .before .before .before .loop-test .taken))
+    omega (arith, loop-test .taken, c .number-at .ensures, next-below head (loop-test .taken))
 
 loop-again : tie.Need-loop-again Inv-loop μ-loop
 loop-again c =

@@ -53,7 +53,9 @@ cast-hash-of : tie.Need-cast-hash-of Inv-loop μ-loop
 cast-hash-of c = omega (arith, c .shared-slice-known3 .given (c .before .before .loop .k))
 
 add-hash-of : tie.Need-add-hash-of Inv-loop μ-loop
-add-hash-of c = omega (arith, place (c .before .before) (c .before .loop-test .taken), entry (c .before .before) .pre .0 .names-in, c .shared-slice-known3 .given (c .before .before .loop .k))
+add-hash-of c =
+    let at-loop = c .before .before in
+    omega (arith, place at-loop (c .before .loop-test .taken), entry at-loop .pre .0 .names-in, c .shared-slice-known3 .given (at-loop .loop .k))
 
 hash-of-requires : tie.Need-hash-of-requires Inv-loop μ-loop
 hash-of-requires c κs = place (c .before .before) (c .before .loop-test .taken)
@@ -72,13 +74,14 @@ loop-less c = search needs
 
 loop-again : tie.Need-loop-again Inv-loop μ-loop
 loop-again c =
+    let loop-test = c .before .before .loop-test in
     let head = c .before .before .before in
     let args = entry head .args in
     let k = head .loop .k in (
       simp length-set (head .loop .inv .0),
-      omega (arith, c .before .before .loop-test .taken),
+      omega (arith, loop-test .taken),
       hashes-more k (c .hash-of .result) (args .names .now) (args .lens .now) (head .loop .hashes)
-          (omega (arith, c .before .before .loop-test .taken, entry head .pre .0 .names-in, rooms head .hashes-room))
+          (omega (arith, loop-test .taken, entry head .pre .0 .names-in, rooms head .hashes-room))
           (c .hash-of .ensures .0 ∙ ap hash (name-bytes (args .names .now) (args .lens .now) k)) (head .loop .inv .2),
     )
 
@@ -89,7 +92,9 @@ build-requires c κs =
     buildable (args .n) (args .names .now) (args .lens .now) (head .loop .hashes) (args .heads .now) (args .nexts .now) (entry head .pre .0 .names-in) (rooms head) (all-hashed (c .before .before .before))
 
 same-length : tie.Need-same-length Inv-loop μ-loop
-same-length c = c .before .before .before .before .before .before .before .before .before .loop .inv .0
+same-length c =
+    let loop = c .before .before .before .before .before .before .before .before .before .loop in
+    loop .inv .0
 
 same-length-2 : tie.Need-same-length-2 Inv-loop μ-loop
 same-length-2 c = c .before .before .before .before .build .kept .1 .1 .1 .0
@@ -100,14 +105,15 @@ same-length-3 c = c .before .before .before .before .build .kept .1 .1 .1 .1 .0
 returns : tie.Need-returns Inv-loop μ-loop
 returns c =
     let build = c .before .before .before .before .build in
-    let head = c .before .before .before .before .before .before .before .before .before in
+    let after-loop = c .before .before .before .before .before .before .before .before in
+    let head = after-loop .before in
     record {
       room = record {
         hashes-room = rooms head .hashes-room;
         heads-room = omega (arith, build .kept .1 .1 .1 .0, rooms head .heads-room);
         nexts-room = omega (arith, build .kept .1 .1 .1 .1 .0, rooms head .nexts-room);
       };
-      hashes-are = all-hashed (c .before .before .before .before .before .before .before .before);
+      hashes-are = all-hashed after-loop;
       chained = build .ensures;
     }
 

@@ -15,10 +15,14 @@ shared-slice-read-to : tie.Need-shared-slice-read-to
 shared-slice-read-to c = search needs
 
 cast-to : tie.Need-cast-to
-cast-to c = omega (arith, c .before .before .before .before .pre .0 .short-names (c .before .before .before .before .args .k) (omega arith))
+cast-to c =
+    let start = c .before .before .before .before in
+    omega (arith, start .pre .0 .short-names (start .args .k) (omega arith))
 
 add-to : tie.Need-add-to
-add-to c = omega (arith, c .before .before .before .before .pre .0 .short-names (c .before .before .before .before .args .k) (omega arith), c .before .before .before .before .pre .0 .names-in)
+add-to c =
+    let start = c .before .before .before .before in
+    omega (arith, start .pre .0 .short-names (start .args .k) (omega arith), start .pre .0 .names-in)
 
 sub-same : tie.Need-sub-same
 sub-same c = search needs
@@ -27,7 +31,9 @@ part-same-start : tie.Need-part-same-start
 part-same-start c = search needs
 
 part-same-end : tie.Need-part-same-end
-part-same-end c = omega (arith, c .before .before .before .before .pre .0 .short-names (c .before .before .before .before .args .k) (omega arith), c .before .before .before .before .pre .0 .names-in, c .before .before .before .before .pre .0 .names-room)
+part-same-end c =
+    let start = c .before .before .before .before in
+    omega (arith, start .pre .0 .short-names (start .args .k) (omega arith), start .pre .0 .names-in, start .pre .0 .names-room)
 
 same-requires : tie.Need-same-requires
 same-requires c κs = search needs

@@ -36,11 +36,15 @@ number-cast-out t c = search needs
 number-slice-write-out :
     (t : ℕ) →
     number-lts.Need-slice-write-out (number-below t, number.Post) (number-at t) number.Post
-number-slice-write-out t c = omega (arith, length-one (c .before .before .args .n) (c .if1 .taken), c .before .before .pre .1)
+number-slice-write-out t c =
+    let start = c .before .before in
+    omega (arith, length-one (start .args .n) (c .if1 .taken), start .pre .1)
 
 number-add-result :
     (t : ℕ) → number-lts.Need-add-result (number-below t, number.Post) (number-at t) number.Post
-number-add-result t c = omega (arith, length-one (c .before .before .args .n) (c .if1 .taken), c .before .before .pre .1, c .before .before .good .0 .0)
+number-add-result t c =
+    let start = c .before .before in
+    omega (arith, length-one (start .args .n) (c .if1 .taken), start .pre .1, start .good .0 .0)
 
 number-same-length :
     (t : ℕ) → number-lts.Need-same-length (number-below t, number.Post) (number-at t) number.Post
@@ -71,11 +75,16 @@ number-slice-write-out-2 : (t : ℕ) → number-lts.Need-slice-write-out-2 (
   number-below t,
   number.Post,
 ) (number-at t) number.Post
-number-slice-write-out-2 t c = omega (arith, c .before .before .number .ensures .1, c .before .before .number .kept .0, length-more (c .before .before .before .before .before .before .args .n) (c .before .before .before .before .if1 .left), (c .before .before .before .before .before .before .pre .1))
+number-slice-write-out-2 t c =
+    let at-number = c .before .before in
+    let start = at-number .before .before .before .before in
+    omega (arith, at-number .number .ensures .1, at-number .number .kept .0, length-more (start .args .n) (c .before .before .before .before .if1 .left), (start .pre .1))
 
 number-add-result-2 :
     (t : ℕ) → number-lts.Need-add-result-2 (number-below t, number.Post) (number-at t) number.Post
-number-add-result-2 t c = omega (arith, c .before .before .number .ensures .1, length-more (c .before .before .before .before .before .before .args .n) (c .before .before .before .before .if1 .left), (c .before .before .before .before .before .before .pre .1), (c .before .before .before .before .before .before .good .0 .0))
+number-add-result-2 t c =
+    let start = c .before .before .before .before .before .before in
+    omega (arith, c .before .before .number .ensures .1, length-more (start .args .n) (c .before .before .before .before .if1 .left), (start .pre .1), (start .good .0 .0))
 
 number-same-length-2 :
     (t : ℕ) →
