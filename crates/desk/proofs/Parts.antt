@@ -1,5 +1,5 @@
 -- The part handed back after Trial is what the caller asked for, since Trial's promise says what the lists' first places hold.
-use Prim.Native.Nat.{ℕ, _+_, _*_, _-_, _≤_, _<_}
+use Prim.Native.Nat.{ℕ, _+_, _*_, _-_, _<_}
 use native.Mathlib.Omega.{arith}
 use native.Mathlib.Decide.{ℕ-discrete}
 use mathlib.Core.Path.{_≡_, sym, _∙_, ap, subst}
@@ -10,7 +10,7 @@ use lib.IntN.{ℤ}
 use Rattle.meaning.specs.declared.Counts.{Counts}
 use Rattle.meaning.specs.declared.Reply.{Reply}
 use Rattle.meaning.specs.Bounds.{DONE}
-use Rattle.meaning.specs.Rules.{Rule, InSteps, Refutes, rule}
+use Rattle.meaning.specs.Rules.{InSteps, Refutes, rule}
 use Rattle.meaning.specs.Tables.{Tables, at}
 use Rattle.meaning.specs.Promise.{Given, given}
 use Rattle.meaning.specs.Calls.{WithLists, trial-meaning, rules-of, held-in, next-in, rules-and, held-and}
@@ -75,10 +75,6 @@ part-determined {P} one-start two-start one two reply start start′ part part�
     tell : Dec (reply .number ≡ DONE) → (start ≡ start′) × (part ≡ part′)
     tell (yes e) = same one-start one (reply .counts .steps) (a .days-part e) (b .days-part e)
     tell (no n) = same two-start two (reply .one) (a .ring-part n) (b .ring-part n)
-
--- How many places are asked for may be put in other words.
-pub part-as : {P : Type 0} {list-start start : P} {list part : List ℕ} {j k : ℕ} → j ≡ k → PartOf list-start list j start part → PartOf list-start list k start part
-part-as {list} e p = record { same-start = p .same-start; holds = p .holds ∙ ap (λ (z : ℕ). take z list) e }
 
 -- A part from place 0 on starts where its list starts, and has the list's first places; all of them where more are asked for.
 pub from-start : (block offset : ℕ) → _≡_ {A = ℕ × ℕ} (block, 0 * 4 + offset) (block, offset)

@@ -40,7 +40,9 @@ same-length-2 : tie.Need-same-length-2
 same-length-2 c = search needs
 
 returns : tie.Need-returns
-returns c = rw (c .refused .ensures) (refused-with-two _ _ _ _ _ (c .before .before .before .before .verdict .ensures) _ _ (omega (arith, c .before .if1 .taken)) (c .before .before .before .before .before .before .before .both-have .ensures) (λ f. f))
+returns c =
+    let both-have = c .before .before .before .before .before .before .before .both-have in
+    rw (c .refused .ensures) (refused-with-two _ _ _ _ _ (c .before .before .before .before .verdict .ensures) _ _ (omega (arith, c .before .if1 .taken)) (both-have .ensures) (λ f. f))
 
 slice-aggregate-consequences : tie.Need-slice-aggregate-consequences
 slice-aggregate-consequences c = search needs
@@ -50,9 +52,11 @@ slice-aggregate-consequences-2 c = search needs
 
 consequences-requires : tie.Need-consequences-requires
 consequences-requires c κs =
-    let is : c .before .before .before .before .before .before .before .verdict .result ≡ 0 = omega (arith, c .before .before .before .before .if1 .left) in
-    let room = lists-entered _ _ _ _ _ (c .before .before .before .before .before .before .before .verdict .ensures) (c .before .before .before .before .before .before .before .before .before .before .both-have .ensures) is in
-    (entered _ _ _ _ _ (c .before .before .before .before .before .before .before .verdict .ensures) is, (room .0, (room .1, (c .before .before .before .before .before .before .before .verdict .ensures .chained is, (c .before .before .before .before .before .before .before .verdict .ensures .heads-room, c .before .before .before .before .before .before .before .verdict .ensures .nexts-room)))))
+    let at-verdict = c .before .before .before .before .before .before .before in
+    let both-have = at-verdict .before .before .before .both-have in
+    let is : at-verdict .verdict .result ≡ 0 = omega (arith, c .before .before .before .before .if1 .left) in
+    let room = lists-entered _ _ _ _ _ (at-verdict .verdict .ensures) (both-have .ensures) is in
+    (entered _ _ _ _ _ (at-verdict .verdict .ensures) is, (room .0, (room .1, (at-verdict .verdict .ensures .chained is, (at-verdict .verdict .ensures .heads-room, at-verdict .verdict .ensures .nexts-room)))))
 
 same-length-3 : tie.Need-same-length-3
 same-length-3 c = search needs

@@ -30,7 +30,9 @@ part-result-end-2 : tie.Need-part-result-end-2
 part-result-end-2 c = search needs
 
 returns-2 : tie.Need-returns-2
-returns-2 c = record { same-start = from-start _ _; holds = whole-part (c .before .before .args .k) (c .before .before .args .list .now) }
+returns-2 c =
+    let start = c .before .before in
+    record { same-start = from-start _ _; holds = whole-part (start .args .k) (start .args .list .now) }
 
 pub first-places-spec : {M : Type 1} → statement M
 first-places-spec =

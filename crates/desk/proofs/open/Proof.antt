@@ -26,7 +26,9 @@ same-length : tie.Need-same-length
 same-length c = search needs
 
 returns : tie.Need-returns
-returns c = rw (c .refused .ensures) (obeys-refused _ _ SHORT (λ e. omega arith) (λ e. omega arith) (inl (refl, c .before .before .has-room .ensures (c .before .before .before .before .before .before .before .before .before .before .args .counts) .not-so (not-true _ (c .before .if1 .taken)))))
+returns c =
+    let start = c .before .before .before .before .before .before .before .before .before .before in
+    rw (c .refused .ensures) (obeys-refused _ _ SHORT (λ e. omega arith) (λ e. omega arith) (inl (refl, c .before .before .has-room .ensures (start .args .counts) .not-so (not-true _ (c .before .if1 .taken)))))
 
 refused-requires-2 : tie.Need-refused-requires-2
 refused-requires-2 c κs = search needs
@@ -35,7 +37,9 @@ same-length-2 : tie.Need-same-length-2
 same-length-2 c = search needs
 
 returns-2 : tie.Need-returns-2
-returns-2 c = rw (c .refused2 .ensures) (obeys-refused _ _ STEP (λ e. omega arith) (λ e. omega arith) (inr (c .before .before .before .has-room .ensures (c .before .before .before .before .before .before .before .before .before .before .before .args .counts) .so (not-false _ (c .before .before .if1 .left)), inl (refl, λ h. omega (arith, h .0)))))
+returns-2 c =
+    let start = c .before .before .before .before .before .before .before .before .before .before .before in
+    rw (c .refused2 .ensures) (obeys-refused _ _ STEP (λ e. omega arith) (λ e. omega arith) (inr (c .before .before .before .has-room .ensures (start .args .counts) .so (not-false _ (c .before .before .if1 .left)), inl (refl, λ h. omega (arith, h .0)))))
 
 refused-requires-3 : tie.Need-refused-requires-3
 refused-requires-3 c κs = search needs
@@ -44,10 +48,14 @@ same-length-3 : tie.Need-same-length-3
 same-length-3 c = search needs
 
 returns-3 : tie.Need-returns-3
-returns-3 c = rw (c .refused3 .ensures) (obeys-refused _ _ STEP (λ e. omega arith) (λ e. omega arith) (inr (c .before .before .before .before .has-room .ensures (c .before .before .before .before .before .before .before .before .before .before .before .before .args .counts) .so (not-false _ (c .before .before .before .if1 .left)), inl (refl, λ h. omega (arith, h .1)))))
+returns-3 c =
+    let start = c .before .before .before .before .before .before .before .before .before .before .before .before in
+    rw (c .refused3 .ensures) (obeys-refused _ _ STEP (λ e. omega arith) (λ e. omega arith) (inr (c .before .before .before .before .has-room .ensures (start .args .counts) .so (not-false _ (c .before .before .before .if1 .left)), inl (refl, λ h. omega (arith, h .1)))))
 
 clear-days-requires : tie.Need-clear-days-requires
-clear-days-requires c κs = omega (arith, c .before .before .before .before .has-room .ensures (c .before .before .before .before .before .before .before .before .before .before .before .before .args .counts) .so (not-false _ (c .before .before .before .if1 .left)) .days-room, c .before .if3 .left)
+clear-days-requires c κs =
+    let start = c .before .before .before .before .before .before .before .before .before .before .before .before in
+    omega (arith, c .before .before .before .before .has-room .ensures (start .args .counts) .so (not-false _ (c .before .before .before .if1 .left)) .days-room, c .before .if3 .left)
 
 steps-alone-requires : tie.Need-steps-alone-requires
 steps-alone-requires c κs = search needs
@@ -60,9 +68,15 @@ same-length-4 c = search needs
 
 returns-4 : tie.Need-returns-4
 returns-4 c =
+    let clear-days = c .before .before .before .before .clear-days in
+    let else3 = c .before .before .before .before .before .before in
+    let else2 = else3 .before in
+    let else1 = else2 .before in
+    let has-room = else1 .before .has-room in
+    let start = else1 .before .before .before .before .before .before .before .before .before in
     rw (c .done .ensures, c .before .steps-alone .ensures)
-    (obeys-done _ _ 0 0 _ (c .before .before .before .before .before .before .before .before .before .has-room .ensures (c .before .before .before .before .before .before .before .before .before .before .before .before .before .before .before .before .before .args .counts) .so (not-false _ (c .before .before .before .before .before .before .before .before .if1 .left)), ((omega arith, omega arith), tt))
-    (record { no-values = (refl, refl); emptied = refl; day-0 = λ v h. c .before .before .before .before .clear-days .ensures .day-0 v (omega (arith, h, c .before .before .before .before .before .before .if3 .left)); past = c .before .before .before .before .clear-days .ensures .past }))
+    (obeys-done _ _ 0 0 _ (has-room .ensures (start .args .counts) .so (not-false _ (else1 .if1 .left)), ((omega (arith, else2 .if2 .left), omega (arith, else3 .if3 .left)), tt))
+    (record { no-values = (refl, refl); emptied = refl; day-0 = λ v h. clear-days .ensures .day-0 v (omega (arith, h, else3 .if3 .left)); past = clear-days .ensures .past }))
 
 pub open-spec : {M : Type 1} → statement M
 open-spec =

@@ -35,6 +35,10 @@ verdict-requires c κs = (omega (arith, length-replicate {A = ℕ} STEPS 0), ome
 refused-requires : tie.Need-refused-requires
 refused-requires c κs = search needs
 
+-- Places of the code, seen from later ones.
+abbrev verdict-before-struct-known2 : tie.After-struct-known2 → tie.After-verdict
+verdict-before-struct-known2 c = c .before .before .before .before .before .before .before
+
 returns : tie.Need-returns
 returns c = rw (c .refused .ensures) (refused-alone _ _ _ _ _ (c .before .before .before .before .verdict .ensures) _ _ (omega (arith, c .before .if1 .taken)) refl (λ f. f))
 
@@ -46,11 +50,14 @@ refused-requires-2 c κs = search needs
 
 returns-2 : tie.Need-returns-2
 returns-2 c =
-    let n = c .before .before .before .before .before .before .before .before .before .before .before .before .before .before .before .before .args .counts .steps in
-    let r = rule (c .before .before .before .before .before .before .before .before .before .before .before .before .before .before .before .before .args .x) (c .before .before .before .before .before .before .before .before .before .before .before .before .before .before .before .before .args .y) (c .before .before .before .before .before .before .before .before .before .before .before .before .before .before .before .before .args .c) in
-    let g = c .before .before .rule-verdict .result in
-    let f = rw (toZ-ofZ w32 (c .before .before .before .before .before .before .before .before .before .before .before .before .before .before .before .before .args .c) (c .before .before .before .before .before .before .before .before .before .before .before .before .before .before .before .before .fits .c)) at (c .before .before .rule-verdict .ensures) in
-    let border = entered _ _ _ _ _ (c .before .before .before .before .before .before .verdict .ensures) (omega (arith, c .before .before .before .if1 .left)) in
+    let at-rule-verdict = c .before .before in
+    let at-verdict = at-rule-verdict .before .before .before .before in
+    let start = at-verdict .before .before .before .before .before .before .before .before .before .before in
+    let n = start .args .counts .steps in
+    let r = rule (start .args .x) (start .args .y) (start .args .c) in
+    let g = at-rule-verdict .rule-verdict .result in
+    let f = rw (toZ-ofZ w32 (start .args .c) (start .fits .c)) at (at-rule-verdict .rule-verdict .ensures) in
+    let border = entered _ _ _ _ _ (at-verdict .verdict .ensures) (omega (arith, c .before .before .before .if1 .left)) in
     rw (c .refused2 .ensures) (obeys-refused _ _ g (λ e. omega (arith, c .before .if2 .taken)) (rule-no-conflict n r g f) (inr (border .room, inr (border .sound, rule-refused n r g f [] (omega (arith, c .before .if2 .taken))))))
 
 cast-is-ring : tie.Need-cast-is-ring
@@ -61,17 +68,20 @@ cast-is-ring-2 c = search needs
 
 cast-is-ring-3 : tie.Need-cast-is-ring-3
 cast-is-ring-3 c =
-    let border = entered _ _ _ _ _ (c .before .before .before .before .before .before .before .verdict .ensures) (omega (arith, c .before .before .before .before .if1 .left)) in
+    let verdict = verdict-before-struct-known2 c .verdict in
+    let border = entered _ _ _ _ _ (verdict .ensures) (omega (arith, c .before .before .before .before .if1 .left)) in
     omega (arith, rule-steps _ _ _ (c .before .before .before .rule-verdict .ensures) (omega (arith, c .before .before .if2 .left)) .first-in, border .sound .counts-in .steps-in)
 
 cast-is-ring-4 : tie.Need-cast-is-ring-4
 cast-is-ring-4 c =
-    let border = entered _ _ _ _ _ (c .before .before .before .before .before .before .before .verdict .ensures) (omega (arith, c .before .before .before .before .if1 .left)) in
+    let verdict = verdict-before-struct-known2 c .verdict in
+    let border = entered _ _ _ _ _ (verdict .ensures) (omega (arith, c .before .before .before .before .if1 .left)) in
     omega (arith, rule-steps _ _ _ (c .before .before .before .rule-verdict .ensures) (omega (arith, c .before .before .if2 .left)) .second-in, border .sound .counts-in .steps-in)
 
 is-ring-requires : tie.Need-is-ring-requires
 is-ring-requires c κs =
-    let border = entered _ _ _ _ _ (c .before .before .before .before .before .before .before .verdict .ensures) (omega (arith, c .before .before .before .before .if1 .left)) in
+    let verdict = verdict-before-struct-known2 c .verdict in
+    let border = entered _ _ _ _ _ (verdict .ensures) (omega (arith, c .before .before .before .before .if1 .left)) in
     let steps = rule-steps _ _ _ (c .before .before .before .rule-verdict .ensures) (omega (arith, c .before .before .if2 .left)) in
     record {
       steps-in = border .sound .counts-in .steps-in;
@@ -89,26 +99,36 @@ done-requires c κs = search needs
 
 returns-3 : tie.Need-returns-3
 returns-3 c =
-    let n = c .before .before .before .before .before .before .before .before .before .before .before .before .before .before .before .before .before .before .before .before .args .counts .steps in
-    let r = rule (c .before .before .before .before .before .before .before .before .before .before .before .before .before .before .before .before .before .before .before .before .args .x) (c .before .before .before .before .before .before .before .before .before .before .before .before .before .before .before .before .before .before .before .before .args .y) (c .before .before .before .before .before .before .before .before .before .before .before .before .before .before .before .before .before .before .before .before .args .c) in
-    let f = rw (toZ-ofZ w32 (c .before .before .before .before .before .before .before .before .before .before .before .before .before .before .before .before .before .before .before .before .args .c) (c .before .before .before .before .before .before .before .before .before .before .before .before .before .before .before .before .before .before .before .before .fits .c)) at (c .before .before .before .before .before .before .rule-verdict .ensures) in
-    let border = entered _ _ _ _ _ (c .before .before .before .before .before .before .before .before .before .before .verdict .ensures) (omega (arith, c .before .before .before .before .before .before .before .if1 .left)) in
+    let else2 = c .before .before .before .before .before in
+    let rule-verdict = else2 .before .rule-verdict in
+    let else1 = else2 .before .before in
+    let at-verdict = else1 .before .before .before in
+    let start = at-verdict .before .before .before .before .before .before .before .before .before .before in
+    let n = start .args .counts .steps in
+    let r = rule (start .args .x) (start .args .y) (start .args .c) in
+    let f = rw (toZ-ofZ w32 (start .args .c) (start .fits .c)) at (rule-verdict .ensures) in
+    let border = entered _ _ _ _ _ (at-verdict .verdict .ensures) (omega (arith, else1 .if1 .left)) in
     rw (c .done .ensures)
-    (obeys-done _ _ 1 0 _ (border .room, (border .sound, (rule-steps n r _ f (omega (arith, c .before .before .before .before .before .if2 .left)), (rule-amount n r _ f (omega (arith, c .before .before .before .before .before .if2 .left)), tt))))
-    (record { verdict = inl (refl, (rw (toZ-ofZ w32 (c .before .before .before .before .before .before .before .before .before .before .before .before .before .before .before .before .before .before .before .before .args .c) (c .before .before .before .before .before .before .before .before .before .before .before .before .before .before .before .before .before .before .before .before .fits .c)) at (c .before .before .is-ring .ensures)) .so (c .before .if3 .taken)); no-second = refl; all-stays = refl }))
+    (obeys-done _ _ 1 0 _ (border .room, (border .sound, (rule-steps n r _ f (omega (arith, else2 .if2 .left)), (rule-amount n r _ f (omega (arith, else2 .if2 .left)), tt))))
+    (record { verdict = inl (refl, (rw (toZ-ofZ w32 (start .args .c) (start .fits .c)) at (c .before .before .is-ring .ensures)) .so (c .before .if3 .taken)); no-second = refl; all-stays = refl }))
 
 done-requires-2 : tie.Need-done-requires-2
 done-requires-2 c κs = search needs
 
 returns-4 : tie.Need-returns-4
 returns-4 c =
-    let n = c .before .before .before .before .before .before .before .before .before .before .before .before .before .before .before .before .before .before .before .before .args .counts .steps in
-    let r = rule (c .before .before .before .before .before .before .before .before .before .before .before .before .before .before .before .before .before .before .before .before .args .x) (c .before .before .before .before .before .before .before .before .before .before .before .before .before .before .before .before .before .before .before .before .args .y) (c .before .before .before .before .before .before .before .before .before .before .before .before .before .before .before .before .before .before .before .before .args .c) in
-    let f = rw (toZ-ofZ w32 (c .before .before .before .before .before .before .before .before .before .before .before .before .before .before .before .before .before .before .before .before .args .c) (c .before .before .before .before .before .before .before .before .before .before .before .before .before .before .before .before .before .before .before .before .fits .c)) at (c .before .before .before .before .before .before .rule-verdict .ensures) in
-    let border = entered _ _ _ _ _ (c .before .before .before .before .before .before .before .before .before .before .verdict .ensures) (omega (arith, c .before .before .before .before .before .before .before .if1 .left)) in
+    let else2 = c .before .before .before .before .before in
+    let rule-verdict = else2 .before .rule-verdict in
+    let else1 = else2 .before .before in
+    let at-verdict = else1 .before .before .before in
+    let start = at-verdict .before .before .before .before .before .before .before .before .before .before in
+    let n = start .args .counts .steps in
+    let r = rule (start .args .x) (start .args .y) (start .args .c) in
+    let f = rw (toZ-ofZ w32 (start .args .c) (start .fits .c)) at (rule-verdict .ensures) in
+    let border = entered _ _ _ _ _ (at-verdict .verdict .ensures) (omega (arith, else1 .if1 .left)) in
     rw (c .done2 .ensures)
-    (obeys-done _ _ 0 0 _ (border .room, (border .sound, (rule-steps n r _ f (omega (arith, c .before .before .before .before .before .if2 .left)), (rule-amount n r _ f (omega (arith, c .before .before .before .before .before .if2 .left)), tt))))
-    (record { verdict = inr (refl, (rw (toZ-ofZ w32 (c .before .before .before .before .before .before .before .before .before .before .before .before .before .before .before .before .before .before .before .before .args .c) (c .before .before .before .before .before .before .before .before .before .before .before .before .before .before .before .before .before .before .before .before .fits .c)) at (c .before .before .is-ring .ensures)) .not-so (c .before .if3 .left)); no-second = refl; all-stays = refl }))
+    (obeys-done _ _ 0 0 _ (border .room, (border .sound, (rule-steps n r _ f (omega (arith, else2 .if2 .left)), (rule-amount n r _ f (omega (arith, else2 .if2 .left)), tt))))
+    (record { verdict = inr (refl, (rw (toZ-ofZ w32 (start .args .c) (start .fits .c)) at (c .before .before .is-ring .ensures)) .not-so (c .before .if3 .left)); no-second = refl; all-stays = refl }))
 
 pub ring-check-spec : {M : Type 1} → statement M
 ring-check-spec =

@@ -40,7 +40,9 @@ same-length-2 : tie.Need-same-length-2
 same-length-2 c = search needs
 
 returns : tie.Need-returns
-returns c = rw (c .refused .ensures) (refused-with-two _ _ _ _ _ (c .before .before .before .before .verdict .ensures) _ _ (omega (arith, c .before .if1 .taken)) (c .before .before .before .before .before .before .before .both-have .ensures) (λ f. f))
+returns c =
+    let both-have = c .before .before .before .before .before .before .before .both-have in
+    rw (c .refused .ensures) (refused-with-two _ _ _ _ _ (c .before .before .before .before .verdict .ensures) _ _ (omega (arith, c .before .if1 .taken)) (both-have .ensures) (λ f. f))
 
 slice-aggregate-trial : tie.Need-slice-aggregate-trial
 slice-aggregate-trial c = search needs
@@ -50,8 +52,11 @@ slice-aggregate-trial-2 c = search needs
 
 trial-requires : tie.Need-trial-requires
 trial-requires c κs =
-    let room = lists-entered _ _ _ _ _ (c .before .before .before .before .before .before .before .verdict .ensures) (c .before .before .before .before .before .before .before .before .before .before .both-have .ensures) (omega (arith, c .before .before .before .before .if1 .left)) in
-    (base _ _ _ _ _ _ _ _ _ (entered _ _ _ _ _ (c .before .before .before .before .before .before .before .verdict .ensures) (omega (arith, c .before .before .before .before .if1 .left))) _ _ (chains-entered _ _ _ _ _ (c .before .before .before .before .before .before .before .verdict .ensures) (omega (arith, c .before .before .before .before .if1 .left))), record { one-room = room .0; two-room = room .1 })
+    let else1 = c .before .before .before .before in
+    let at-verdict = else1 .before .before .before in
+    let both-have = at-verdict .before .before .before .both-have in
+    let room = lists-entered _ _ _ _ _ (at-verdict .verdict .ensures) (both-have .ensures) (omega (arith, else1 .if1 .left)) in
+    (base _ _ _ _ _ _ _ _ _ (entered _ _ _ _ _ (at-verdict .verdict .ensures) (omega (arith, else1 .if1 .left))) _ _ (chains-entered _ _ _ _ _ (at-verdict .verdict .ensures) (omega (arith, else1 .if1 .left))), record { one-room = room .0; two-room = room .1 })
 
 same-length-3 : tie.Need-same-length-3
 same-length-3 c = search needs
@@ -61,8 +66,11 @@ same-length-4 c = search needs
 
 returns-2 : tie.Need-returns-2
 returns-2 c =
-    (rw (toZ-ofZ w32 (c .before .before .before .before .before .before .before .before .before .before .before .before .before .before .before .before .before .before .before .before .before .before .before .before .before .before .args .c) (c .before .before .before .before .before .before .before .before .before .before .before .before .before .before .before .before .before .before .before .before .before .before .before .before .before .before .fits .c)) at (c .before .before .before .before .trial .ensures))
-    (c .before .before .before .before .before .before .before .before .before .before .before .before .before .before .before .before .before .before .before .before .before .before .before .before .before .before .args .marks .now) (c .before .before .before .before .before .before .before .before .before .before .before .before .before .before .before .before .before .before .before .before .before .before .before .before .before .before .args .wxs .now) (c .before .before .before .before .before .before .before .before .before .before .before .before .before .before .before .before .before .before .before .before .before .before .before .before .before .before .args .wys .now) (c .before .before .before .before .before .before .before .before .before .before .before .before .before .before .before .before .before .before .before .before .before .before .before .before .before .before .args .wcs .now) (entered _ _ _ _ _ (c .before .before .before .before .before .before .before .before .before .before .before .before .verdict .ensures) (omega (arith, c .before .before .before .before .before .before .before .before .before .if1 .left)))
+    let else1 = c .before .before .before .before .before .before .before .before .before in
+    let at-verdict = else1 .before .before .before in
+    let start = at-verdict .before .before .before .before .before .before .before .before .before .before .before .before .before .before in
+    (rw (toZ-ofZ w32 (start .args .c) (start .fits .c)) at (c .before .before .before .before .trial .ensures))
+    (start .args .marks .now) (start .args .wxs .now) (start .args .wys .now) (start .args .wcs .now) (entered _ _ _ _ _ (at-verdict .verdict .ensures) (omega (arith, else1 .if1 .left)))
 
 pub trial-spec : {M : Type 1} → statement M
 trial-spec =

@@ -41,7 +41,9 @@ returns : tie.Need-returns
 returns c = rw (c .refused .ensures) (refused-alone _ _ _ _ _ (c .before .before .before .before .verdict .ensures) _ _ (omega (arith, c .before .if1 .taken)) refl (λ f. f))
 
 watch-requires : tie.Need-watch-requires
-watch-requires c κs = entered _ _ _ _ _ (c .before .before .before .before .before .before .verdict .ensures) (omega (arith, c .before .before .before .if1 .left))
+watch-requires c κs =
+    let verdict = c .before .before .before .before .before .before .verdict in
+    entered _ _ _ _ _ (verdict .ensures) (omega (arith, c .before .before .before .if1 .left))
 
 same-length-4 : tie.Need-same-length-4
 same-length-4 c = search needs
@@ -53,7 +55,10 @@ same-length-6 : tie.Need-same-length-6
 same-length-6 c = search needs
 
 returns-2 : tie.Need-returns-2
-returns-2 c = rw (toZ-ofZ w32 (c .before .before .before .before .before .before .before .before .before .before .before .before .before .before .before .before .before .before .before .before .before .before .before .before .args .c) (c .before .before .before .before .before .before .before .before .before .before .before .before .before .before .before .before .before .before .before .before .before .before .before .before .fits .c)) at (c .before .before .before .before .before .watch .ensures)
+returns-2 c =
+    let at-watch = c .before .before .before .before .before in
+    let start = at-watch .before .before .before .before .before .before .before .before .before .before .before .before .before .before .before .before .before .before .before in
+    rw (toZ-ofZ w32 (start .args .c) (start .fits .c)) at (at-watch .watch .ensures)
 
 pub watch-spec : {M : Type 1} → statement M
 watch-spec =
