@@ -34,9 +34,6 @@ module _ (s : List ℕ) where
   plain i k e low high d r h p =
       span-other s d i (token-at s i) refl r (inside-text i k (omega arith) e) (λ z. omega (arith, e, z)) (λ z. omega (arith, e, z)) (λ z. omega (arith, e, z)) (λ z. omega (arith, e, z)) p
 
-  pub then-passes : (i j k : ℕ) → Passes i j → Passes j k → Passes i k
-  then-passes i j k p q d r h is = p d r h (q d r h is)
-
   pub then-closes : (i j k : ℕ) → Passes i j → Closes j k → Closes i k
   then-closes i j k p q d r h is = p (d + 1) r (omega arith) (q d r h is)
 

@@ -30,11 +30,11 @@ both-of a b p q = ap (λ (t : Bool). both t b) p ∙ q
 no-comparison : (w v : List ℕ) → same-bytes w v ≡ true → compares v ≡ false → compares w ≡ false
 no-comparison w v e h = ap compares (same-equal w v e) ∙ h
 
-not-compares : compares W-not ≡ false
+pub not-compares : compares W-not ≡ false
 unfolding same-bytes
 not-compares = refl
 
-and-compares : compares W-and ≡ false
+pub and-compares : compares W-and ≡ false
 unfolding same-bytes
 and-compares = refl
 

@@ -1,9 +1,9 @@
 -- The needs of the rules of a term and of the names asked for: all are met exactly when each rule, each name, has its own; no need has the number DONE.
 use Prim.Native.Nat.{ℕ}
 use native.Mathlib.Omega.{arith}
-use mathlib.Core.Path.{_≡_, refl}
+use mathlib.Core.Path.{_≡_}
 use mathlib.Core.List.{List, [], _∷_}
-use mathlib.Core.Logic.{_⊎_, inl, inr}
+use mathlib.Core.Logic.{inl, inr}
 use Rattle.meaning.specs.Bounds.{DONE, NAME, AMOUNT}
 use Rattle.meaning.specs.Rules.{InAmount}
 use Rattle.meaning.specs.Promise.{Need, needs, First}
@@ -50,7 +50,3 @@ module _ (K : List ℕ → Type 0) where
   names-met (w ∷ ws) h =
       let here = done-first NAME (K w) (name-needs K ws) (λ e. omega arith) h in
       (here .0, names-met ws (here .1))
-
-  pub names-passed : (ws : List (List ℕ)) → EachName K ws → First (name-needs K ws) DONE
-  names-passed [] each = refl
-  names-passed (w ∷ ws) each = inr (each .0, names-passed ws (each .1))

@@ -12,17 +12,10 @@ use Rattle.form.specs.Form.{lexeme}
 use Rattle.atoms.specs.Atoms.{past, atom-end}
 use Rattle.text.proofs.Equal.{same-equal}
 use Rattle.script_meaning.specs.Terms.{Term, negation, conjunction, KindAt, WordAt, IsAtom, atom-at, IsTerm, is-atom, is-not, is-and, AreTerms, last, more}
+use Rattle.script_meaning.proofs.Linking.{not-compares, and-compares}
 use Rattle.script_meaning.proofs.Passed.{both-true}
 
--- No two of the words after the bracket are the same.
-not-compares : compares W-not ≡ false
-unfolding same-bytes
-not-compares = refl
-
-and-compares : compares W-and ≡ false
-unfolding same-bytes
-and-compares = refl
-
+-- `not` and `and` are two words, and `Linking` has that neither is a comparison.
 not-and : same-bytes W-not W-and ≡ false
 unfolding same-bytes
 not-and = refl

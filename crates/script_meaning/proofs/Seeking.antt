@@ -50,13 +50,6 @@ module _ (names lens w : List ℕ) where
   pub step-is : (n r : ℕ) → AllDifferent n names lens → Found n names lens w r → step-in n names lens w ≡ r
   step-is n r different found = found-unique n names lens different w (step-in n names lens w) r (step-found n) found
 
-  pub step-within : (n : ℕ) → step-in n names lens w ≤ n
-  step-within n = within (step-found n)
-    where
-      within : Found n names lens w (step-in n names lens w) → step-in n names lens w ≤ n
-      within (inl found) = omega (arith, found .0)
-      within (inr none) = omega (arith, none .0)
-
   -- The name under the step of a known name is that name.
   pub known-name : (n : ℕ) → KnownIn n names lens w → name-at names lens (step-in n names lens w) ≡ w
   known-name n known = name (step-found n)

@@ -34,9 +34,11 @@ returns-2 c =
 
 judge-declare-requires : tie.Need-judge-declare-requires
 judge-declare-requires c κs =
-    let a = c .before .before .before .before .before .before .before .before .before .before .before .before .args in
-    let pre = c .before .before .before .before .before .before .before .before .before .before .before .before .pre in
-    let name = declared-name (a .s .now) (c .before .before .before .c .given .0 .0) (c .before .before .before .c .given .0 .1 .0) (sym (pre .1 .0) ∙ c .before .before .before .c .given .1) in
+    let at-c = c .before .before .before in
+    let start = at-c .before .before .before .before .before .before .before .before .before in
+    let a = start .args in
+    let pre = start .pre in
+    let name = declared-name (a .s .now) (at-c .c .given .0 .0) (at-c .c .given .0 .1 .0) (sym (pre .1 .0) ∙ at-c .c .given .1) in
     (pre .1 .1 .1 .1 .0, (pre .1 .1 .1 .1 .1, (omega (arith, name .some), name .within)))
 
 enum-known-c-2 : tie.Need-enum-known-c-2
@@ -53,21 +55,29 @@ judge-rules-requires c κs = search needs
 
 returns-4 : tie.Need-returns-4
 returns-4 c =
-    let a = c .before .before .before .before .before .before .before .before .before .before .before .before .before .before .before .args in
-    rw (c .before .before .before .before .before .before .c2 .given .1)
-    (assert-refused (a .s .now) (a .counts) (a .notes) (a .names .now) (a .lens .now) (not-false _ (c .before .before .before .if3 .left)) (c .before .before .before .before .before .before .c2 .given .0 .0) (c .before .before .judge-rules .result) (c .before .before .judge-rules .ensures) (λ e. omega (arith, c .if4 .taken)))
+    let at-judge-rules = c .before .before in
+    let at-c2 = at-judge-rules .before .before .before .before in
+    let a = at-c2 .before .before .before .before .before .before .before .before .before .args in
+    rw (at-c2 .c2 .given .1)
+    (assert-refused (a .s .now) (a .counts) (a .notes) (a .names .now) (a .lens .now) (not-false _ (c .before .before .before .if3 .left)) (at-c2 .c2 .given .0 .0) (at-judge-rules .judge-rules .result) (at-judge-rules .judge-rules .ensures) (λ e. omega (arith, c .if4 .taken)))
 
 cast-if6 : tie.Need-cast-if6
 cast-if6 c = search needs
 
 sub-if6 : tie.Need-sub-if6
-sub-if6 c = c .before .before .before .before .before .before .before .before .before .before .before .before .before .before .before .before .before .before .pre .1 .1 .0
+sub-if6 c =
+    let start = c .before .before .before .before .before .before .before .before .before .before .before .before .before .before .before .before .before .before in
+    start .pre .1 .1 .0
 
 returns-5 : tie.Need-returns-5
 returns-5 c =
-    let a = c .before .before .before .before .before .before .before .before .before .before .before .before .before .before .before .before .before .before .before .before .args in
-    rw (c .before .before .before .before .before .before .before .before .before .before .before .c2 .given .1)
-    (assert-full (a .s .now) (a .counts) (a .notes) (a .names .now) (a .lens .now) (not-false _ (c .before .before .before .before .before .before .before .before .if3 .left)) (c .before .before .before .before .before .before .before .before .before .before .before .c2 .given .0 .0) (c .before .before .before .before .before .before .before .judge-rules .result) (c .before .before .before .before .before .before .before .judge-rules .ensures) (omega (arith, c .before .before .before .before .before .if4 .left)) (c .before .before .before .if5 .taken) (omega (arith, ltb-true (RULES - a .counts .rules) (c .before .before .before .before .before .before .before .judge-rules .result .rules) (c .if6 .taken))))
+    let else4 = c .before .before .before .before .before in
+    let at-judge-rules = else4 .before .before in
+    let if3 = at-judge-rules .before .if3 in
+    let at-c2 = at-judge-rules .before .before .before .before in
+    let a = at-c2 .before .before .before .before .before .before .before .before .before .args in
+    rw (at-c2 .c2 .given .1)
+    (assert-full (a .s .now) (a .counts) (a .notes) (a .names .now) (a .lens .now) (not-false _ (if3 .left)) (at-c2 .c2 .given .0 .0) (at-judge-rules .judge-rules .result) (at-judge-rules .judge-rules .ensures) (omega (arith, else4 .if4 .left)) (c .before .before .before .if5 .taken) (omega (arith, ltb-true (RULES - a .counts .rules) (at-judge-rules .judge-rules .result .rules) (c .if6 .taken))))
 
 enum-known-c-3 : tie.Need-enum-known-c-3
 enum-known-c-3 c = search needs
@@ -86,9 +96,11 @@ sub-left c = search needs
 
 returns-7 : tie.Need-returns-7
 returns-7 c =
-    let a = c .before .before .before .before .before .before .before .before .before .before .before .before .before .before .args in
-    rw (c .before .before .before .before .before .c3 .given .1)
-    (push-full (a .s .now) (a .counts) (a .notes) (a .names .now) (a .lens .now) (not-false _ (c .before .before .if7 .left)) (c .before .before .before .before .before .c3 .given .0 .0) (omega (arith, c .if8 .taken, c .before .before .before .before .before .before .before .before .before .before .before .before .before .before .pre .1 .1 .1 .0)))
+    let at-c3 = c .before .before .before .before .before in
+    let start = at-c3 .before .before .before .before .before .before .before .before .before in
+    let a = start .args in
+    rw (at-c3 .c3 .given .1)
+    (push-full (a .s .now) (a .counts) (a .notes) (a .names .now) (a .lens .now) (not-false _ (c .before .before .if7 .left)) (at-c3 .c3 .given .0 .0) (omega (arith, c .if8 .taken, start .pre .1 .1 .1 .0)))
 
 enum-known-c-4 : tie.Need-enum-known-c-4
 enum-known-c-4 c = search needs
@@ -104,9 +116,10 @@ cast-if10 c = search needs
 
 returns-9 : tie.Need-returns-9
 returns-9 c =
-    let a = c .before .before .before .before .before .before .before .before .before .before .before .before .before .before .args in
-    rw (c .before .before .before .before .before .c4 .given .1)
-    (pop-none (a .s .now) (a .counts) (a .notes) (a .names .now) (a .lens .now) (not-false _ (c .before .before .if9 .left)) (c .before .before .before .before .before .c4 .given .0 .0) (omega (arith, c .if10 .taken)))
+    let at-c4 = c .before .before .before .before .before in
+    let a = at-c4 .before .before .before .before .before .before .before .before .before .args in
+    rw (at-c4 .c4 .given .1)
+    (pop-none (a .s .now) (a .counts) (a .notes) (a .names .now) (a .lens .now) (not-false _ (c .before .before .if9 .left)) (at-c4 .c4 .given .0 .0) (omega (arith, c .if10 .taken)))
 
 enum-told-2 : tie.Need-enum-told-2
 enum-told-2 c = search needs
@@ -128,9 +141,10 @@ returns-11 c =
 
 returns-12 : tie.Need-returns-12
 returns-12 c =
-    let a = c .before .before .before .before .before .before .before .before .before .before .before .before .before .before .args in
-    rw (c .before .before .before .before .before .c5 .given .1)
-    (no-sat (a .s .now) (a .counts) (a .notes) (a .names .now) (a .lens .now) (not-false _ (c .before .before .if12 .left)) (c .before .before .before .before .before .c5 .given .0 .0) (not-true _ (c .if13 .taken)))
+    let at-c5 = c .before .before .before .before .before in
+    let a = at-c5 .before .before .before .before .before .before .before .before .before .args in
+    rw (at-c5 .c5 .given .1)
+    (no-sat (a .s .now) (a .counts) (a .notes) (a .names .now) (a .lens .now) (not-false _ (c .before .before .if12 .left)) (at-c5 .c5 .given .0 .0) (not-true _ (c .if13 .taken)))
 
 judge-names-requires : tie.Need-judge-names-requires
 judge-names-requires c κs = search needs
@@ -155,28 +169,36 @@ returns-13 c =
 
 returns-14 : tie.Need-returns-14
 returns-14 c =
-    let a = c .before .before .before .before .before .before .before .before .before .before .before .before .before .args in
-    rw (c .before .before .before .before .c .given .1)
-    (declare-judged (a .s .now) (a .counts) (a .notes) (a .names .now) (a .lens .now) (not-false _ (c .before .if2 .left)) (c .before .before .before .before .c .given .0 .0) (c .before .before .before .before .c .given .0 .1 .0) (c .judge-declare .result) (c .judge-declare .ensures))
+    let at-c = c .before .before .before .before in
+    let a = at-c .before .before .before .before .before .before .before .before .before .args in
+    rw (at-c .c .given .1)
+    (declare-judged (a .s .now) (a .counts) (a .notes) (a .names .now) (a .lens .now) (not-false _ (c .before .if2 .left)) (at-c .c .given .0 .0) (at-c .c .given .0 .1 .0) (c .judge-declare .result) (c .judge-declare .ensures))
 
 returns-15 : tie.Need-returns-15
 returns-15 c =
-    let a = c .before .before .before .before .before .before .before .before .before .before .before .before .before .before .before .before .before .args in
-    rw (c .before .before .before .before .before .before .before .before .c2 .given .1)
-    (assert-fine (a .s .now) (a .counts) (a .notes) (a .names .now) (a .lens .now) (not-false _ (c .before .before .before .before .before .if3 .left)) (c .before .before .before .before .before .before .before .before .c2 .given .0 .0) (c .before .before .before .before .judge-rules .result) (c .before .before .before .before .judge-rules .ensures) (omega (arith, c .before .before .if4 .left))
-    (λ whole. ⊎-elim (λ w. omega (arith, ltb-false (RULES - a .counts .rules) (c .before .before .before .before .judge-rules .result .rules) (w .3 .left), c .before .before .before .before .before .before .before .before .before .before .before .before .before .before .before .before .before .pre .1 .1 .0)) (λ w. absurd (w .left whole)) (c .if5 .came)))
+    let at-judge-rules = c .before .before .before .before in
+    let if3 = at-judge-rules .before .if3 in
+    let at-c2 = at-judge-rules .before .before .before .before in
+    let start = at-c2 .before .before .before .before .before .before .before .before .before in
+    let a = start .args in
+    rw (at-c2 .c2 .given .1)
+    (assert-fine (a .s .now) (a .counts) (a .notes) (a .names .now) (a .lens .now) (not-false _ (if3 .left)) (at-c2 .c2 .given .0 .0) (at-judge-rules .judge-rules .result) (at-judge-rules .judge-rules .ensures) (omega (arith, c .before .before .if4 .left))
+    (λ whole. ⊎-elim (λ w. omega (arith, ltb-false (RULES - a .counts .rules) (at-judge-rules .judge-rules .result .rules) (w .3 .left), start .pre .1 .1 .0)) (λ w. absurd (w .left whole)) (c .if5 .came)))
 
 returns-16 : tie.Need-returns-16
 returns-16 c =
-    let a = c .before .before .before .before .before .before .before .before .before .before .before .before .before .before .args in
-    rw (c .before .before .before .before .before .c3 .given .1)
-    (push-fine (a .s .now) (a .counts) (a .notes) (a .names .now) (a .lens .now) (not-false _ (c .before .before .if7 .left)) (c .before .before .before .before .before .c3 .given .0 .0) (omega (arith, c .if8 .left, c .before .before .before .before .before .before .before .before .before .before .before .before .before .before .pre .1 .1 .1 .0)))
+    let at-c3 = c .before .before .before .before .before in
+    let start = at-c3 .before .before .before .before .before .before .before .before .before in
+    let a = start .args in
+    rw (at-c3 .c3 .given .1)
+    (push-fine (a .s .now) (a .counts) (a .notes) (a .names .now) (a .lens .now) (not-false _ (c .before .before .if7 .left)) (at-c3 .c3 .given .0 .0) (omega (arith, c .if8 .left, start .pre .1 .1 .1 .0)))
 
 returns-17 : tie.Need-returns-17
 returns-17 c =
-    let a = c .before .before .before .before .before .before .before .before .before .before .before .before .before .before .args in
-    rw (c .before .before .before .before .before .c4 .given .1)
-    (pop-fine (a .s .now) (a .counts) (a .notes) (a .names .now) (a .lens .now) (not-false _ (c .before .before .if9 .left)) (c .before .before .before .before .before .c4 .given .0 .0) (omega (arith, c .if10 .left)))
+    let at-c4 = c .before .before .before .before .before in
+    let a = at-c4 .before .before .before .before .before .before .before .before .before .args in
+    rw (at-c4 .c4 .given .1)
+    (pop-fine (a .s .now) (a .counts) (a .notes) (a .names .now) (a .lens .now) (not-false _ (c .before .before .if9 .left)) (at-c4 .c4 .given .0 .0) (omega (arith, c .if10 .left)))
 
 returns-18 : tie.Need-returns-18
 returns-18 c =
@@ -186,9 +208,10 @@ returns-18 c =
 
 returns-19 : tie.Need-returns-19
 returns-19 c =
-    let a = c .before .before .before .before .before .before .before .before .before .before .before .before .before .before .before .args in
-    rw (c .before .before .before .before .before .before .c5 .given .1)
-    (values-judged (a .s .now) (a .counts) (a .notes) (a .names .now) (a .lens .now) (not-false _ (c .before .before .before .if12 .left)) (c .before .before .before .before .before .before .c5 .given .0 .0) (c .judge-names .result) (not-false _ (c .before .if13 .left)) (c .judge-names .ensures))
+    let at-c5 = c .before .before .before .before .before .before in
+    let a = at-c5 .before .before .before .before .before .before .before .before .before .args in
+    rw (at-c5 .c5 .given .1)
+    (values-judged (a .s .now) (a .counts) (a .notes) (a .names .now) (a .lens .now) (not-false _ (c .before .before .before .if12 .left)) (at-c5 .c5 .given .0 .0) (c .judge-names .result) (not-false _ (c .before .if13 .left)) (c .judge-names .ensures))
 
 returns-20 : tie.Need-returns-20
 returns-20 c = rw (c .enum-told3 .given .1) (λ l ec en ea el. refl)
