@@ -20,7 +20,8 @@ same-length c = search needs
 returns : tie.Need-returns
 returns c =
     let word = c .before .before .word in
-    rw (c .before .before .before .before .before .if1 .taken) (word .ensures)
+    let if1 = c .before .before .before .before .before .if1 in
+    rw (if1 .taken) (word .ensures)
 
 returns-2 : tie.Need-returns-2
 returns-2 c =

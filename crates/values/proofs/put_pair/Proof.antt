@@ -29,35 +29,65 @@ part-word-start c = search needs
 part-word-end : tie.Need-part-word-end
 part-word-end c = search needs
 
+-- Places of the code, seen from later ones.
+abbrev start-before-word : tie.After-word → tie.Start
+start-before-word c = c .before .before .before .before .before
+
+abbrev word-before-word2 : tie.After-word2 → tie.After-word
+word-before-word2 c = c .before .before .before .before .before
+
 word-requires-2 : tie.Need-word-requires-2
-word-requires-2 c κs = omega (arith, c .before .before .before .before .before .before .before .before .before .pre .1 .1, pair-long (name (c .before .before .before .before .before .before .before .before .before)) (c .before .before .before .before .before .before .before .before .before .args .day), c .before .before .before .before .word .ensures .1, c .before .before .before .before .word .kept .0)
+word-requires-2 c κs =
+    let at-word = c .before .before .before .before in
+    let start = start-before-word at-word in
+    omega (arith, start .pre .1 .1, pair-long (name start) (start .args .day), at-word .word .ensures .1, at-word .word .kept .0)
 
 slice-aggregate-word-2 : tie.Need-slice-aggregate-word-2
 slice-aggregate-word-2 c = search needs
 
 word-requires-3 : tie.Need-word-requires-3
-word-requires-3 c κs = omega (arith, c .before .before .before .before .before .before .before .before .before .before .before .before .before .before .pre .1 .1, pair-long (name (c .before .before .before .before .before .before .before .before .before .before .before .before .before .before)) (c .before .before .before .before .before .before .before .before .before .before .before .before .before .before .args .day), c .before .before .before .before .before .before .before .before .before .word .ensures .1, c .before .before .before .before .before .before .before .before .before .word .kept .0, c .before .before .before .before .word2 .ensures .1, c .before .before .before .before .word2 .kept .0)
+word-requires-3 c κs =
+    let at-word2 = c .before .before .before .before in
+    let at-word = word-before-word2 at-word2 in
+    let start = start-before-word at-word in
+    omega (arith, start .pre .1 .1, pair-long (name start) (start .args .day), at-word .word .ensures .1, at-word .word .kept .0, at-word2 .word2 .ensures .1, at-word2 .word2 .kept .0)
 
 number-requires : tie.Need-number-requires
-number-requires c κs = omega (arith, c .before .before .before .before .before .before .before .before .before .before .before .before .before .before .before .before .before .before .pre .1 .1, pair-long (name (c .before .before .before .before .before .before .before .before .before .before .before .before .before .before .before .before .before .before)) (c .before .before .before .before .before .before .before .before .before .before .before .before .before .before .before .before .before .before .args .day), c .before .before .before .before .before .before .before .before .before .before .before .before .before .word .ensures .1, c .before .before .before .before .before .before .before .before .before .before .before .before .before .word .kept .0, c .before .before .before .before .before .before .before .before .word2 .ensures .1, c .before .before .before .before .before .before .before .before .word2 .kept .0, c .before .before .before .word3 .ensures .1, c .before .before .before .word3 .kept .0)
+number-requires c κs =
+    let at-word3 = c .before .before .before in
+    let at-word2 = at-word3 .before .before .before .before .before in
+    let at-word = word-before-word2 at-word2 in
+    let start = start-before-word at-word in
+    omega (arith, start .pre .1 .1, pair-long (name start) (start .args .day), at-word .word .ensures .1, at-word .word .kept .0, at-word2 .word2 .ensures .1, at-word2 .word2 .kept .0, at-word3 .word3 .ensures .1, at-word3 .word3 .kept .0)
 
 slice-aggregate-word-3 : tie.Need-slice-aggregate-word-3
 slice-aggregate-word-3 c = search needs
 
 word-requires-4 : tie.Need-word-requires-4
-word-requires-4 c κs = omega (arith, c .before .before .before .before .before .before .before .before .before .before .before .before .before .before .before .before .before .before .before .before .before .before .before .pre .1 .1, pair-long (name (c .before .before .before .before .before .before .before .before .before .before .before .before .before .before .before .before .before .before .before .before .before .before .before)) (c .before .before .before .before .before .before .before .before .before .before .before .before .before .before .before .before .before .before .before .before .before .before .before .args .day), c .before .before .before .before .before .before .before .before .before .before .before .before .before .before .before .before .before .before .word .ensures .1, c .before .before .before .before .before .before .before .before .before .before .before .before .before .before .before .before .before .before .word .kept .0, c .before .before .before .before .before .before .before .before .before .before .before .before .before .word2 .ensures .1, c .before .before .before .before .before .before .before .before .before .before .before .before .before .word2 .kept .0, c .before .before .before .before .before .before .before .before .word3 .ensures .1, c .before .before .before .before .before .before .before .before .word3 .kept .0, c .before .before .before .before .number .ensures .1, c .before .before .before .before .number .kept .0)
+word-requires-4 c κs =
+    let at-number = c .before .before .before .before in
+    let at-word3 = at-number .before .before .before .before in
+    let at-word2 = at-word3 .before .before .before .before .before in
+    let at-word = word-before-word2 at-word2 in
+    let start = start-before-word at-word in
+    omega (arith, start .pre .1 .1, pair-long (name start) (start .args .day), at-word .word .ensures .1, at-word .word .kept .0, at-word2 .word2 .ensures .1, at-word2 .word2 .kept .0, at-word3 .word3 .ensures .1, at-word3 .word3 .kept .0, at-number .number .ensures .1, at-number .number .kept .0)
 
 same-length : tie.Need-same-length
 same-length c = search needs
 
 returns : tie.Need-returns
 returns c =
-    let args = c .before .before .before .before .before .before .before .before .before .before .before .before .before .before .before .before .before .before .before .before .before .before .before .before .before .before .args in
+    let at-number = c .before .before .before .before .before .before .before in
+    let at-word3 = at-number .before .before .before .before in
+    let at-word2 = at-word3 .before .before .before .before .before in
+    let at-word = word-before-word2 at-word2 in
+    let start = start-before-word at-word in
+    let args = start .args in
     let digits = decimal (args .day) in
-    wrote-both (args .out .now) (args .to) (40 ∷ []) (name (c .before .before .before .before .before .before .before .before .before .before .before .before .before .before .before .before .before .before .before .before .before .before .before .before .before .before) ++ (32 ∷ (digits ++ (41 ∷ [])))) (c .before .before .before .before .before .before .before .before .before .before .before .before .before .before .before .before .before .before .before .before .before .word .ensures)
-    (wrote-both (c .before .before .before .before .before .before .before .before .before .before .before .before .before .before .before .before .before .before .before .before .before .word .last .0) (c .before .before .before .before .before .before .before .before .before .before .before .before .before .before .before .before .before .before .before .before .before .word .result) (name (c .before .before .before .before .before .before .before .before .before .before .before .before .before .before .before .before .before .before .before .before .before .before .before .before .before .before)) (32 ∷ (digits ++ (41 ∷ []))) (c .before .before .before .before .before .before .before .before .before .before .before .before .before .before .before .before .word2 .ensures)
-    (wrote-both (c .before .before .before .before .before .before .before .before .before .before .before .before .before .before .before .before .word2 .last .0) (c .before .before .before .before .before .before .before .before .before .before .before .before .before .before .before .before .word2 .result) (32 ∷ []) (digits ++ (41 ∷ [])) (c .before .before .before .before .before .before .before .before .before .before .before .word3 .ensures)
-    (wrote-both (c .before .before .before .before .before .before .before .before .before .before .before .word3 .last .0) (c .before .before .before .before .before .before .before .before .before .before .before .word3 .result) digits (41 ∷ []) (c .before .before .before .before .before .before .before .number .ensures) (c .before .before .word4 .ensures))))
+    wrote-both (args .out .now) (args .to) (40 ∷ []) (name start ++ (32 ∷ (digits ++ (41 ∷ [])))) (at-word .word .ensures)
+    (wrote-both (at-word .word .last .0) (at-word .word .result) (name start) (32 ∷ (digits ++ (41 ∷ []))) (at-word2 .word2 .ensures)
+    (wrote-both (at-word2 .word2 .last .0) (at-word2 .word2 .result) (32 ∷ []) (digits ++ (41 ∷ [])) (at-word3 .word3 .ensures)
+    (wrote-both (at-word3 .word3 .last .0) (at-word3 .word3 .result) digits (41 ∷ []) (at-number .number .ensures) (c .before .before .word4 .ensures))))
 
 pub put-pair-spec : {M : Type 1} → statement M
 put-pair-spec =
