@@ -23,6 +23,13 @@ cast-n c = search needs
 cast-m : tie.Need-cast-m
 cast-m c = search needs
 
+-- Places of the code, seen from later ones.
+abbrev fit-before-else1 : tie.Else1 → tie.After-fit
+fit-before-else1 c = c .before .before .before .before .before .before .before .before
+
+abbrev fit-before-slice-known10 : tie.After-slice-known10 → tie.After-fit
+fit-before-slice-known10 c = c .before .before .before .before .before .before .before .before .before .before .before .before .before .before .before .before
+
 fit-requires : tie.Need-fit-requires
 fit-requires c κs =
     let start = c .before .before .before .before .before .before .before .before .before .before .before .before .before in
@@ -33,9 +40,10 @@ fit-requires c κs =
 
 push-requires : tie.Need-push-requires
 push-requires c κs =
-    let start = c .before .before .before .before .before .before .before .before .before .before .before .before .before .before .before .before .before .before .before .before .before .before .before .before .before in
-    let fit = c .before .before .before .before .before .before .before .before .before .before .before .fit in
     let if1 = c .before .before .before .if1 in
+    let at-fit = c .before .before .before .before .before .before .before .before .before .before .before in
+    let fit = at-fit .fit in
+    let start = at-fit .before .before .before .before .before .before .before .before .before .before .before .before .before .before in
     let args = start .args in
     let t : Tells (args .counts .steps) (first (args .counts .rules)) (args .counts .rules) (rule (args .x) (args .y) (args .c)) (columns (args .xs .now) (args .ys .now) (args .cs .now)) (args .days .now) (fit .result .fits) (fit .result .moved) (columns _ _ _) _
     = rw (toZ-ofZ w32 (args .c) (start .fits .c)) at (fit .ensures) in
@@ -44,27 +52,27 @@ push-requires c κs =
 
 one-more-requires : tie.Need-one-more-requires
 one-more-requires c κs =
-    let start = c .before .before .before .before .before .before .before .before .before .before .before .before .before .before .before .before .before .before .before .before .before .before .before .before .before .before .before .before .before .before in
+    let start = fit-before-slice-known10 c .before .before .before .before .before .before .before .before .before .before .before .before .before .before in
     start .pre .1 .1 .1 .0
 
 same-length : tie.Need-same-length
 same-length c =
-    let fit = c .before .before .before .before .before .before .before .before .before .before .before .before .before .before .before .before .before .fit in
+    let fit = fit-before-slice-known10 (c .before) .fit in
     fit .kept .1 .1 .0
 
 same-length-2 : tie.Need-same-length-2
 same-length-2 c =
-    let fit = c .before .before .before .before .before .before .before .before .before .before .before .before .before .before .before .before .before .fit in
+    let fit = fit-before-slice-known10 (c .before) .fit in
     fit .kept .1 .1 .1 .0
 
 same-length-3 : tie.Need-same-length-3
 same-length-3 c =
-    let fit = c .before .before .before .before .before .before .before .before .before .before .before .before .before .before .before .before .before .fit in
+    let fit = fit-before-slice-known10 (c .before) .fit in
     fit .kept .1 .1 .1 .1 .0
 
 same-length-4 : tie.Need-same-length-4
 same-length-4 c =
-    let fit = c .before .before .before .before .before .before .before .before .before .before .before .before .before .before .before .before .before .fit in
+    let fit = fit-before-slice-known10 (c .before) .fit in
     fit .kept .1 .1 .1 .1 .1 .0
 
 same-length-5 : tie.Need-same-length-5
@@ -79,10 +87,13 @@ same-length-6 c =
 
 returns : tie.Need-returns
 returns c =
-    let start = c .before .before .before .before .before .before .before .before .before .before .before .before .before .before .before .before .before .before .before .before .before .before .before .before .before .before .before .before .before .before .before in
-    let fit = c .before .before .before .before .before .before .before .before .before .before .before .before .before .before .before .before .before .fit in
-    let if1 = c .before .before .before .before .before .before .before .before .before .if1 in
-    let push = c .before .before .before .before .before .push in
+    let at-push = c .before .before .before .before .before in
+    let push = at-push .push in
+    let then1 = at-push .before .before .before .before in
+    let if1 = then1 .if1 in
+    let at-fit = then1 .before .before .before .before .before .before .before .before in
+    let fit = at-fit .fit in
+    let start = at-fit .before .before .before .before .before .before .before .before .before .before .before .before .before .before in
     let one-more = c .one-more in
     let args = start .args in
     let t : Tells (args .counts .steps) (first (args .counts .rules)) (args .counts .rules) (rule (args .x) (args .y) (args .c)) (columns (args .xs .now) (args .ys .now) (args .cs .now)) (args .days .now) (fit .result .fits) (fit .result .moved) (columns _ _ _) _
@@ -92,22 +103,22 @@ returns c =
 
 same-length-7 : tie.Need-same-length-7
 same-length-7 c =
-    let fit = c .before .before .before .before .before .before .before .before .fit in
+    let fit = fit-before-else1 c .fit in
     fit .kept .1 .1 .0
 
 same-length-8 : tie.Need-same-length-8
 same-length-8 c =
-    let fit = c .before .before .before .before .before .before .before .before .fit in
+    let fit = fit-before-else1 c .fit in
     fit .kept .1 .1 .1 .0
 
 same-length-9 : tie.Need-same-length-9
 same-length-9 c =
-    let fit = c .before .before .before .before .before .before .before .before .fit in
+    let fit = fit-before-else1 c .fit in
     fit .kept .1 .1 .1 .1 .0
 
 same-length-10 : tie.Need-same-length-10
 same-length-10 c =
-    let fit = c .before .before .before .before .before .before .before .before .fit in
+    let fit = fit-before-else1 c .fit in
     fit .kept .1 .1 .1 .1 .1 .0
 
 same-length-11 : tie.Need-same-length-11
@@ -118,8 +129,9 @@ same-length-12 c = refl
 
 returns-2 : tie.Need-returns-2
 returns-2 c =
-    let start = c .before .before .before .before .before .before .before .before .before .before .before .before .before .before .before .before .before .before .before .before .before .before in
-    let fit = c .before .before .before .before .before .before .before .before .fit in
+    let at-fit = c .before .before .before .before .before .before .before .before in
+    let fit = at-fit .fit in
+    let start = at-fit .before .before .before .before .before .before .before .before .before .before .before .before .before .before in
     let if1 = c .if1 in
     let args = start .args in
     let t : Tells (args .counts .steps) (first (args .counts .rules)) (args .counts .rules) (rule (args .x) (args .y) (args .c)) (columns (args .xs .now) (args .ys .now) (args .cs .now)) (args .days .now) (fit .result .fits) (fit .result .moved) (columns _ _ _) _

@@ -32,16 +32,29 @@ abbrev μ-loop : tie.MeasureT-loop
 μ-loop s tab at n names lens hashes name-heads name-nexts xs₀ ys₀ cs₀ days₀ heads₀ nexts₀ i₀ held₀ xs ys cs days heads nexts i held =
     length s - i
 
+-- Places of the code, seen from later ones.
+abbrev add-one-before-slice-known10 : tie.After-slice-known10 Inv-loop μ-loop → tie.After-add-one Inv-loop μ-loop
+add-one-before-slice-known10 c = c .before .before .before .before .before .before .before .before .before .before .before
+
+abbrev start-before-slice-known5 : tie.After-slice-known5 Inv-loop μ-loop → tie.Start Inv-loop μ-loop
+start-before-slice-known5 c = c .before .before .before .before .before .before .before .before .before .before .before
+
+abbrev at-loop-before-add-one : tie.After-add-one Inv-loop μ-loop → tie.At-loop Inv-loop μ-loop
+at-loop-before-add-one c = c .before .before .before .before .before .before .before .before .before .before .before .before .before
+
+abbrev start-before-else1 : tie.Else1 Inv-loop μ-loop → tie.Start Inv-loop μ-loop
+start-before-else1 c = start-before-slice-known5 (c .before .before .before .before)
+
 loop-holds : tie.Need-loop-holds Inv-loop μ-loop
 loop-holds c =
-    let start = c .before .before .before .before .before .before .before .before .before .before .before in (
+    let start = start-before-slice-known5 c in (
       record { xs-long = refl; ys-long = refl; cs-long = refl; days-long = refl; heads-long = refl; nexts-long = refl },
       ((start .pre .1 .1 .1 .1 .1 .1 .1 .1 .0 .0, left-start _ _ _ _ _ (start .pre .1 .1 .1 .1 .1 .1 .1 .1 .0 .1) (start .pre .1 .1 .1 .1 .1 .0) (start .pre .1 .1 .1 .1 .1 .1 .0) (start .pre .1 .1 .1 .1 .1 .1 .1 .0)), start .pre .1 .1 .1 .1 .1 .1 .1 .1 .1 .0),
     )
 
 next-atom-requires : tie.Need-next-atom-requires Inv-loop μ-loop
 next-atom-requires c κs =
-    let start = c .before .before .before .before .before .before .before .before .before .before .before .before in
+    let start = start-before-slice-known5 (c .before) in
     start .pre .0
 
 same-length : tie.Need-same-length Inv-loop μ-loop
@@ -81,34 +94,37 @@ returns c =
 
 find-requires : tie.Need-find-requires Inv-loop μ-loop
 find-requires c κs =
-    let start = c .before .before .before .before .before .before .before .before .before .before .before .before .before .before .before in
     let next-atom = c .before .before .next-atom in
+    let start = start-before-else1 c in
     (start .pre .1 .1 .0, (start .pre .1 .1 .1 .0, (next-atom .ensures .first-ends .ordered, next-atom .ensures .first-ends .within)))
 
 cast-x : tie.Need-cast-x Inv-loop μ-loop
 cast-x c =
-    let start = c .before .before .before .before .before .before .before .before .before .before .before .before .before .before .before .before in
+    let start = start-before-else1 (c .before) in
     omega (arith, found-within (start .args .n) (start .args .names .now) (start .args .lens .now) _ _ (c .find .ensures), start .pre .1 .1 .0 .names-in)
 
 find-requires-2 : tie.Need-find-requires-2 Inv-loop μ-loop
 find-requires-2 c κs =
-    let start = c .before .before .before .before .before .before .before .before .before .before .before .before .before .before .before .before in
     let next-atom = c .before .before .before .next-atom in
+    let start = start-before-else1 (c .before) in
     (start .pre .1 .1 .0, (start .pre .1 .1 .1 .0, (next-atom .ensures .second-ends .ordered, next-atom .ensures .second-ends .within)))
 
 cast-y : tie.Need-cast-y Inv-loop μ-loop
 cast-y c =
-    let start = c .before .before .before .before .before .before .before .before .before .before .before .before .before .before .before .before .before in
+    let start = start-before-else1 (c .before .before) in
     omega (arith, found-within (start .args .n) (start .args .names .now) (start .args .lens .now) _ _ (c .find2 .ensures), start .pre .1 .1 .0 .names-in)
 
 add-one-requires : tie.Need-add-one-requires Inv-loop μ-loop
 add-one-requires c κs =
-    let loop = c .before .before .before .before .before .before .before .before .before .before .before .before .loop in
-    let next-atom = c .before .before .before .before .before .before .before .before .before .before .before .next-atom in
-    let find = c .before .before .before .before .before .before .before .before .find in
-    let find2 = c .before .before .before .before .before .before .before .find2 in
-    let if1 = c .before .before .before .before .before .before .before .before .before .if1 in
-    let start = c .before .before .before .before .before .before .before .before .before .before .before .before .before .before .before .before .before .before .before .before .before .before .before .before in (
+    let at-find2 = c .before .before .before .before .before .before .before in
+    let find2 = at-find2 .find2 in
+    let find = at-find2 .before .find in
+    let else1 = at-find2 .before .before in
+    let if1 = else1 .if1 in
+    let at-next-atom = else1 .before .before in
+    let next-atom = at-next-atom .next-atom in
+    let loop = at-next-atom .before .loop in
+    let start = at-next-atom .before .before .before .before .before .before .before .before .before .before .before .before .before in (
       (loop .inv .1 .0 .0, loop .inv .1 .0 .1 .border),
       (
         loop .inv .1 .1,
@@ -124,68 +140,83 @@ add-one-requires c κs =
 
 same-length-7 : tie.Need-same-length-7 Inv-loop μ-loop
 same-length-7 c =
-    let add-one = c .before .before .before .before .before .before .before .before .before .before .before .before .add-one in
-    let loop = c .before .before .before .before .before .before .before .before .before .before .before .before .before .before .before .before .before .before .before .before .before .before .before .before .before .loop in
+    let at-add-one = add-one-before-slice-known10 (c .before) in
+    let add-one = at-add-one .add-one in
+    let loop = at-loop-before-add-one at-add-one .loop in
     (add-one .kept .1 .0) ∙ (loop .inv .0 .xs-long)
 
 same-length-8 : tie.Need-same-length-8 Inv-loop μ-loop
 same-length-8 c =
-    let add-one = c .before .before .before .before .before .before .before .before .before .before .before .before .add-one in
-    let loop = c .before .before .before .before .before .before .before .before .before .before .before .before .before .before .before .before .before .before .before .before .before .before .before .before .before .loop in
+    let at-add-one = add-one-before-slice-known10 (c .before) in
+    let add-one = at-add-one .add-one in
+    let loop = at-loop-before-add-one at-add-one .loop in
     (add-one .kept .1 .1 .0) ∙ (loop .inv .0 .ys-long)
 
 same-length-9 : tie.Need-same-length-9 Inv-loop μ-loop
 same-length-9 c =
-    let add-one = c .before .before .before .before .before .before .before .before .before .before .before .before .add-one in
-    let loop = c .before .before .before .before .before .before .before .before .before .before .before .before .before .before .before .before .before .before .before .before .before .before .before .before .before .loop in
+    let at-add-one = add-one-before-slice-known10 (c .before) in
+    let add-one = at-add-one .add-one in
+    let loop = at-loop-before-add-one at-add-one .loop in
     (add-one .kept .1 .1 .1 .0) ∙ (loop .inv .0 .cs-long)
 
 same-length-10 : tie.Need-same-length-10 Inv-loop μ-loop
 same-length-10 c =
-    let add-one = c .before .before .before .before .before .before .before .before .before .before .before .before .add-one in
-    let loop = c .before .before .before .before .before .before .before .before .before .before .before .before .before .before .before .before .before .before .before .before .before .before .before .before .before .loop in
+    let at-add-one = add-one-before-slice-known10 (c .before) in
+    let add-one = at-add-one .add-one in
+    let loop = at-loop-before-add-one at-add-one .loop in
     (add-one .kept .1 .1 .1 .1 .0) ∙ (loop .inv .0 .days-long)
 
 same-length-11 : tie.Need-same-length-11 Inv-loop μ-loop
 same-length-11 c =
-    let add-one = c .before .before .before .before .before .before .before .before .before .before .before .before .add-one in
-    let loop = c .before .before .before .before .before .before .before .before .before .before .before .before .before .before .before .before .before .before .before .before .before .before .before .before .before .loop in
+    let at-add-one = add-one-before-slice-known10 (c .before) in
+    let add-one = at-add-one .add-one in
+    let loop = at-loop-before-add-one at-add-one .loop in
     (add-one .kept .1 .1 .1 .1 .1 .0) ∙ (loop .inv .0 .heads-long)
 
 same-length-12 : tie.Need-same-length-12 Inv-loop μ-loop
 same-length-12 c =
-    let add-one = c .before .before .before .before .before .before .before .before .before .before .before .before .add-one in
-    let loop = c .before .before .before .before .before .before .before .before .before .before .before .before .before .before .before .before .before .before .before .before .before .before .before .before .before .loop in
+    let at-add-one = add-one-before-slice-known10 (c .before) in
+    let add-one = at-add-one .add-one in
+    let loop = at-loop-before-add-one at-add-one .loop in
     (add-one .kept .1 .1 .1 .1 .1 .1 .0) ∙ (loop .inv .0 .nexts-long)
 
 returns-2 : tie.Need-returns-2 Inv-loop μ-loop
 returns-2 c =
-    let next-atom = c .before .before .before .before .before .before .before .before .before .before .before .before .before .before .before .before .before .before .before .before .before .before .before .before .next-atom in
-    let find = c .before .before .before .before .before .before .before .before .before .before .before .before .before .before .before .before .before .before .before .before .before .find in
-    let find2 = c .before .before .before .before .before .before .before .before .before .before .before .before .before .before .before .before .before .before .before .before .find2 in
-    let if1 = c .before .before .before .before .before .before .before .before .before .before .before .before .before .before .before .before .before .before .before .before .before .before .if1 in
-    let loop = c .before .before .before .before .before .before .before .before .before .before .before .before .before .before .before .before .before .before .before .before .before .before .before .before .before .loop in
-    let start = c .before .before .before .before .before .before .before .before .before .before .before .before .before .before .before .before .before .before .before .before .before .before .before .before .before .before .before .before .before .before .before .before .before .before .before .before .before in
-    let struct-told = c .before .before .before .before .before .before .before .before .before .before .before .before .before .struct-told in
-    let add-one = c .before .before .before .before .before .before .before .before .before .before .before .before .add-one in
+    let at-add-one = c .before .before .before .before .before .before .before .before .before .before .before .before in
+    let add-one = at-add-one .add-one in
+    let struct-told = at-add-one .before .struct-told in
+    let at-find2 = at-add-one .before .before .before .before .before .before .before .before in
+    let find2 = at-find2 .find2 in
+    let find = at-find2 .before .find in
+    let else1 = at-find2 .before .before in
+    let if1 = else1 .if1 in
+    let at-next-atom = else1 .before .before in
+    let next-atom = at-next-atom .next-atom in
+    let loop = at-next-atom .before .loop in
+    let start = at-next-atom .before .before .before .before .before .before .before .before .before .before .before .before .before in
     (atom-clash _ _ _ _ _ _ _ (next-atom .result) _ (find .result) (find2 .result) (next-atom .ensures) (not-false _ (if1 .left)) (loop .inv .1 .0 .1) (start .pre .1 .1 .1 .1 .0) (find .ensures) (find2 .ensures) _ _ (c .if2 .taken) (rw (toZ-ofZ w32 (next-atom .result .amount) (record { sfits = struct-told .given .1 .1 .1 .1 .1 .0 .1 })) at (add-one .ensures .0 (loop .inv .1 .0 .0))), add-one .ensures .1)
 
 loop-less : tie.Need-loop-less Inv-loop μ-loop
 loop-less c =
-    let next-atom = c .before .before .before .before .before .before .before .before .before .before .before .before .before .before .before .before .before .before .before .before .before .before .before .before .before .next-atom in
-    let if1 = c .before .before .before .before .before .before .before .before .before .before .before .before .before .before .before .before .before .before .before .before .before .before .before .if1 in
+    let else1 = add-one-before-slice-known10 (c .before .before) .before .before .before .before .before .before .before .before .before .before in
+    let if1 = else1 .if1 in
+    let next-atom = else1 .before .before .next-atom in
     omega (arith, next-atom .ensures .onward (not-false _ (if1 .left)))
 
 loop-again : tie.Need-loop-again Inv-loop μ-loop
 loop-again c =
-    let add-one = c .before .before .before .before .before .before .before .before .before .before .before .before .before .add-one in
-    let loop = c .before .before .before .before .before .before .before .before .before .before .before .before .before .before .before .before .before .before .before .before .before .before .before .before .before .before .loop in
-    let next-atom = c .before .before .before .before .before .before .before .before .before .before .before .before .before .before .before .before .before .before .before .before .before .before .before .before .before .next-atom in
-    let find = c .before .before .before .before .before .before .before .before .before .before .before .before .before .before .before .before .before .before .before .before .before .before .find in
-    let find2 = c .before .before .before .before .before .before .before .before .before .before .before .before .before .before .before .before .before .before .before .before .before .find2 in
-    let if1 = c .before .before .before .before .before .before .before .before .before .before .before .before .before .before .before .before .before .before .before .before .before .before .before .if1 in
-    let start = c .before .before .before .before .before .before .before .before .before .before .before .before .before .before .before .before .before .before .before .before .before .before .before .before .before .before .before .before .before .before .before .before .before .before .before .before .before .before in
-    let struct-told = c .before .before .before .before .before .before .before .before .before .before .before .before .before .before .struct-told in (
+    let at-add-one = c .before .before .before .before .before .before .before .before .before .before .before .before .before in
+    let add-one = at-add-one .add-one in
+    let struct-told = at-add-one .before .struct-told in
+    let at-find2 = at-add-one .before .before .before .before .before .before .before .before in
+    let find2 = at-find2 .find2 in
+    let find = at-find2 .before .find in
+    let else1 = at-find2 .before .before in
+    let if1 = else1 .if1 in
+    let at-next-atom = else1 .before .before in
+    let next-atom = at-next-atom .next-atom in
+    let loop = at-next-atom .before .loop in
+    let start = at-next-atom .before .before .before .before .before .before .before .before .before .before .before .before .before in (
       record {
         xs-long = (add-one .kept .1 .0) ∙ (loop .inv .0 .xs-long);
         ys-long = (add-one .kept .1 .1 .0) ∙ (loop .inv .0 .ys-long);
