@@ -1,10 +1,14 @@
 # What the scripts of this folder share: installing what is missing, and building and running programs of Rust and C for x86-64, and of Rust for
 # this machine. It is read by `.` from the top of the repository and runs nothing by itself.
 
-# The crate whose archive holds the exported entry, and the program's crate.
+# The crate whose archive holds the exported entry, and the one whose archive holds the program as one function.
 ENTRY=exports
-PROGRAM=dates
+PROGRAM=program
 ARCHIVE=target/staticlib/lib$ENTRY.a
+PROGRAM_ARCHIVE=target/staticlib/lib$PROGRAM.a
+
+# The program that ./dates runs, which tools/build links.
+BARE=target/dates
 
 # The stamps that tools/build writes when the program, or the archive, is built.
 PROGRAM_STAMP=target/built
@@ -50,6 +54,9 @@ fresh() { # FILE
 
 # Makes the library's archive ready. Not 0 where it is not proved.
 need_archive() { tools/build library; }
+
+# The toolchain's own code of C that the program calls, for x86-64.
+kit_c_code() { echo "$(dirname -- "$(dirname -- "$(rt doc)")")/lib/libos_c.a"; }
 
 # Prints the version, which stands in the header alone.
 version_of_header() { sed -n 's/^#define DATES_VERSION "\(.*\)"$/\1/p' include/dates.h; }

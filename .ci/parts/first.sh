@@ -1,32 +1,41 @@
 #!/usr/bin/env bash
-# The first minute: what is shown while the program is proved and built, and the command ./dates, however it is called. rt ci, which comes before, has built the
-# program. Nothing is proved here: in a copy of what the command needs, a stand-in for rt says what rt says, and puts that program in place.
+# The first minute: what is shown while the program is proved and built, and the command ./dates, however it is called, with its streams and its status. rt ci, which comes
+# before, has proved all; the program's archive is made here first. Then nothing is proved: in a copy of what the command needs, a stand-in for rt says what rt says, and
+# puts that archive in place.
 set -u
 CDPATH='' cd -- "$(dirname -- "${BASH_SOURCE[0]}")/../.." || exit 1
 . host/tools.sh
 . host/counting.sh
+. host/streams.sh
 work=$(mktemp -d) || exit 1
 trap 'rm -rf "$work"' EXIT
 chmod 755 "$work"
 
-[ -x target/bin/dates ] || stop "there is no target/bin/dates; rt check dates makes it"
+one "tools/build makes the program" tools/build program || finish
 kit=$(dirname -- "$(dirname -- "$(rt doc)")") || stop "rt does not answer"
+
+# An archive whose function writes nothing and says that all is well.
+echo 'unsigned dates_main(unsigned char *text, unsigned long length) { return text == 0 || length == 0; }' >"$work/other.c"
+"$kit/on/$machine/toolchain/bin/clang" --target=x86_64-unknown-linux-gnu -fPIE -c "$work/other.c" -o "$work/other.o" &&
+    "$kit/on/$machine/toolchain/bin/llvm-ar" rcs "$work/other.a" "$work/other.o" || stop "no other archive"
 
 # ---- The copy and the stand-in. PAUSE is how long a crate takes; with DO=fail one is not proved, with DO=other the program writes something else, with DO=break rt fails.
 tree=$work/tree
-mkdir -p "$tree/tools" "$tree/host" "$tree/crates" "$work/bin"
-cp dates "$tree/" && cp tools/build "$tree/tools/" && cp host/tools.sh "$tree/host/" && cp -r include examples "$tree/" || stop "no copy of the command"
-printf '%s\n' '# Words.' 'meaning:' 'lent: meaning # here too' 'text:' 'export_record: lent' 'exports: export_record' 'dates: lent text io' >"$tree/crates.txt"
+mkdir -p "$tree/tools" "$tree/host/c" "$tree/crates/program" "$work/bin"
+cp dates "$tree/" && cp tools/build "$tree/tools/" && cp host/tools.sh "$tree/host/" && cp host/c/bare.c "$tree/host/c/" && cp -r include examples "$tree/" ||
+    stop "no copy of the command"
+printf '%s\n' '# Words.' 'meaning:' 'lent: meaning # here too' 'text:' 'export_record: lent' 'exports: export_record' 'program: lent text io' 'dates: program' >"$tree/crates.txt"
+echo one >"$tree/crates/program/source"
 cat >"$work/bin/rt" <<STANDIN
 #!/usr/bin/env bash
 [ "\$1" != doc ] || { echo '$kit/docs/START-HERE.md'; exit; }
 echo "\$*" >>'$work/called'
-mkdir -p target/log target/bin target/staticlib
+mkdir -p target/log target/staticlib
 [ "\${DO:-}" != break ] || { echo 'rt: cannot make a temporary folder'; exit 2; }
 case "\$*" in
 staticlib*) crates='' ;;
-*dates*export_record*) crates='meaning lent text export_record' ;;
-*dates*) crates='meaning lent text' ;;
+*text*export_record*) crates='meaning lent text export_record' ;;
+*text*) crates='meaning lent text' ;;
 *) crates='meaning lent export_record' ;;
 esac
 for crate in \$crates; do
@@ -43,17 +52,11 @@ for crate in \$crates; do
     echo "rt: \$crate proved (1 s)"
 done
 if [ "\$1" = staticlib ]; then
-    echo archive >target/staticlib/libexports.a
-    echo 'rt: target/staticlib/libexports.a has the functions of exports that are marked #[no_mangle] pub extern "C"'
-elif [[ " \$* " = *' dates '* ]]; then
-    cp '$PWD/target/bin/dates' target/bin/dates
-    echo 'rt: dates proved (4 s)'
-    if [ "\${DO:-}" = other ]; then
-        echo "rt: dates: what the program wrote is not what its file 'stdout' has"
-        echo 'rt: dates proved, and its run FAILED (0 s)'
-        exit 1
-    fi
-    echo "rt: dates ran, and wrote what its file 'stdout' has (0 s)"
+    case \$2 in
+    exports) echo archive >target/staticlib/libexports.a ;;
+    *) if [ "\${DO:-}" = other ]; then cp '$work/other.a' target/staticlib/libprogram.a; else cp '$PWD/$PROGRAM_ARCHIVE' target/staticlib/; fi ;;
+    esac
+    echo "rt: target/staticlib/lib\$2.a has the functions of \$2 that are marked #[no_mangle] pub extern \"C\""
 fi
 STANDIN
 chmod +x "$work/bin/rt"
@@ -110,18 +113,20 @@ says_each_crate() {
         echo 'dates: 1 of 4: meaning proved (1 s)'
         echo 'dates: 2 of 4: lent proved (1 s)'
         echo 'dates: 3 of 4: text proved (1 s)'
-        echo 'dates: 4 of 4: dates proved (4 s)'
+        echo 'dates: 4 of 4: program proved, and its archive written'
         echo 'dates: proved and built in N s'
-    ) && called 1
+    ) && called 2
 }
 unbuild
 one "the first call builds, says each crate in a line of its own on standard error, and answers" says_each_crate
-again() { answers "$tree/dates" "$season" && called 1; }
+again() { answers "$tree/dates" "$season" && called 2; }
 one "the second call calls no rt" again
 no_process() { PATH=$work/none "$tree/dates" "$season"; }
 one "the way to a program that is built starts no other process: it works with nothing on the path" answers no_process
-builds_again() { "$tree/dates" --build 2>"$work/err" && called 2; }
-one "--build calls rt again" builds_again
+builds_again() { "$tree/dates" --build 2>"$work/err" && called 3; }
+one "--build calls rt again, and makes no new archive where nothing changed" builds_again
+changed() { echo two >"$tree/crates/program/source" && "$tree/dates" --build 2>"$work/err" && called 5; }
+one "where a source of the program's crate changed, it does" changed
 builds_library() {
     "$tree/tools/build" library 2>"$work/err" && sed 's/built in [0-9]* s/built in N s/' "$work/err" | diff - <(
         echo 'dates: proving and building, 4 crates; this takes minutes the first time'
@@ -130,10 +135,10 @@ builds_library() {
         echo 'dates: 3 of 4: export_record proved (1 s)'
         echo 'dates: 4 of 4: exports proved, and its archive written'
         echo 'dates: proved and built in N s'
-    ) && called 4 && answers "$tree/dates" "$season"
+    ) && called 7 && answers "$tree/dates" "$season"
 }
 one "the library is built beside the program" builds_library
-library_is_there() { "$tree/tools/build" library 2>"$work/err" && diff "$work/err" /dev/null && called 4; }
+library_is_there() { "$tree/tools/build" library 2>"$work/err" && diff "$work/err" /dev/null && called 7; }
 one "and not again where no source is newer" library_is_there
 
 # Runs a command in a terminal, and prints each drawing of its line as a line.
@@ -158,11 +163,12 @@ fails() { # DO STATUS LINE LINE
         printf '%s\n' "$3" "$4" "dates: after N s nothing is built; $tree/target/build.log has all that was said"
     ) || { echo "status $status"; return 1; }
 }
-not_proved() { fails fail 1 'dates: lent is not proved' 'dates: its first error: crates/lent/proofs/one/Proof.antt:42:6: error: the two types differ'; }
+not_proved() { fails fail 2 'dates: lent is not proved' 'dates: its first error: crates/lent/proofs/one/Proof.antt:42:6: error: the two types differ'; }
 unbuild
-one "a crate that is not proved: its name, its first error, where the log is, status 1, no answer" not_proved
-one "a program that writes something else: what rt says of it" \
-    fails other 1 'dates: dates is proved, and its run failed' "dates: its first error: rt: dates: what the program wrote is not what its file 'stdout' has"
+one "a crate that is not proved: its name, its first error, where the log is, status 2, no answer" not_proved
+writes_other() { fails other 2 'dates: 4 of 4: program proved, and its archive written' 'dates: the program does not print what examples/contradiction.out has'; }
+one "a program that writes something else is not run" writes_other
+unbuild
 one "a toolchain that fails: its last lines and its status" fails break 2 'dates: rt ended with status 2; its last lines:' 'rt: cannot make a temporary folder'
 forget
 one "a build after one that failed works" says_each_crate
@@ -252,15 +258,27 @@ one "rt was not called for any of these" called 0
 closed() { "$tree/dates" /dev/stdin <&-; }
 one "a closed standard input as /dev/stdin is refused" refuses "there is no file /dev/stdin" closed
 
+# ---- Its streams and its status.
+try_streams ./dates "$tree/dates"
+by_name() { run "$tree/dates" "$work/long.smt2" && ended 0 && cmp "$work/part" "$work/long.out"; }
+one "./dates: a long script by its name" by_name
+
 # ---- When it is built again.
 sed -i 's/^#define DATES_VERSION .*/#define DATES_VERSION "7.8.9"/' "$tree/include/dates.h"
-one "where the header has another version, it is built again" says_each_crate
+builds_from_archive() {
+    "$tree/dates" "$season" >"$work/out" 2>"$work/err" && diff "$work/out" "$right" && called 1 &&
+        [ "$(grep 'program' "$work/err")" = 'dates: 4 of 4: program is proved since before' ] && tail -n 1 "$work/err" | grep -q '^dates: proved and built in '
+}
+one "where the header has another version, it is built again" builds_from_archive
 echo 7.8.9 >"$tree/target/built"
 forget
-one "where the stamp is not whole, too" says_each_crate
-rm -f "$tree/target/bin/dates"
+one "where the stamp is not whole, too" builds_from_archive
+rm -f "$tree/target/dates"
 forget
-one "where the program is gone, too" says_each_crate
+one "where the program is gone, too" builds_from_archive
+rm -f "$tree/target/staticlib/libprogram.a" "$tree/target/built"
+forget
+one "where its archive is gone, that is made again" says_each_crate
 
 # ---- The way to it.
 # Sets took to the microseconds of one run over the season's script.

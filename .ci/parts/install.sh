@@ -1,24 +1,25 @@
 #!/usr/bin/env bash
 # The installed product. A copy of the tree, with what is proved and built, is installed into an empty folder and taken away; then the program and the library do what
-# they should from there alone. rt ci and host.sh, which come before, have built the program and the library; a stand-in for rt says so in the copy, and nothing is
-# proved here, but that on Arm host/native.sh builds the two anew.
+# they should from there alone: also the program on every case and generated script, with its streams and its status. first.sh and host.sh, which come before, have built the
+# program and the library; a stand-in for rt says so in the copy, and nothing is proved here, but that on Arm host/native.sh builds the two anew.
 set -u
 CDPATH='' cd -- "$(dirname -- "${BASH_SOURCE[0]}")/../.." || exit 1
 . host/tools.sh
 . host/counting.sh
+. host/streams.sh
 work=$(mktemp -d) || exit 1
 trap 'rm -rf "$work"' EXIT
 chmod 755 "$work"
 
-[ -x "target/bin/$PROGRAM" ] && [ -f "$ARCHIVE" ] || stop "there is no target/bin/$PROGRAM or $ARCHIVE; tools/build program library makes them"
+[ -f "$PROGRAM_ARCHIVE" ] && [ -f "$ARCHIVE" ] || stop "there is no $PROGRAM_ARCHIVE or $ARCHIVE; tools/build program library makes them"
 command -v cc >/dev/null || get_packages gcc libc6-dev || stop "there is no C compiler"
 command -v pkg-config >/dev/null || get_packages pkg-config || stop "there is no pkg-config"
 
 # ---- A copy of the tree, which is installed and goes.
 tree=$work/tree prefix="$work/a home/.local" home="$work/a home"
 mkdir -p "$tree/target" "$home"
-built=(bin obj staticlib)
-[ "$machine" = x86_64 ] || built+=(rlib stamp)
+built=(staticlib stamp)
+[ "$machine" = x86_64 ] || built+=(rlib)
 cp -a dates install tools host include docs examples crates crates.txt CHANGES.md "$tree/" && (cd target && cp -a "${built[@]}" "$tree/target/") || stop "no copy of the tree"
 version=$(version_of_header)
 mkdir "$work/bin"
@@ -123,6 +124,19 @@ cp "$season" "$work/secret.smt2" && chmod 000 "$work/secret.smt2"
 as_nobody=()
 [ "$(id -u)" != 0 ] || as_nobody=(setpriv --reuid=65534 --regid=65534 --clear-groups)
 one "bin/dates refuses a file that may not be read" refuses "$work/secret.smt2 may not be read" "${as_nobody[@]}" "$prefix/bin/dates" "$work/secret.smt2"
+try_streams bin/dates env -i "$prefix/bin/dates"
+by_name() { run dates "$work/long.smt2" && ended 0 && cmp "$work/part" "$work/long.out"; }
+one "bin/dates: a long script by its name" by_name
+no_help() { dates --help >/dev/full 2>"$work/said"; [ $? = 2 ]; }
+one "bin/dates: help that cannot be written, status 2" no_help
+# The independent reader says what each script prints; host/test has built it, here it is built without the exported entry.
+on_every_script() {
+    echo "$prefix/bin/dates" >"$work/words"
+    "$BUILT_NATIVE/test-scripts" --program "$work/words" --folder "$work" --count 200 >"$work/tested" 2>&1 && tail -n 1 "$work/tested" | grep -qE '^[0-9]{4,} passed, 0 failed$' || { tail -n 20 "$work/tested"; return 1; }
+}
+build_tests() { need_native && build_native test-scripts --no-default-features; }
+one "the tests of scripts build for this machine" build_tests
+one "bin/dates on every case and generated script" on_every_script
 static() { ! readelf -lW "$prefix/bin/dates" | grep -q INTERP; }
 one "bin/dates is linked statically" static
 

@@ -1,17 +1,22 @@
 /*
  * The installed program: the words of its command line, and then the proved function, which reads standard input, writes the answers and gives the status. What stands
- * here is not proved; it opens a file as standard input, or says what it cannot do, and that is all.
+ * here is not proved; it opens a file as standard input, or says what it cannot do, and that is all. A write that the system answers by a signal is to fail instead, so
+ * that the function can say so.
  */
 #define _POSIX_C_SOURCE 200809L
 #include "dates.h"
 
 #include <errno.h>
 #include <fcntl.h>
+#include <signal.h>
 #include <string.h>
 #include <sys/stat.h>
 #include <unistd.h>
 
-uint32_t dates_main(void);
+uint32_t dates_main(uint8_t *text, size_t length);
+
+/* Room for the text, one byte more than a script may have: no page of it is touched that is not read into. */
+static uint8_t script[DATES_TEXT + 1];
 
 static const char usage[] =
     "usage: dates [FILE]\n"
@@ -22,7 +27,8 @@ static const char usage[] =
     "  --version    print the version\n"
     "  --help       print this\n"
     "\n"
-    "Exit status 2: what was asked for cannot be read, or is not in this form; nothing was run.\n"
+    "Exit status: 0 the script came to its end or to exit; 1 a refusal, (error \"N\"), ended it; 2 the script\n"
+    "cannot be read, an answer cannot be written, or the words are not in this form.\n"
     "The manual page dates(1) says what is read and printed.\n";
 
 /* Writes a text to a descriptor, and gives the status to end with. */
@@ -92,6 +98,9 @@ static int see_to(int count, char **words)
 
 int main(int count, char **words)
 {
-    int status = see_to(count, words);
-    return status >= 0 ? status : (int)dates_main();
+    int status;
+    signal(SIGPIPE, SIG_IGN);
+    signal(SIGXFSZ, SIG_IGN);
+    status = see_to(count, words);
+    return status >= 0 ? status : (int)dates_main(script, sizeof script);
 }

@@ -17,14 +17,14 @@ use Rattle.script_run.proofs.Printing.{first-same, prints, after-both}
 
 module _ (s : List ℕ) where
   -- From place i to place j the bytes b are printed, and the same into any other bytes that have room for them and for one command more.
-  record Comes (i : ℕ) (l : Lent) (k j : ℕ) (m : Lent) (v : ℕ) : Type 0 where
-    printed : List ℕ
-    long : k + length printed ≡ v
-    there : m .out ≡ over (l .out) k printed
-    elsewhere :
+  pub record Comes (i : ℕ) (l : Lent) (k j : ℕ) (m : Lent) (v : ℕ) : Type 0 where
+    pub printed : List ℕ
+    pub long : k + length printed ≡ v
+    pub there : m .out ≡ over (l .out) k printed
+    pub elsewhere :
         (o : List ℕ) (h : ℕ) → h + length printed + ROOM ≤ length o → Reaches s i (with-out o l) h j (with-out (over o h printed) m) (h + length printed)
 
-  comes : (i : ℕ) (l : Lent) (k j : ℕ) (m : Lent) (v : ℕ) → Reaches s i l k j m v → Comes i l k j m v
+  pub comes : (i : ℕ) (l : Lent) (k j : ℕ) (m : Lent) (v : ℕ) → Reaches s i l k j m v → Comes i l k j m v
   comes i l k j m v (Reaches.there _ _ _) = record {
     printed = [];
     long = omega arith;
@@ -52,13 +52,13 @@ module _ (s : List ℕ) where
       }
 
   -- A script that ends prints the bytes b, and the same into any other bytes that have room for them and for one command more.
-  record Ends (i : ℕ) (l : Lent) (k g w : ℕ) (out : List ℕ) : Type 0 where
-    printed : List ℕ
-    long : k + length printed ≡ w
-    there : out ≡ over (l .out) k printed
-    elsewhere : (o : List ℕ) (h : ℕ) → h + length printed + ROOM ≤ length o → Plays s i (with-out o l) h g (h + length printed) (over o h printed)
+  pub record Ends (i : ℕ) (l : Lent) (k g w : ℕ) (out : List ℕ) : Type 0 where
+    pub printed : List ℕ
+    pub long : k + length printed ≡ w
+    pub there : out ≡ over (l .out) k printed
+    pub elsewhere : (o : List ℕ) (h : ℕ) → h + length printed + ROOM ≤ length o → Plays s i (with-out o l) h g (h + length printed) (over o h printed)
 
-  ends : (i : ℕ) (l : Lent) (k g w : ℕ) (out : List ℕ) → Plays s i l k g w out → (g ≡ SHORT → ⊥) → Ends i l k g w out
+  pub ends : (i : ℕ) (l : Lent) (k g w : ℕ) (out : List ℕ) → Plays s i l k g w out → (g ≡ SHORT → ⊥) → Ends i l k g w out
   ends i l k g w out (Plays.at-end _ _ _ over-here) other = record {
     printed = [];
     long = omega arith;
@@ -110,7 +110,7 @@ module _ (s : List ℕ) where
       }
 
   -- What a part hands on is what it printed.
-  handed-on : (l out : List ℕ) (w : ℕ) (b : List ℕ) → 0 + length b ≡ w → out ≡ over l 0 b → w ≤ length l → take w out ≡ b
+  pub handed-on : (l out : List ℕ) (w : ℕ) (b : List ℕ) → 0 + length b ≡ w → out ≡ over l 0 b → w ≤ length l → take w out ≡ b
   handed-on l out w b long is room =
       let all : w ≡ length b = omega (arith, long) in
       ap (λ (x : List ℕ). take w x) is ∙ ap (λ (x : ℕ). take x (over l 0 b)) all ∙ part-written l 0 b (omega (arith, long, room))

@@ -4,7 +4,7 @@ use reader::Answer;
 use std::io::Write;
 use std::process::{Command, Stdio};
 
-/// A thing that runs scripts. The program does not tell the number it ended with: its answer has the one of its last line.
+/// A thing that runs scripts. The program tells by its status whether a refusal ended it, and not the number: its answer has the one of its last line.
 pub trait Engine {
     fn name(&self) -> &'static str;
     fn run(&self, script: &[u8]) -> Result<Answer, String>;
@@ -36,10 +36,11 @@ impl Engine for Program {
         let writer = std::thread::spawn(move || text.chunks(chunk).all(|part| input.write_all(part).is_ok()));
         let ended = child.wait_with_output().map_err(|why| why.to_string())?;
         let _ = writer.join();
-        if !ended.status.success() || !ended.stderr.is_empty() {
-            return Err(format!("the program ended with {} and said {:?}", ended.status, String::from_utf8_lossy(&ended.stderr)));
-        }
         let end = last_error(&ended.stdout);
+        let status = if end == reader::DONE { 0 } else { 1 };
+        if ended.status.code() != Some(status) || !ended.stderr.is_empty() {
+            return Err(format!("the program ended with {}, not {}, and said {:?}", ended.status, status, String::from_utf8_lossy(&ended.stderr)));
+        }
         Ok(Answer { out: ended.stdout, end })
     }
 }

@@ -1,0 +1,27 @@
+-- Fresh tables, with the counts and the record as their constructors give them, are those of a whole script, and sound.
+use Prim.Native.Nat.{ℕ, _*_}
+use mathlib.Core.Path.{_≡_, sym, _∙_, ap, subst}
+use mathlib.Core.List.{List}
+use lib.ListN.{replicate}
+use lib.IntN.{pos}
+use Rattle.meaning.specs.Bounds.{STEPS, RULES, MARKS, NAME-BYTES}
+use Rattle.meaning.specs.Tables.{steps-alone}
+use Rattle.meaning.specs.declared.Counts.{Counts}
+use Rattle.script_meaning.specs.declared.Notes.{Notes}
+use Rattle.script_meaning.specs.Record.{Lent, no-notes}
+use Rattle.script_meaning.specs.Whole.{blank}
+use Rattle.script_command.specs.Carrying.{in-hand, Maintained}
+use Rattle.script_run.proofs.Fresh.{zeros, first-counts, first-hand, first-is, fresh-tables}
+
+abbrev pub hand : Counts → Notes → List ℕ → Lent
+hand counts notes out = in-hand counts (zeros RULES) (zeros RULES) (replicate RULES (pos 0)) (zeros STEPS) (zeros MARKS) notes (zeros (NAME-BYTES * STEPS)) (zeros STEPS) out
+
+module _ (out : List ℕ) (counts : Counts) (notes : Notes) (few : counts ≡ steps-alone STEPS) (none : notes ≡ no-notes) where
+  hand-is : hand counts notes out ≡ first-hand out
+  hand-is = ap (λ (x : Counts). hand x notes out) few ∙ ap (λ (y : Notes). hand first-counts y out) none
+
+  pub hand-blank : hand counts notes out ≡ blank out
+  hand-blank = hand-is ∙ first-is out
+
+  pub hand-kept : {kept : List ℕ} → Maintained (hand counts notes out) (zeros 256) (zeros 4096) kept (zeros 256) (zeros 256) (zeros 256)
+  hand-kept {kept} = subst (λ (l : Lent). Maintained l (zeros 256) (zeros 4096) kept (zeros 256) (zeros 256) (zeros 256)) (sym hand-is) (fresh-tables out)
