@@ -26,9 +26,19 @@ slice-aggregate-verdict-4 c = search needs
 slice-aggregate-verdict-5 : tie.Need-slice-aggregate-verdict-5
 slice-aggregate-verdict-5 c = search needs
 
+-- Places of the code, seen from later ones.
+abbrev verdict-before-name-nexts2 : tie.After-name-nexts2 → tie.After-verdict
+verdict-before-name-nexts2 c = c .before .before .before .before .before
+
+abbrev start-before-name-nexts : tie.After-name-nexts → tie.Start
+start-before-name-nexts c = c .before .before .before .before .before .before .before .before .before .before .before .before .before .before .before .before .before .before .before .before .before .before .before
+
+abbrev carry-before-read-of : tie.After-read-of → tie.After-carry
+carry-before-read-of c = c .before .before .before .before .before .before .before .before .before .before .before .before .before .before .before .before .before .before .before .before .before .before .before .before
+
 verdict-requires : tie.Need-verdict-requires
 verdict-requires c κs =
-    let start = c .before .before .before .before .before .before .before .before .before .before .before .before .before .before .before .before .before .before .before .before .before .before .before in
+    let start = start-before-name-nexts c in
     (start .pre, (omega (arith, length-replicate {A = ℕ} STEPS 0), (omega (arith, length-replicate {A = ℕ} RULES 0), record { hashes-room = omega (arith, length-replicate {A = ℕ} STEPS 0); heads-room = omega (arith, length-replicate {A = ℕ} STEPS 0); nexts-room = omega (arith, length-replicate {A = ℕ} STEPS 0) })))
 
 same-length : tie.Need-same-length
@@ -57,13 +67,13 @@ same-length-8 c = search needs
 
 returns : tie.Need-returns
 returns c =
-    let verdict = c .before .before .before .before .before .before .verdict in
+    let verdict = verdict-before-name-nexts2 (c .before) .verdict in
     let if1 = c .if1 in
     not-entered _ _ (verdict .result) (λ e. omega (arith, e, if1 .taken)) (verdict .ensures .never-conflict) (verdict .ensures .refused (λ e. omega (arith, e, if1 .taken)))
 
 span-of-requires : tie.Need-span-of-requires
 span-of-requires c κs =
-    let start = c .before .before .before .before .before .before .before .before .before .before .before .before .before .before .before .before .before .before .before .before .before .before .before .before .before .before .before .before .before .before in
+    let start = start-before-name-nexts (verdict-before-name-nexts2 (c .before) .before) in
     start .pre
 
 sub-carry : tie.Need-sub-carry
@@ -74,7 +84,7 @@ part-carry-start c = search needs
 
 part-carry-end : tie.Need-part-carry-end
 part-carry-end c =
-    let start = c .before .before .before .before .before .before .before .before .before .before .before .before .before .before .before .before .before .before .before .before .before .before .before .before .before .before .before .before .before .before .before in
+    let start = start-before-name-nexts (verdict-before-name-nexts2 (c .before .before) .before) in
     omega (arith, c .span-of .ensures, span-within (start .args .text .now))
 
 slice-aggregate-carry : tie.Need-slice-aggregate-carry
@@ -97,9 +107,11 @@ slice-aggregate-carry-6 c = search needs
 
 carry-requires : tie.Need-carry-requires
 carry-requires c κs =
-    let verdict = c .before .before .before .before .before .before .before .before .before .before .before .before .before .before .before .before .before .before .before .before .before .before .verdict in
-    let if1 = c .before .before .before .before .before .before .before .before .before .before .before .before .before .before .before .before .if1 in
-    let start = c .before .before .before .before .before .before .before .before .before .before .before .before .before .before .before .before .before .before .before .before .before .before .before .before .before .before .before .before .before .before .before .before .before .before .before .before .before .before .before .before .before .before .before .before .before .before in
+    let else1 = c .before .before .before .before .before .before .before .before .before .before .before .before .before .before .before .before in
+    let if1 = else1 .if1 in
+    let at-verdict = verdict-before-name-nexts2 (else1 .before) in
+    let verdict = at-verdict .verdict in
+    let start = start-before-name-nexts (at-verdict .before) in
     let z : verdict .result ≡ 0 = omega (arith, if1 .left) in
     let st = verdict .ensures .stands z in
     let fine = idle-fine (verdict .ensures .room z .start-room) (st .sound) in
@@ -110,51 +122,54 @@ read-of-requires c κs = search needs
 
 same-length-9 : tie.Need-same-length-9
 same-length-9 c =
-    let carry = c .before .before .before .before .before .before .before .before .before .before .before .before .before .before .before .before .before .before .before .before .before .before .before .before .carry in
+    let carry = carry-before-read-of c .carry in
     carry .kept .1 .1 .1 .1 .0
 
 same-length-10 : tie.Need-same-length-10
 same-length-10 c =
-    let carry = c .before .before .before .before .before .before .before .before .before .before .before .before .before .before .before .before .before .before .before .before .before .before .before .before .carry in
+    let carry = carry-before-read-of c .carry in
     carry .kept .1 .1 .1 .1 .1 .0
 
 same-length-11 : tie.Need-same-length-11
 same-length-11 c =
-    let carry = c .before .before .before .before .before .before .before .before .before .before .before .before .before .before .before .before .before .before .before .before .before .before .before .before .carry in
+    let carry = carry-before-read-of c .carry in
     carry .kept .1 .1 .1 .1 .1 .1 .0
 
 same-length-12 : tie.Need-same-length-12
 same-length-12 c =
-    let carry = c .before .before .before .before .before .before .before .before .before .before .before .before .before .before .before .before .before .before .before .before .before .before .before .before .carry in
+    let carry = carry-before-read-of c .carry in
     carry .kept .1 .1 .1 .1 .1 .1 .1 .0
 
 same-length-13 : tie.Need-same-length-13
 same-length-13 c =
-    let carry = c .before .before .before .before .before .before .before .before .before .before .before .before .before .before .before .before .before .before .before .before .before .before .before .before .carry in
+    let carry = carry-before-read-of c .carry in
     carry .kept .1 .1 .1 .1 .1 .1 .1 .1 .0
 
 same-length-14 : tie.Need-same-length-14
 same-length-14 c =
-    let carry = c .before .before .before .before .before .before .before .before .before .before .before .before .before .before .before .before .before .before .before .before .before .before .before .before .carry in
+    let carry = carry-before-read-of c .carry in
     carry .kept .1 .1 .1 .1 .1 .1 .1 .1 .1 .1 .1 .1 .0
 
 same-length-15 : tie.Need-same-length-15
 same-length-15 c =
-    let carry = c .before .before .before .before .before .before .before .before .before .before .before .before .before .before .before .before .before .before .before .before .before .before .before .before .carry in
+    let carry = carry-before-read-of c .carry in
     carry .kept .1 .1 .1 .1 .1 .1 .1 .1 .1 .1 .1 .1 .1 .0
 
 same-length-16 : tie.Need-same-length-16
 same-length-16 c =
-    let carry = c .before .before .before .before .before .before .before .before .before .before .before .before .before .before .before .before .before .before .before .before .before .before .before .before .carry in
+    let carry = carry-before-read-of c .carry in
     carry .kept .1 .1 .1 .1 .1 .1 .1 .1 .1 .1 .1 .1 .1 .1 .1 .1 .1 .0
 
 returns-2 : tie.Need-returns-2
 returns-2 c =
-    let verdict = c .before .before .before .before .before .before .before .before .before .before .before .before .before .before .before .before .before .before .before .before .before .before .before .before .before .before .before .before .before .before .before .before .before .before .before .before .before .before .before .before .before .before .before .before .before .before .before .verdict in
-    let if1 = c .before .before .before .before .before .before .before .before .before .before .before .before .before .before .before .before .before .before .before .before .before .before .before .before .before .before .before .before .before .before .before .before .before .before .before .before .before .before .before .before .before .if1 in
-    let start = c .before .before .before .before .before .before .before .before .before .before .before .before .before .before .before .before .before .before .before .before .before .before .before .before .before .before .before .before .before .before .before .before .before .before .before .before .before .before .before .before .before .before .before .before .before .before .before .before .before .before .before .before .before .before .before .before .before .before .before .before .before .before .before .before .before .before .before .before .before .before .before in
-    let carry = c .before .before .before .before .before .before .before .before .before .before .before .before .before .before .before .before .before .before .before .before .before .before .before .before .carry in
-    let span-of = c .before .before .before .before .before .before .before .before .before .before .before .before .before .before .before .before .before .before .before .before .before .before .before .before .before .before .before .before .before .before .before .before .before .before .before .before .before .before .before .before .span-of in
+    let at-carry = carry-before-read-of c in
+    let carry = at-carry .carry in
+    let at-span-of = at-carry .before .before .before .before .before .before .before .before .before .before .before .before .before .before .before .before in
+    let span-of = at-span-of .span-of in
+    let if1 = at-span-of .before .if1 in
+    let at-verdict = verdict-before-name-nexts2 (at-span-of .before .before) in
+    let verdict = at-verdict .verdict in
+    let start = start-before-name-nexts (at-verdict .before) in
     let z : verdict .result ≡ 0 = omega (arith, if1 .left) in
     let st = verdict .ensures .stands z in
     commanded (start .args .text .now) _ _ _ (carry .result) (span-of .result) _ (verdict .ensures .room z) (st .sound) (verdict .ensures .begins z) (span-of .ensures) (own-part _ _ (span-of .ensures)) (c .read-of .ensures) (carries-watching (columns (start .args .wxs .now) (start .args .wys .now) (start .args .wcs .now)) (carry .ensures .0))

@@ -16,13 +16,17 @@ start-room-requires : tie.Need-start-room-requires
 start-room-requires c κs = search needs
 
 returns : tie.Need-returns
-returns c = λ counts notes. decides-no refl (λ h. c .before .start-room .ensures counts notes (c .before .before .before .before .before .before .before .before .before .before .before .args .out .now) .not-so (not-true _ (c .if1 .taken)) (h .start-room))
+returns c =
+    let start = c .before .before .before .before .before .before .before .before .before .before .before in
+    λ counts notes. decides-no refl (λ h. c .before .start-room .ensures counts notes (start .args .out .now) .not-so (not-true _ (c .if1 .taken)) (h .start-room))
 
 returns-2 : tie.Need-returns-2
-returns-2 c = λ counts notes. record {
-  so = λ e. record { start-room = c .before .start-room .ensures counts notes (c .before .before .before .before .before .before .before .before .before .before .before .args .out .now) .so (not-false _ (c .if1 .left)); out-room = leb-true ROOM (length (c .before .before .before .before .before .before .before .before .before .before .before .args .out .now)) e };
-  not-so = λ e h. omega (arith, leb-false ROOM (length (c .before .before .before .before .before .before .before .before .before .before .before .args .out .now)) e, h .out-room);
-}
+returns-2 c =
+    let start = c .before .before .before .before .before .before .before .before .before .before .before in
+    λ counts notes. record {
+      so = λ e. record { start-room = c .before .start-room .ensures counts notes (start .args .out .now) .so (not-false _ (c .if1 .left)); out-room = leb-true ROOM (length (start .args .out .now)) e };
+      not-so = λ e h. omega (arith, leb-false ROOM (length (start .args .out .now)) e, h .out-room);
+    }
 
 pub command-room-spec : {M : Type 1} → statement M
 command-room-spec = tie.close (tie.spec start-room-requires returns returns-2)

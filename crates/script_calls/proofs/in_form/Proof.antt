@@ -30,20 +30,29 @@ returns-3 : tie.Need-returns-3
 returns-3 c = decides-no refl (λ h. c .if3 .taken (ap (λ (t : Tok). t .from) (c .before .before .before .before .token .ensures ∙ h .symbol)))
 
 returns-4 : tie.Need-returns-4
-returns-4 c = decides-no refl (λ h. c .if4 .taken (ap (λ (t : Tok). t .to) (c .before .before .before .before .before .before .token .ensures ∙ h .symbol)))
+returns-4 c =
+    let token = c .before .before .before .before .before .before .token in
+    decides-no refl (λ h. c .if4 .taken (ap (λ (t : Tok). t .to) (token .ensures ∙ h .symbol)))
 
 is-reserved-requires : tie.Need-is-reserved-requires
 is-reserved-requires c κs = search needs
 
 returns-5 : tie.Need-returns-5
-returns-5 c = decides-no refl (λ h. true≢false (sym (c .if5 .taken) ∙ (c .before .is-reserved .ensures ∙ (ap reserved (whole (c .before .before .before .before .before .before .before .before .before .before .before .args .w .now)) ∙ h .not-reserved))))
+returns-5 c =
+    let start = c .before .before .before .before .before .before .before .before .before .before .before in
+    decides-no refl (λ h. true≢false (sym (c .if5 .taken) ∙ (c .before .is-reserved .ensures ∙ (ap reserved (whole (start .args .w .now)) ∙ h .not-reserved))))
 
 returns-6 : tie.Need-returns-6
-returns-6 c = decides-yes refl (record {
-  symbol = sym (c .before .before .before .before .before .before .before .before .token .ensures) ∙ tok-is (c .before .before .before .before .before .before .before .before .token .result) _ _ _ (c .before .before .before .before .before .before .if2 .left) (c .before .before .before .before .if3 .left) (c .before .before .if4 .left);
-  not-reserved = sym (c .before .is-reserved .ensures ∙ ap reserved (whole (c .before .before .before .before .before .before .before .before .before .before .before .args .w .now))) ∙ c .if5 .left;
-  short = omega (arith, c .before .before .before .before .before .before .before .before .before .if1 .left);
-})
+returns-6 c =
+    let else2 = c .before .before .before .before .before .before in
+    let at-token = else2 .before .before in
+    let if1 = at-token .before .if1 in
+    let start = at-token .before .before .before in
+    decides-yes refl (record {
+      symbol = sym (at-token .token .ensures) ∙ tok-is (at-token .token .result) _ _ _ (else2 .if2 .left) (c .before .before .before .before .if3 .left) (c .before .before .if4 .left);
+      not-reserved = sym (c .before .is-reserved .ensures ∙ ap reserved (whole (start .args .w .now))) ∙ c .if5 .left;
+      short = omega (arith, if1 .left);
+    })
 
 pub in-form-spec : {M : Type 1} → statement M
 in-form-spec =

@@ -41,8 +41,9 @@ in-form-requires c κs = search needs
 
 returns-2 : tie.Need-returns-2
 returns-2 c =
+    let start = c .before .before .before .before .before .before in
     decides-same (λ f. record { short = omega (arith, c .before .before .if1 .left); in-form = f }) (λ h. h .in-form)
-    (rw (name-bytes (c .before .before .before .before .before .before .args .names .now) (c .before .before .before .before .before .before .args .lens .now) (c .before .before .before .before .before .before .args .k)) at (c .in-form .ensures))
+    (rw (name-bytes (start .args .names .now) (start .args .lens .now) (start .args .k)) at (c .in-form .ensures))
 
 pub name-fine-spec : {M : Type 1} → statement M
 name-fine-spec =

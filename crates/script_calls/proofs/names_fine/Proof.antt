@@ -23,7 +23,9 @@ loop-holds : tie.Need-loop-holds Inv-loop μ-loop
 loop-holds c = (omega arith, below-none _)
 
 name-fine-requires : tie.Need-name-fine-requires Inv-loop μ-loop
-name-fine-requires c κs = (c .before .before .before .before .pre .0, (c .before .before .before .before .pre .1 .0, omega (arith, c .loop-test .taken, c .before .before .before .before .pre .1 .1)))
+name-fine-requires c κs =
+    let start = c .before .before .before .before in
+    (start .pre .0, (start .pre .1 .0, omega (arith, c .loop-test .taken, start .pre .1 .1)))
 
 returns : tie.Need-returns Inv-loop μ-loop
 returns c = decides-no refl (λ h. c .before .name-fine .ensures .not-so (not-true (c .before .name-fine .result) (c .if1 .taken)) (h (c .before .before .before .loop .k) (c .before .before .loop-test .taken)))
@@ -35,7 +37,9 @@ loop-less : tie.Need-loop-less Inv-loop μ-loop
 loop-less c = search needs
 
 loop-again : tie.Need-loop-again Inv-loop μ-loop
-loop-again c = (omega (arith, c .before .before .loop-test .taken), below-more _ (c .before .before .before .loop .k) (c .before .before .before .loop .inv .1) (c .before .name-fine .ensures .so (not-false (c .before .name-fine .result) (c .if1 .left))))
+loop-again c =
+    let loop = c .before .before .before .loop in
+    (omega (arith, c .before .before .loop-test .taken), below-more _ (loop .k) (loop .inv .1) (c .before .name-fine .ensures .so (not-false (c .before .name-fine .result) (c .if1 .left))))
 
 returns-2 : tie.Need-returns-2 Inv-loop μ-loop
 returns-2 c = decides-yes refl (λ i h. c .before .loop .inv .1 i (omega (arith, c .loop-test .left)))

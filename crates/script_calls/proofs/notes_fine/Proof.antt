@@ -28,13 +28,19 @@ returns-3 : tie.Need-returns-3
 returns-3 c = decides-no refl (λ h. omega (arith, h .level-open, c .if3 .taken))
 
 returns-4 : tie.Need-returns-4
-returns-4 c = decides-yes refl (record { all-steps = c .before .before .before .before .before .before .before .if1 .left; names-in = omega (arith, c .before .before .before .before .before .if2 .left); level-open = omega (arith, c .before .before .if3 .left); no-sat = λ no. absurd (no (c .if4 .taken)) })
+returns-4 c =
+    let else2 = c .before .before .before .before .before in
+    let if1 = else2 .before .before .if1 in
+    decides-yes refl (record { all-steps = if1 .left; names-in = omega (arith, else2 .if2 .left); level-open = omega (arith, c .before .before .if3 .left); no-sat = λ no. absurd (no (c .if4 .taken)) })
 
 returns-5 : tie.Need-returns-5
 returns-5 c = decides-no refl (λ h. true≢false (sym (c .if5 .taken) ∙ h .no-sat (c .before .if4 .left)))
 
 returns-6 : tie.Need-returns-6
-returns-6 c = decides-yes refl (record { all-steps = c .before .before .before .before .before .before .before .before .if1 .left; names-in = omega (arith, c .before .before .before .before .before .before .if2 .left); level-open = omega (arith, c .before .before .before .if3 .left); no-sat = λ no. c .if5 .left })
+returns-6 c =
+    let else2 = c .before .before .before .before .before .before in
+    let if1 = else2 .before .before .if1 in
+    decides-yes refl (record { all-steps = if1 .left; names-in = omega (arith, else2 .if2 .left); level-open = omega (arith, c .before .before .before .if3 .left); no-sat = λ no. c .if5 .left })
 
 pub notes-fine-spec : {M : Type 1} → statement M
 notes-fine-spec =

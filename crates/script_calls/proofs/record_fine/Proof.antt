@@ -19,6 +19,10 @@ use Rattle.script_calls.proofs.notes_fine.Reads as notes-fine-reads
 notes-fine-requires : tie.Need-notes-fine-requires
 notes-fine-requires c κs = search needs
 
+-- Places of the code, seen from later ones.
+abbrev start-before-else1 : tie.Else1 → tie.Start
+start-before-else1 c = c .before .before .before .before .before .before .before
+
 returns : tie.Need-returns
 returns c = record { decides = decides-no refl (λ h. c .before .notes-fine .ensures .not-so (not-true _ (c .if1 .taken)) (h .notes-fine)); indexed = λ e. absurd (false≢true e) }
 
@@ -26,16 +30,29 @@ cast-n : tie.Need-cast-n
 cast-n c = search needs
 
 names-fine-requires : tie.Need-names-fine-requires
-names-fine-requires c κs = (c .before .before .before .before .before .before .before .before .pre .0, (c .before .before .before .before .before .before .before .before .pre .1 .0, c .before .before .notes-fine .ensures .so (not-false _ (c .before .if1 .left)) .names-in))
+names-fine-requires c κs =
+    let start = start-before-else1 (c .before) in
+    (start .pre .0, (start .pre .1 .0, c .before .before .notes-fine .ensures .so (not-false _ (c .before .if1 .left)) .names-in))
 
 returns-2 : tie.Need-returns-2
 returns-2 c = record { decides = decides-no refl (λ h. c .before .names-fine .ensures .not-so (not-true _ (c .if2 .taken)) (h .names-fine)); indexed = λ e. absurd (false≢true e) }
 
 index-requires : tie.Need-index-requires
-index-requires c κs = (shelved _ _ _ (c .before .before .before .before .before .before .before .before .before .before .before .before .before .pre .1 .0) (c .before .before .before .before .before .before .before .notes-fine .ensures .so (not-false _ (c .before .before .before .before .before .before .if1 .left)) .names-in) (c .before .before .before .before .names-fine .ensures .so (not-false _ (c .before .before .before .if2 .left))), c .before .before .before .before .before .before .before .before .before .before .before .before .before .pre .1 .1)
+index-requires c κs =
+    let else1 = c .before .before .before .before .before .before in
+    let notes-fine = else1 .before .notes-fine in
+    let start = start-before-else1 else1 in
+    (shelved _ _ _ (start .pre .1 .0) (notes-fine .ensures .so (not-false _ (else1 .if1 .left)) .names-in) (c .before .before .before .before .names-fine .ensures .so (not-false _ (c .before .before .before .if2 .left))), start .pre .1 .1)
 
 different-requires : tie.Need-different-requires
-different-requires c κs = (shelved _ _ _ (c .before .before .before .before .before .before .before .before .before .before .before .before .before .before .before .before .before .before .before .before .before .before .before .pre .1 .0) (c .before .before .before .before .before .before .before .before .before .before .before .before .before .before .before .before .before .notes-fine .ensures .so (not-false _ (c .before .before .before .before .before .before .before .before .before .before .before .before .before .before .before .before .if1 .left)) .names-in) (c .before .before .before .before .before .before .before .before .before .before .before .before .before .before .names-fine .ensures .so (not-false _ (c .before .before .before .before .before .before .before .before .before .before .before .before .before .if2 .left))), c .before .before .before .before .before .before .before .before .before .index .ensures)
+different-requires c κs =
+    let at-index = c .before .before .before .before .before .before .before .before .before in
+    let else2 = at-index .before .before .before .before in
+    let names-fine = else2 .before .names-fine in
+    let else1 = else2 .before .before .before in
+    let notes-fine = else1 .before .notes-fine in
+    let start = start-before-else1 else1 in
+    (shelved _ _ _ (start .pre .1 .0) (notes-fine .ensures .so (not-false _ (else1 .if1 .left)) .names-in) (names-fine .ensures .so (not-false _ (else2 .if2 .left))), at-index .index .ensures)
 
 same-length : tie.Need-same-length
 same-length c = search needs
@@ -47,10 +64,16 @@ same-length-3 : tie.Need-same-length-3
 same-length-3 c = search needs
 
 returns-3 : tie.Need-returns-3
-returns-3 c = record {
-  decides = decides-same (λ d. record { notes-fine = c .before .before .before .before .before .before .before .before .before .before .before .before .before .before .before .before .before .before .notes-fine .ensures .so (not-false _ (c .before .before .before .before .before .before .before .before .before .before .before .before .before .before .before .before .before .if1 .left)); names-fine = c .before .before .before .before .before .before .before .before .before .before .before .before .before .before .before .names-fine .ensures .so (not-false _ (c .before .before .before .before .before .before .before .before .before .before .before .before .before .before .if2 .left)); different = d }) (λ h. h .different) (c .different .ensures);
-  indexed = λ e. c .before .before .before .before .before .before .before .before .before .before .index .ensures;
-}
+returns-3 c =
+    let at-index = c .before .before .before .before .before .before .before .before .before .before in
+    let else2 = at-index .before .before .before .before in
+    let names-fine-there = else2 .before .names-fine in
+    let else1 = else2 .before .before .before in
+    let notes-fine-there = else1 .before .notes-fine in
+    record {
+      decides = decides-same (λ d. record { notes-fine = notes-fine-there .ensures .so (not-false _ (else1 .if1 .left)); names-fine = names-fine-there .ensures .so (not-false _ (else2 .if2 .left)); different = d }) (λ h. h .different) (c .different .ensures);
+      indexed = λ e. at-index .index .ensures;
+    }
 
 pub record-fine-spec : {M : Type 1} → statement M
 record-fine-spec =

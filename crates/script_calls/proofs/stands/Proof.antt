@@ -23,11 +23,19 @@ same-length c = search needs
 same-length-2 : tie.Need-same-length-2
 same-length-2 c = search needs
 
+-- Places of the code, seen from later ones.
+abbrev start-before-else1 : tie.Else1 → tie.Start
+start-before-else1 c = c .before .before .before .before .before .before .before .before .before .before .before .before .before .before .before .before .before .before .before .before .before
+
 returns : tie.Need-returns
-returns c = λ out. record { decides = decides-no refl (λ h. c .before .before .before .before .before .is-sound .ensures .decides .not-so (not-true _ (c .if1 .taken)) (h .tables-sound)); stands = λ e. absurd (false≢true e) }
+returns c =
+    let is-sound = c .before .before .before .before .before .is-sound in
+    λ out. record { decides = decides-no refl (λ h. is-sound .ensures .decides .not-so (not-true _ (c .if1 .taken)) (h .tables-sound)); stands = λ e. absurd (false≢true e) }
 
 record-fine-requires : tie.Need-record-fine-requires
-record-fine-requires c κs = (c .before .before .before .before .before .before .before .before .before .before .before .before .before .before .before .before .before .before .before .before .before .before .before .before .pre .0, (c .before .before .before .before .before .before .before .before .before .before .before .before .before .before .before .before .before .before .before .before .before .before .before .before .pre .1 .1 .0, c .before .before .before .before .before .before .before .before .before .before .before .before .before .before .before .before .before .before .before .before .before .before .before .before .pre .1 .1 .1 .1 .1))
+record-fine-requires c κs =
+    let start = start-before-else1 (c .before .before .before) in
+    (start .pre .0, (start .pre .1 .1 .0, start .pre .1 .1 .1 .1 .1))
 
 same-length-3 : tie.Need-same-length-3
 same-length-3 c = search needs
@@ -45,18 +53,23 @@ same-length-7 : tie.Need-same-length-7
 same-length-7 c = search needs
 
 returns-2 : tie.Need-returns-2
-returns-2 c = λ out.
-    let sound = c .before .before .before .before .before .before .before .before .before .before .before .before .before .before .before .is-sound .ensures .decides .so (not-false _ (c .before .before .before .before .before .before .before .before .before .before .if1 .left)) in
+returns-2 c =
+    let at-record-fine = c .before .before .before .before .before .before in
+    let else1 = at-record-fine .before .before .before .before in
+    let is-sound = else1 .before .before .before .before .before .is-sound in
+    let start = start-before-else1 else1 in
+    λ out.
+    let sound = is-sound .ensures .decides .so (not-false _ (else1 .if1 .left)) in
     record {
-      decides = decides-same (λ f. script-sound _ sound f) (λ h. record-fine-of _ h) (c .before .before .before .before .before .before .record-fine .ensures .decides);
+      decides = decides-same (λ f. script-sound _ sound f) (λ h. record-fine-of _ h) (at-record-fine .record-fine .ensures .decides);
       stands = λ e. record {
-        sound = script-sound _ sound (c .before .before .before .before .before .before .record-fine .ensures .decides .so e);
+        sound = script-sound _ sound (at-record-fine .record-fine .ensures .decides .so e);
         chained = record {
-          chained = c .before .before .before .before .before .before .before .before .before .before .before .before .before .before .before .is-sound .ensures .chained (not-false _ (c .before .before .before .before .before .before .before .before .before .before .if1 .left));
-          heads-room = omega (arith, sound .counts-in .steps-in, c .before .before .before .before .before .before .before .before .before .before .before .before .before .before .before .before .before .before .before .before .before .before .before .before .before .before .before .before .before .before .before .pre .1 .1 .1 .0, c .before .before .before .before .before .before .before .before .before .before .before .before .before .before .before .is-sound .kept .1 .1 .1 .1 .1 .1 .1 .1 .1 .0);
-          nexts-room = omega (arith, sound .counts-in .rules-in, c .before .before .before .before .before .before .before .before .before .before .before .before .before .before .before .before .before .before .before .before .before .before .before .before .before .before .before .before .before .before .before .pre .1 .1 .1 .1 .0, c .before .before .before .before .before .before .before .before .before .before .before .before .before .before .before .is-sound .kept .1 .1 .1 .1 .1 .1 .1 .1 .1 .1 .0);
+          chained = is-sound .ensures .chained (not-false _ (else1 .if1 .left));
+          heads-room = omega (arith, sound .counts-in .steps-in, start .pre .1 .1 .1 .0, is-sound .kept .1 .1 .1 .1 .1 .1 .1 .1 .1 .0);
+          nexts-room = omega (arith, sound .counts-in .rules-in, start .pre .1 .1 .1 .1 .0, is-sound .kept .1 .1 .1 .1 .1 .1 .1 .1 .1 .1 .0);
         };
-        indexed = c .before .before .before .before .before .before .record-fine .ensures .indexed e;
+        indexed = at-record-fine .record-fine .ensures .indexed e;
       };
     }
 

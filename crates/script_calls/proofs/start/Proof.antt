@@ -23,10 +23,14 @@ same-length : tie.Need-same-length
 same-length c = search needs
 
 returns : tie.Need-returns
-returns c = λ out. obeys-refused _ _ SHORT (λ e. omega arith) (λ e. omega arith) (inl (refl, λ h. c .before .start-room .ensures (c .before .before .before .before .before .before .before .before .before .before .before .args .counts) (c .before .before .before .before .before .before .before .before .before .before .before .args .notes) out .not-so (not-true _ (c .if1 .taken)) h))
+returns c =
+    let start = c .before .before .before .before .before .before .before .before .before .before .before in
+    λ out. obeys-refused _ _ SHORT (λ e. omega arith) (λ e. omega arith) (inl (refl, λ h. c .before .start-room .ensures (start .args .counts) (start .args .notes) out .not-so (not-true _ (c .if1 .taken)) h))
 
 clear-days-requires : tie.Need-clear-days-requires
-clear-days-requires c κs = omega (arith, c .before .before .start-room .ensures (c .before .before .before .before .before .before .before .before .before .before .before .before .args .counts) (c .before .before .before .before .before .before .before .before .before .before .before .before .args .notes) [] .so (not-false _ (c .before .if1 .left)) .tables-room .days-room)
+clear-days-requires c κs =
+    let start = c .before .before .before .before .before .before .before .before .before .before .before .before in
+    omega (arith, c .before .before .start-room .ensures (start .args .counts) (start .args .notes) [] .so (not-false _ (c .before .if1 .left)) .tables-room .days-room)
 
 steps-alone-requires : tie.Need-steps-alone-requires
 steps-alone-requires c κs = search needs
@@ -38,10 +42,15 @@ same-length-2 : tie.Need-same-length-2
 same-length-2 c = search needs
 
 returns-2 : tie.Need-returns-2
-returns-2 c = λ out. rw (c .before .steps-alone .ensures, c .no-notes .ensures)
-    (obeys-done _ _ 0 0 _ (c .before .before .before .before .before .before .before .start-room .ensures (c .before .before .before .before .before .before .before .before .before .before .before .before .before .before .before .before .before .args .counts) (c .before .before .before .before .before .before .before .before .before .before .before .before .before .before .before .before .before .args .notes) out .so (not-false _ (c .before .before .before .before .before .before .if1 .left)), tt)
+returns-2 c =
+    let at-clear-days = c .before .before .before .before in
+    let else1 = at-clear-days .before .before in
+    let start-room = else1 .before .start-room in
+    let start = else1 .before .before .before .before .before .before .before .before .before .before .before in
+    λ out. rw (c .before .steps-alone .ensures, c .no-notes .ensures)
+    (obeys-done _ _ 0 0 _ (start-room .ensures (start .args .counts) (start .args .notes) out .so (not-false _ (else1 .if1 .left)), tt)
     (record {
-      opened = record { no-values = (refl, refl); emptied = refl; day-0 = c .before .before .before .before .clear-days .ensures .day-0; past = c .before .before .before .before .clear-days .ensures .past };
+      opened = record { no-values = (refl, refl); emptied = refl; day-0 = at-clear-days .clear-days .ensures .day-0; past = at-clear-days .clear-days .ensures .past };
       emptied = refl;
       names-stay = refl;
       lens-stay = refl;

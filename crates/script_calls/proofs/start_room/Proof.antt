@@ -25,10 +25,12 @@ returns-2 : tie.Need-returns-2
 returns-2 c = λ counts notes out. decides-no refl (λ h. omega (arith, h .names-room, c .if2 .taken))
 
 returns-3 : tie.Need-returns-3
-returns-3 c = λ counts notes out. record {
-  so = λ e. record { tables-room = c .before .before .has-room .ensures counts .so (not-false _ (c .before .if1 .left)); names-room = omega (arith, c .if2 .left); lens-room = leb-true STEPS (length (c .before .before .before .before .before .before .before .before .before .before .before .args .lens .now)) e };
-  not-so = λ e h. omega (arith, leb-false STEPS (length (c .before .before .before .before .before .before .before .before .before .before .before .args .lens .now)) e, h .lens-room);
-}
+returns-3 c =
+    let start = c .before .before .before .before .before .before .before .before .before .before .before in
+    λ counts notes out. record {
+      so = λ e. record { tables-room = c .before .before .has-room .ensures counts .so (not-false _ (c .before .if1 .left)); names-room = omega (arith, c .if2 .left); lens-room = leb-true STEPS (length (start .args .lens .now)) e };
+      not-so = λ e h. omega (arith, leb-false STEPS (length (start .args .lens .now)) e, h .lens-room);
+    }
 
 pub start-room-spec : {M : Type 1} → statement M
 start-room-spec = tie.close (tie.spec has-room-requires returns mul-if2 returns-2 returns-3)
