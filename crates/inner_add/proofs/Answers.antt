@@ -59,11 +59,11 @@ base counts xs ys cs days marks wxs wys wcs b heads nexts l = record {
 }
 
 -- Lists of zeros have no gains.
-pub no-gains : (n : ℕ) → n ≤ STEPS → NoGains n (replicate STEPS 0) (replicate STEPS 0)
-no-gains n few = record {
-  none-yet = λ v h. getD-replicate STEPS v 0 0 (omega (arith, h));
-  gains-room = omega (arith, length-replicate {A = ℕ} STEPS 0);
-  by-room = omega (arith, length-replicate {A = ℕ} STEPS 0);
+pub no-gains : (n s : ℕ) → n ≤ s → NoGains n (replicate s 0) (replicate s 0)
+no-gains n s few = record {
+  none-yet = λ v h. getD-replicate s v 0 0 (omega (arith, h));
+  gains-room = omega (arith, length-replicate {A = ℕ} s 0);
+  by-room = omega (arith, length-replicate {A = ℕ} s 0);
 }
 
 -- There is a place for one rule more.

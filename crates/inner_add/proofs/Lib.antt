@@ -3,3 +3,4 @@ pub mod Raising
 pub mod Fitting
 pub mod Answers
 pub mod Holding
+pub mod Extent

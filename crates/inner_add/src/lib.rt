@@ -175,6 +175,25 @@ pub fn fit(
             moved: 0,
         };
     }
+    if n <= spread::FEW {
+        let mut gains = [0u64; spread::FEW];
+        let mut by = [0u16; spread::FEW];
+        return fit_with(
+            n,
+            m,
+            xs,
+            ys,
+            cs,
+            days,
+            heads,
+            nexts,
+            x,
+            y,
+            c,
+            &mut gains,
+            &mut by,
+        );
+    }
     let mut gains = [0u64; meaning::STEPS];
     let mut by = [0u16; meaning::STEPS];
     fit_with(

@@ -17,6 +17,12 @@ ghost use Rattle.waiting.specs.Waiting.{Led, Room};
 ghost use Rattle.spread.specs.Contracts.{StepsRoom, Collected, RelaxedAll, Turned, Askable, AskableAlone, Begun, alone, Spread, SettledAll};
 ghost use Rattle.spread.specs.Ring.{Reached, Lacks, Hops, RingIn};
 
+// Lists for at most so many steps are short ones: clearing long ones takes more time than a spread over few steps.
+pub const FEW: usize = 256;
+
+// So many leaders have FEW steps.
+const FEW_GROUPS: usize = (FEW + 15) / 16;
+
 // Puts each step below n with a gain into the list, names no rule for it, and gives back how many there are.
 fn collect(
     n: usize,
@@ -310,7 +316,54 @@ pub fn spread(
     );
 }
 
-// The same, where the gain is asked for at step y alone and no step below n has one at entry.
+// The same, where the gain is asked for at step y alone and no step below n has one at entry, with list, places and leaders to work in.
+fn spread_in(
+    n: usize,
+    m: usize,
+    xs: &[u16],
+    ys: &[u16],
+    cs: &[i32],
+    days: &[u32],
+    heads: &[u16],
+    nexts: &[u16],
+    y: usize,
+    gain: u64,
+    goal: usize,
+    gains: &mut [u64],
+    by: &mut [u16],
+    list: &mut [u16],
+    places: &mut [u16],
+    leaders: &mut [u16],
+)
+    requires { ⌜ Ground n (first m) number (now xs) (now ys) (now cs) (now days) (now heads) (now nexts) ⌝ }
+    requires { ⌜ AskableAlone n y gain (now gains) (now by) ⌝ }
+    requires { ⌜ Room n (now gains) (now list) (now places) (now leaders) ⌝ }
+    ensures { λ _. ⌜
+        Spread n (first m) (now (xs .entry)) (now (ys .entry)) (now (cs .entry)) (now (days .entry)) goal
+        (λ v. at (now (days .entry)) v + alone y gain v)
+        (now (gains .entry)) (now (gains .exit)) (now (by .exit)) ⌝ }
+{
+    let k = begin(n, y, gain, gains, by, list, places, leaders);
+    settle_all(
+        n,
+        m,
+        xs,
+        ys,
+        cs,
+        days,
+        heads,
+        nexts,
+        goal,
+        gains,
+        by,
+        list,
+        places,
+        leaders,
+        k,
+    );
+}
+
+// The same, with lists of its own: short ones for few steps, which are cleared sooner.
 pub fn spread_one(
     n: usize,
     m: usize,
@@ -333,11 +386,34 @@ pub fn spread_one(
         (λ v. at (now (days .entry)) v + alone y gain v)
         (now (gains .entry)) (now (gains .exit)) (now (by .exit)) ⌝ }
 {
+    if n <= FEW {
+        let mut list = [0u16; FEW];
+        let mut places = [0u16; FEW];
+        let mut leaders = [0u16; FEW_GROUPS];
+        spread_in(
+            n,
+            m,
+            xs,
+            ys,
+            cs,
+            days,
+            heads,
+            nexts,
+            y,
+            gain,
+            goal,
+            gains,
+            by,
+            &mut list,
+            &mut places,
+            &mut leaders,
+        );
+        return;
+    }
     let mut list = [0u16; meaning::STEPS];
     let mut places = [0u16; meaning::STEPS];
     let mut leaders = [0u16; waiting::GROUPS];
-    let k = begin(n, y, gain, gains, by, &mut list, &mut places, &mut leaders);
-    settle_all(
+    spread_in(
         n,
         m,
         xs,
@@ -346,13 +422,14 @@ pub fn spread_one(
         days,
         heads,
         nexts,
+        y,
+        gain,
         goal,
         gains,
         by,
         &mut list,
         &mut places,
         &mut leaders,
-        k,
     );
 }
 

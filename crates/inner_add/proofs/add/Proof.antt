@@ -143,7 +143,7 @@ add-fine-requires c κs =
     let start = start-before-else1 else1 in
     let args = start .args in (
       hold-ready (args .counts) _ _ _ _ (hold-verdict .ensures) (args .xs .now) (args .ys .now) (args .cs .now) (args .days .now) (args .heads .now) (args .nexts .now) (start .pre .0) (omega (arith, else1 .if1 .left)),
-      (no-gains (args .counts .steps) (start .pre .0 .ground .steps-in), start .pre .1),
+      (no-gains (args .counts .steps) _ (start .pre .0 .ground .steps-in), start .pre .1),
     )
 
 same-length-5 : tie.Need-same-length-5

@@ -1,4 +1,4 @@
--- `inner_add::fit`: a rule that the days keep is held at once; else `fit_with` tells, over lists of zeros.
+-- `inner_add::fit`: a rule that the days keep is held at once; else `fit_with` tells, over lists of zeros with a place for each step.
 use Rattle.lent.specs.Lent.{first}
 use Rattle.chains.specs.Chains.{number}
 use Prim.Native.Nat.{_≤_, _<_}
@@ -14,9 +14,9 @@ use Rattle.inner_add.proofs.fit.Statement.{statement}
 use Rattle.inner_add.proofs.fit.Tie as tie
 use Rattle.inner_add.proofs.fit.Reads as reads
 use Rattle.inner_add.proofs.fit.Lts as lts
-use Rattle.inner_watch.proofs.write_rule.Reads as write-rule-reads
 use Rattle.inner_add.proofs.fit_with.Reads as fit-with-reads
 use Rattle.inner_add.proofs.lack.Reads as lack-reads
+use Rattle.inner_watch.proofs.write_rule.Reads as write-rule-reads
 
 lack-requires : tie.Need-lack-requires
 lack-requires c κs =
@@ -42,18 +42,13 @@ same-length-4 c = search needs
 
 returns : tie.Need-returns
 returns c =
-    let at-write-rule = c .before .before .before .before .before in
-    let write-rule = at-write-rule .write-rule in
-    let then1 = at-write-rule .before .before .before .before in
-    let if1 = then1 .if1 in
-    let lack = then1 .before .lack in
-    let start = then1 .before .before .before .before .before .before .before .before in
+    let start = c .before .before .before .before .before .before .before .before .before .before .before .before .before .before .before .before .before in
     let args = start .args in
-    let l : Lack (args .days .now) (args .x) (args .y) (args .c) (lack .result) = rw (toZ-ofZ w32 (args .c) (start .fits .c)) at (lack .ensures) in
+    let l : Lack (args .days .now) (args .x) (args .y) (args .c) (c .before .before .before .before .before .before .before .before .before .before .lack .result) = rw (toZ-ofZ w32 (args .c) (start .fits .c)) at (c .before .before .before .before .before .before .before .before .before .before .lack .ensures) in
     record {
       when-fits = λ e.
           taken-at-once (args .n) (first (args .m)) number (args .m) (args .xs .now) (args .ys .now) (args .cs .now) (args .days .now) (args .heads .now) (args .nexts .now) (args .x) (args .y) (args .c) (start .pre)
-          (l .none (if1 .taken)) _ (rw (toZ-ofZ w32 (args .c) (start .fits .c)) at (write-rule .ensures));
+          (l .none (omega (arith, c .before .before .before .before .before .before .before .before .before .if1 .taken))) _ (rw (toZ-ofZ w32 (args .c) (start .fits .c)) at (c .before .before .before .before .before .write-rule .ensures));
       when-not = λ e. absurd (true≢false e);
     }
 
@@ -65,8 +60,8 @@ slice-aggregate-fit-with-2 c = search needs
 
 fit-with-requires : tie.Need-fit-with-requires
 fit-with-requires c κs =
-    let start = c .before .before .before .before .before .before .before .before .before .before .before .before .before .before in
-    (rw (toZ-ofZ w32 (start .args .c) (start .fits .c)) (start .pre), no-gains (start .args .n) (start .pre .base .ground .steps-in))
+    let start = c .before .before .before .before .before .before .before .before .before .before .before .before .before .before .before in
+    (rw (toZ-ofZ w32 (start .args .c) (start .fits .c)) (start .pre), no-gains (start .args .n) _ (c .before .before .before .before .before .before .if2 .taken))
 
 same-length-5 : tie.Need-same-length-5
 same-length-5 c = search needs
@@ -82,10 +77,36 @@ same-length-8 c = search needs
 
 returns-2 : tie.Need-returns-2
 returns-2 c =
-    let at-fit-with = c .before .before .before .before .before .before .before .before .before in
-    let fit-with = at-fit-with .fit-with in
-    let start = at-fit-with .before .before .before .before .before .before .before .before .before .before .before .before .before .before .before in
-    (rw (toZ-ofZ w32 (start .args .c) (start .fits .c)) at (fit-with .ensures)) .tells
+    let start = c .before .before .before .before .before .before .before .before .before .before .before .before .before .before .before .before .before .before .before .before .before .before .before .before .before in
+    (rw (toZ-ofZ w32 (start .args .c) (start .fits .c)) at (c .before .before .before .before .before .before .before .before .before .fit-with .ensures)) .tells
+
+slice-aggregate-fit-with-3 : tie.Need-slice-aggregate-fit-with-3
+slice-aggregate-fit-with-3 c = search needs
+
+slice-aggregate-fit-with-4 : tie.Need-slice-aggregate-fit-with-4
+slice-aggregate-fit-with-4 c = search needs
+
+fit-with-requires-2 : tie.Need-fit-with-requires-2
+fit-with-requires-2 c κs =
+    let start = c .before .before .before .before .before .before .before .before .before .before .before .before .before .before .before in
+    (rw (toZ-ofZ w32 (start .args .c) (start .fits .c)) (start .pre), no-gains (start .args .n) _ (start .pre .base .ground .steps-in))
+
+same-length-9 : tie.Need-same-length-9
+same-length-9 c = search needs
+
+same-length-10 : tie.Need-same-length-10
+same-length-10 c = search needs
+
+same-length-11 : tie.Need-same-length-11
+same-length-11 c = search needs
+
+same-length-12 : tie.Need-same-length-12
+same-length-12 c = search needs
+
+returns-3 : tie.Need-returns-3
+returns-3 c =
+    let start = c .before .before .before .before .before .before .before .before .before .before .before .before .before .before .before .before .before .before .before .before .before .before .before .before .before in
+    (rw (toZ-ofZ w32 (start .args .c) (start .fits .c)) at (c .before .before .before .before .before .before .before .before .before .fit-with2 .ensures)) .tells
 
 pub fit-spec : {M : Type 1} → statement M
 fit-spec =
@@ -105,4 +126,12 @@ fit-spec =
     same-length-6
     same-length-7
     same-length-8
-    returns-2)
+    returns-2
+    slice-aggregate-fit-with-3
+    slice-aggregate-fit-with-4
+    fit-with-requires-2
+    same-length-9
+    same-length-10
+    same-length-11
+    same-length-12
+    returns-3)

@@ -55,7 +55,7 @@ trial-fine-requires c κs =
     let start = start-before-hold-verdict at-hold-verdict in
     let args = start .args in (
       hold-ready (args .counts) _ _ _ _ (at-hold-verdict .hold-verdict .ensures) (args .xs .now) (args .ys .now) (args .cs .now) (args .days .now) (args .heads .now) (args .nexts .now) (start .pre .0) (omega (arith, c .before .before .before .before .if1 .left)),
-      (no-gains (args .counts .steps) (start .pre .0 .ground .steps-in), start .pre .1),
+      (no-gains (args .counts .steps) _ (start .pre .0 .ground .steps-in), start .pre .1),
     )
 
 same-length : tie.Need-same-length
