@@ -25,6 +25,8 @@ use Rattle.script_meaning.proofs.Adding.{holds-kept}
 use Rattle.script_meaning.proofs.Beside.{beside, adds-beside}
 use Rattle.script_meaning.proofs.Seeking.{step-is}
 use Rattle.asserts.specs.One.{AddsOne}
+use Rattle.asserts.specs.Within.{Within}
+use Rattle.asserts.proofs.Reach.{wider, held-within}
 
 -- The lists that are lent are as long as at start.
 pub record AsLong
@@ -40,21 +42,22 @@ pub record AsLong
 abbrev pub in-steps : ℕ → List ℕ → List ℕ → Named → Rule
 in-steps n names lens = resolved (step-in n names lens)
 
--- The rules rs are left to add to the tables t; what that comes to, adding `all` to the tables at start comes to.
-pub record Left (n : ℕ) (names lens : List ℕ) (all : List Named) (start : Tables) (rs : List Named) (t : Tables) : Type 0 where
+-- The rules rs are left to add to the tables t, where names and rules speak of steps below e alone; what that comes to, adding `all` to the tables at start comes to.
+pub record Left (n e : ℕ) (names lens : List ℕ) (all : List Named) (start : Tables) (rs : List Named) (t : Tables) : Type 0 where
   pub border : Border t
-  pub named-steps : n ≤ t .counts .steps
+  pub named-in : n ≤ e
+  pub within : Within e (t .counts) (t .rules)
   pub needed : First (term-needs (KnownIn n names lens) rs []) DONE
   pub places : t .counts .rules + length rs ≤ RULES
   pub goes-on :
       (clash : Bool) (u : Tables) → AddsAll (map (in-steps n names lens) rs) t clash u → AddsAll (map (in-steps n names lens) all) start clash u
 
-module _ (n : ℕ) (names lens : List ℕ) where
+module _ (n e : ℕ) (names lens : List ℕ) where
   pub left-start :
-      (all : List Named) (start : Tables) → Border start → n ≤ start .counts .steps → First (term-needs (KnownIn n names lens) all []) DONE →
-      start .counts .rules + length all ≤ RULES → Left n names lens all start all start
-  left-start all start border named needed places =
-      record { border = border; named-steps = named; needed = needed; places = places; goes-on = λ clash u h. h }
+      (all : List Named) (start : Tables) → Border start → n ≤ e → Within e (start .counts) (start .rules) → First (term-needs (KnownIn n names lens) all []) DONE →
+      start .counts .rules + length all ≤ RULES → Left n e names lens all start all start
+  left-start all start border named within needed places =
+      record { border = border; named-in = named; within = within; needed = needed; places = places; goes-on = λ clash u h. h }
 
   module _ (all : List Named) (start : Tables) where
     -- All are added from the start on: then so with any marks.
@@ -65,10 +68,10 @@ module _ (n : ℕ) (names lens : List ℕ) where
     with-any-marks clash u adds marks = adds-beside (λ m. marks) idle (map (in-steps n names lens) all) start clash u adds
 
     -- With no rule left, all are added.
-    pub left-none : (rs : List Named) (t : Tables) → rs ≡ [] → Left n names lens all start rs t → AllAdded false t
-    left-none rs t none left = with-any-marks false t ((subst (λ (l : List Named). Left n names lens all start l t) none left) .goes-on false t (refl, refl))
+    pub left-none : (rs : List Named) (t : Tables) → rs ≡ [] → Left n e names lens all start rs t → AllAdded false t
+    left-none rs t none left = with-any-marks false t ((subst (λ (l : List Named). Left n e names lens all start l t) none left) .goes-on false t (refl, refl))
 
-    module _ (a : Named) (rs : List Named) (t : Tables) (left : Left n names lens all start (a ∷ rs) t) where
+    module _ (a : Named) (rs : List Named) (t : Tables) (left : Left n e names lens all start (a ∷ rs) t) where
       -- The needs of the next rule are met.
       met : KnownIn n names lens (a .first) × (KnownIn n names lens (a .second) × (InAmount (a .amount) × First (term-needs (KnownIn n names lens) rs []) DONE))
       met = pass (left .needed)
@@ -81,10 +84,10 @@ module _ (n : ℕ) (names lens : List ℕ) where
           pass (inr (x, inr (y, inl amount))) = absurd (omega (arith, amount .0))
           pass (inr (x, inr (y, inr (c, rest)))) = (x, (y, (c, rest)))
 
-      pub next-good : InBounds (t .counts .steps) (in-steps n names lens a)
+      pub next-good : InBounds e (in-steps n names lens a)
       next-good =
           record {
-            steps-in = record { first-in = omega (arith, met .0, left .named-steps); second-in = omega (arith, met .1 .0, left .named-steps) };
+            steps-in = record { first-in = omega (arith, met .0, left .named-in); second-in = omega (arith, met .1 .0, left .named-in) };
             amount-in = met .1 .1 .0;
           }
 
@@ -97,11 +100,12 @@ module _ (n : ℕ) (names lens : List ℕ) where
       left-clash clash u is one = with-any-marks clash u (left .goes-on clash u (inl (one .unfit is, (one .unchanged is, is))))
 
       -- The next rule is held: the others are left to add.
-      pub left-held : (clash : Bool) (u : Tables) → clash ≡ false → AddsOne (in-steps n names lens a) t clash u → Left n names lens all start rs u
+      pub left-held : (clash : Bool) (u : Tables) → clash ≡ false → AddsOne (in-steps n names lens a) t clash u → Left n e names lens all start rs u
       left-held clash u is one =
           record {
             border = record { room = kept .room; sound = kept .sound };
-            named-steps = omega (arith, left .named-steps, ap (λ (v : Tables). v .counts .steps) (held .rule-held));
+            named-in = left .named-in;
+            within = held-within e (in-steps n names lens a) t u before next-place (next-good .steps-in) (left .within) held;
             needed = met .1 .1 .1;
             places = omega (arith, left .places, ap (λ (v : Tables). v .counts .rules) (held .rule-held));
             goes-on = λ clash v rest. left .goes-on clash v (inr (u, (held, rest)));
@@ -110,8 +114,11 @@ module _ (n : ℕ) (names lens : List ℕ) where
           held : HeldNow (in-steps n names lens a) t u
           held = one .held-now is
 
+          before : Kept t
+          before = record { room = left .border .room; sound = left .border .sound }
+
           kept : Kept u
-          kept = holds-kept (in-steps n names lens a) t u (record { room = left .border .room; sound = left .border .sound }) next-good next-place held
+          kept = holds-kept (in-steps n names lens a) t u before (wider e (t .counts .steps) (left .within .steps-there) (in-steps n names lens a) next-good) next-place held
 
 -- A found number is at most the number of names.
 pub found-within : (n : ℕ) (names lens w : List ℕ) (r : ℕ) → Found n names lens w r → r ≤ n
@@ -120,27 +127,27 @@ found-within n names lens w r (inr none) = omega (arith, none .0)
 
 -- The atom a was read at place i, and its names were found under x and y.
 module _
-    (n : ℕ) (names lens : List ℕ) (all : List Named) (start : Tables) (s : List ℕ) (i : ℕ) (a : Atom) (t : Tables) (x y : ℕ) (next : Next s i a)
-    (some : a .some ≡ true) (left : Left n names lens all start (rules-at s i) t) (different : AllDifferent n names lens)
+    (n e : ℕ) (names lens : List ℕ) (all : List Named) (start : Tables) (s : List ℕ) (i : ℕ) (a : Atom) (t : Tables) (x y : ℕ) (next : Next s i a)
+    (some : a .some ≡ true) (left : Left n e names lens all start (rules-at s i) t) (different : AllDifferent n names lens)
     (x-found : Found n names lens (bytes s (a .xa) (a .xb)) x) (y-found : Found n names lens (bytes s (a .ya) (a .yb)) y) where
-  left-here : Left n names lens all start (atom-rule s a ∷ rules-at s (a .next)) t
-  left-here = subst (λ (l : List Named). Left n names lens all start l t) (next .when-some some) left
+  left-here : Left n e names lens all start (atom-rule s a ∷ rules-at s (a .next)) t
+  left-here = subst (λ (l : List Named). Left n e names lens all start l t) (next .when-some some) left
 
   rule-is : in-steps n names lens (atom-rule s a) ≡ rule x y (a .amount)
   rule-is =
       ap (λ (z : ℕ). rule z (step-in n names lens (bytes s (a .ya) (a .yb))) (a .amount)) (step-is names lens (bytes s (a .xa) (a .xb)) n x different x-found)
       ∙ ap (λ (z : ℕ). rule x z (a .amount)) (step-is names lens (bytes s (a .ya) (a .yb)) n y different y-found)
 
-  pub atom-good : InBounds (t .counts .steps) (rule x y (a .amount))
-  atom-good = subst (InBounds (t .counts .steps)) rule-is (next-good n names lens all start (atom-rule s a) (rules-at s (a .next)) t left-here)
+  pub atom-good : InBounds e (rule x y (a .amount))
+  atom-good = subst (InBounds e) rule-is (next-good n e names lens all start (atom-rule s a) (rules-at s (a .next)) t left-here)
 
   pub atom-place : t .counts .rules < RULES
-  atom-place = next-place n names lens all start (atom-rule s a) (rules-at s (a .next)) t left-here
+  atom-place = next-place n e names lens all start (atom-rule s a) (rules-at s (a .next)) t left-here
 
-  pub atom-clash : (clash : Bool) (u : Tables) → clash ≡ true → AddsOne (rule x y (a .amount)) t clash u → AllAdded n names lens all start clash u
+  pub atom-clash : (clash : Bool) (u : Tables) → clash ≡ true → AddsOne (rule x y (a .amount)) t clash u → AllAdded n e names lens all start clash u
   atom-clash clash u is one =
-      left-clash n names lens all start (atom-rule s a) (rules-at s (a .next)) t left-here clash u is (subst (λ (r : Rule). AddsOne r t clash u) (sym rule-is) one)
+      left-clash n e names lens all start (atom-rule s a) (rules-at s (a .next)) t left-here clash u is (subst (λ (r : Rule). AddsOne r t clash u) (sym rule-is) one)
 
-  pub atom-held : (clash : Bool) (u : Tables) → clash ≡ false → AddsOne (rule x y (a .amount)) t clash u → Left n names lens all start (rules-at s (a .next)) u
+  pub atom-held : (clash : Bool) (u : Tables) → clash ≡ false → AddsOne (rule x y (a .amount)) t clash u → Left n e names lens all start (rules-at s (a .next)) u
   atom-held clash u is one =
-      left-held n names lens all start (atom-rule s a) (rules-at s (a .next)) t left-here clash u is (subst (λ (r : Rule). AddsOne r t clash u) (sym rule-is) one)
+      left-held n e names lens all start (atom-rule s a) (rules-at s (a .next)) t left-here clash u is (subst (λ (r : Rule). AddsOne r t clash u) (sym rule-is) one)

@@ -1,4 +1,5 @@
 -- What the proofs of the adder share.
+pub mod Reach
 pub mod Linking
 pub mod Answering
 pub mod Going

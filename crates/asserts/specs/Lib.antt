@@ -1,2 +1,3 @@
 -- What the contracts of the adder cite.
 pub mod One
+pub mod Within

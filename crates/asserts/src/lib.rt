@@ -7,6 +7,7 @@ ghost use Rattle.meaning.specs.Bounds.{RULES, DONE};
 ghost use Rattle.meaning.specs.Rules.{InBounds, rule};
 ghost use Rattle.meaning.specs.Promise.{First};
 ghost use Rattle.text.specs.Table.{TABLE};
+ghost use Rattle.lent.specs.Lent.{columns};
 ghost use Rattle.lent.specs.Idle.{unwatched};
 ghost use Rattle.chains.specs.Chains.{LentChains};
 ghost use Rattle.names.specs.Names.{Shelved, Indexed, AllDifferent};
@@ -14,6 +15,7 @@ ghost use Rattle.atoms.specs.Atoms.{rules-at};
 ghost use Rattle.script_meaning.specs.Record.{KnownIn, step-in};
 ghost use Rattle.script_meaning.specs.Effect.{resolved, AddsAll};
 ghost use Rattle.script_meaning.specs.Commands.{term-needs};
+ghost use Rattle.asserts.specs.Within.{Within};
 ghost use Rattle.asserts.specs.One.{WithMarks, AddsOne};
 use meaning::Counts;
 
@@ -23,7 +25,7 @@ pub struct Added {
     pub clash: bool,
 }
 
-// Adds one rule and puts it on its chain; where it does not fit nothing changes.
+// Adds one rule and puts it on its chain; where it does not fit nothing changes. It and the rules held speak of steps below e alone, so no other step is looked at.
 fn add_one(
     counts: Counts,
     xs: &mut [u16],
@@ -35,18 +37,20 @@ fn add_one(
     x: u16,
     y: u16,
     c: i32,
+    e: u32,
 ) -> Added
     requires { ⌜ WithMarks counts (now xs) (now ys) (now cs) (now days) ⌝ }
     requires { ⌜ LentChains (counts .steps) (counts .rules) (now xs) (now heads) (now nexts) ⌝ }
-    requires { ⌜ InBounds (counts .steps) (rule x y c) ⌝ }
+    requires { ⌜ InBounds e (rule x y c) ⌝ }
     requires { ⌜ counts .rules < RULES ⌝ }
     requires { ⌜ RULES ≤ length (now nexts) ⌝ }
+    requires { ⌜ Within e counts (columns (now xs) (now ys) (now cs)) ⌝ }
     ensures { λ r. ⌜ ((marks : List ℕ) →
         AddsOne (rule x y c) (unwatched counts (now (xs .entry)) (now (ys .entry)) (now (cs .entry)) (now (days .entry)) marks)
         (r .clash) (unwatched (r .counts) (now (xs .exit)) (now (ys .exit)) (now (cs .exit)) (now (days .exit)) marks)) ⌝ }
     ensures { λ r. ⌜ LentChains (r .counts .steps) (r .counts .rules) (now (xs .exit)) (now (heads .exit)) (now (nexts .exit)) ⌝ }
 {
-    let n = counts.steps as usize;
+    let n = e as usize;
     let m = counts.rules as usize;
     let fitted = inner_add::fit(n, m, xs, ys, cs, days, heads, nexts, x, y, c);
     if fitted.fits {
@@ -62,7 +66,7 @@ fn add_one(
     }
 }
 
-// Adds the rules of the atoms from place at on, up to the first that does not fit.
+// Adds the rules of the atoms from place at on, up to the first that does not fit. The names and the rules held speak of steps below e alone.
 pub fn add_rules(
     s: &[u8],
     tab: &[u8; text::PLACES],
@@ -80,18 +84,20 @@ pub fn add_rules(
     days: &mut [u32],
     heads: &mut [u16],
     nexts: &mut [u16],
+    e: u32,
 ) -> Added
     requires { ⌜ now tab ≡ TABLE ⌝ }
     requires { ⌜ at ≤ length (now s) ⌝ }
     requires { ⌜ Shelved n (now names) (now lens) ⌝ }
     requires { ⌜ Indexed n (now names) (now lens) (now hashes) (now «name_heads») (now «name_nexts») ⌝ }
     requires { ⌜ AllDifferent n (now names) (now lens) ⌝ }
-    requires { ⌜ n ≤ counts .steps ⌝ }
+    requires { ⌜ n ≤ e ⌝ }
     requires { ⌜ First (term-needs (KnownIn n (now names) (now lens)) (rules-at (now s) at) []) DONE ⌝ }
     requires { ⌜ counts .rules + length (rules-at (now s) at) ≤ RULES ⌝ }
     requires { ⌜ WithMarks counts (now xs) (now ys) (now cs) (now days) ⌝ }
     requires { ⌜ LentChains (counts .steps) (counts .rules) (now xs) (now heads) (now nexts) ⌝ }
     requires { ⌜ RULES ≤ length (now nexts) ⌝ }
+    requires { ⌜ Within e counts (columns (now xs) (now ys) (now cs)) ⌝ }
     ensures { λ r. ⌜ ((marks : List ℕ) →
         AddsAll (map (resolved (step-in n (now (names .entry)) (now (lens .entry)))) (rules-at (now (s .entry)) at))
         (unwatched counts (now (xs .entry)) (now (ys .entry)) (now (cs .entry)) (now (days .entry)) marks)
@@ -114,7 +120,7 @@ pub fn add_rules(
         let yb = a.yb;
         let x = names::find(names, lens, hashes, name_heads, name_nexts, n, s, xa, xb) as u16;
         let y = names::find(names, lens, hashes, name_heads, name_nexts, n, s, ya, yb) as u16;
-        let added = add_one(held, xs, ys, cs, days, heads, nexts, x, y, a.amount);
+        let added = add_one(held, xs, ys, cs, days, heads, nexts, x, y, a.amount, e);
         if added.clash {
             return added;
         }

@@ -7,6 +7,7 @@ use lib.IntN.{pos}
 use Rattle.meaning.specs.Bounds.{STEPS, RULES, MARKS, NAME-BYTES}
 use Rattle.meaning.specs.Tables.{steps-alone}
 use Rattle.meaning.specs.declared.Counts.{Counts}
+use Rattle.names.specs.Names.{BUCKETS}
 use Rattle.script_meaning.specs.declared.Notes.{Notes}
 use Rattle.script_meaning.specs.Record.{Lent, no-notes}
 use Rattle.script_meaning.specs.Whole.{blank}
@@ -23,5 +24,5 @@ module _ (out : List ℕ) (counts : Counts) (notes : Notes) (few : counts ≡ st
   pub hand-blank : hand counts notes out ≡ blank out
   hand-blank = hand-is ∙ first-is out
 
-  pub hand-kept : {kept : List ℕ} → Maintained (hand counts notes out) (zeros 256) (zeros 4096) kept (zeros 256) (zeros 256) (zeros 256)
-  hand-kept {kept} = subst (λ (l : Lent). Maintained l (zeros 256) (zeros 4096) kept (zeros 256) (zeros 256) (zeros 256)) (sym hand-is) (fresh-tables out)
+  pub hand-kept : {kept : List ℕ} → Maintained (notes .names) (hand counts notes out) (zeros STEPS) (zeros RULES) kept (zeros STEPS) (zeros BUCKETS) (zeros STEPS)
+  hand-kept {kept} = subst (λ (l : Lent). Maintained (l .notes .names) l (zeros STEPS) (zeros RULES) kept (zeros STEPS) (zeros BUCKETS) (zeros STEPS)) (sym hand-is) (fresh-tables out)

@@ -63,7 +63,7 @@ fn answer(
     out: &mut [u8],
 ) -> u32
     requires { ⌜ now tab ≡ TABLE ⌝ }
-    requires { ⌜ Maintained (in-hand counts (now xs) (now ys) (now cs) (now days) (now marks) notes (now names) (now lens) (now out)) (now heads) (now nexts) (now kept) (now hashes) (now «name_heads») (now «name_nexts») ⌝ }
+    requires { ⌜ Maintained (notes .names) (in-hand counts (now xs) (now ys) (now cs) (now days) (now marks) notes (now names) (now lens) (now out)) (now heads) (now nexts) (now kept) (now hashes) (now «name_heads») (now «name_nexts») ⌝ }
     requires { ⌜ ROOM ≤ length (now out) ⌝ }
     ensures { λ r. ⌜ Ends (now (s .entry)) 0 (in-hand counts (now (xs .entry)) (now (ys .entry)) (now (cs .entry)) (now (days .entry)) (now (marks .entry)) notes (now (names .entry)) (now (lens .entry)) (now (out .entry))) r ⌝ }
 {

@@ -417,6 +417,7 @@ fn command_by(
         &mut name_nexts,
         out,
         0,
+        counts.steps,
     );
     let counted = carried.counts;
     let noted = carried.notes;

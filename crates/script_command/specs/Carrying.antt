@@ -18,6 +18,7 @@ use Rattle.script_meaning.specs.Record.{Lent, StartRoom, ScriptSound}
 use Rattle.script_meaning.specs.Effect.{Does}
 use Rattle.script_meaning.specs.Commands.{command-needs}
 use Rattle.script_meaning.specs.Whole.{exits}
+use Rattle.asserts.specs.Within.{Within}
 use Rattle.script_command.specs.declared.Carried.{Carried}
 
 -- What a command reads and writes, as what is lent to a script call: no command reads or writes a watched rule, so they are idle here.
@@ -30,14 +31,16 @@ in-hand counts xs ys cs days marks notes names lens out = record {
   out = out;
 }
 
--- What holds between commands: room and soundness, the chains of the rules, the days kept of the open marks, the index of the names.
-pub record Maintained (l : Lent) (heads nexts kept hashes name-heads name-nexts : List ℕ) : Type 0 where
+-- What holds between commands: room and soundness, the chains of the rules, the days kept of the open marks, the index of the names; and the rules held speak of
+-- steps below e alone.
+pub record Maintained (e : ℕ) (l : Lent) (heads nexts kept hashes name-heads name-nexts : List ℕ) : Type 0 where
   pub room : StartRoom l
   pub sound : ScriptSound l
   pub chained : LentChains (l .tables .counts .steps) (l .tables .counts .rules) (l .tables .rules .firsts) heads nexts
   pub nexts-room : RULES ≤ length nexts
   pub days-kept : KeptDays (rules-of (l .tables)) (l .tables .counts .steps) (l .tables .counts .marks) (l .tables .marks) kept
   pub indexed : Indexed (l .notes .names) (l .names) (l .lens) hashes name-heads name-nexts
+  pub within : Within e (l .tables .counts) (l .tables .rules)
 
 -- The command of text s was judged and carried out, printing from place k on: the number is that of the first need not met; where all are met it did what
 -- the command does, else nothing changed.

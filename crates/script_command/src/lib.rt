@@ -46,15 +46,17 @@ fn perform(
     name_nexts: &mut [u16],
     out: &mut [u8],
     to: usize,
+    e: u32,
 ) -> Carried
     requires { ⌜ now tab ≡ TABLE ⌝ }
     requires { ⌜ c ≡ form (now s) ⌝ }
     requires { ⌜ First (command-needs c (now s) (in-hand counts (now xs) (now ys) (now cs) (now days) (now marks) notes (now names) (now lens) (now out))) DONE ⌝ }
     requires { ⌜
-        Maintained
+        Maintained e
         (in-hand counts (now xs) (now ys) (now cs) (now days) (now marks) notes (now names) (now lens) (now out))
         (now heads) (now nexts) (now kept) (now hashes) (now «name_heads») (now «name_nexts») ⌝ }
     requires { ⌜ to + ROOM ≤ length (now out) ⌝ }
+    requires { ⌜ notes .names ≤ e ⌝ }
     ensures { λ r. ⌜ (r .number ≡ 0) × (r .ended ≡ exits c) ⌝ }
     ensures { λ r. ⌜
         Does c (now (s .entry)) to
@@ -62,7 +64,7 @@ fn perform(
         (r .written)
         (in-hand (r .counts) (now (xs .exit)) (now (ys .exit)) (now (cs .exit)) (now (days .exit)) (now (marks .exit)) (r .notes) (now (names .exit)) (now (lens .exit)) (now (out .exit))) ⌝ }
     ensures { λ r. ⌜
-        Maintained
+        Maintained e
         (in-hand (r .counts) (now (xs .exit)) (now (ys .exit)) (now (cs .exit)) (now (days .exit)) (now (marks .exit)) (r .notes) (now (names .exit)) (now (lens .exit)) (now (out .exit)))
         (now (heads .exit)) (now (nexts .exit)) (now (kept .exit)) (now (hashes .exit)) (now («name_heads» .exit)) (now («name_nexts» .exit)) ⌝ }
 {
@@ -102,6 +104,7 @@ fn perform(
         heads,
         nexts,
         kept,
+        e,
     );
     script_telling::declare(c, s, n, names, lens, hashes, name_heads, name_nexts);
     let now = moved.counts;
@@ -114,7 +117,8 @@ fn perform(
     }
 }
 
-// Carries out one command: s is its text from the opening bracket to the closing one. A refusal changes nothing.
+// Carries out one command: s is its text from the opening bracket to the closing one. A refusal changes nothing. The names and the rules held speak of steps below
+// e alone, so that no other step is looked at where a rule is added.
 pub fn carry(
     s: &[u8],
     tab: &[u8; text::PLACES],
@@ -135,20 +139,22 @@ pub fn carry(
     name_nexts: &mut [u16],
     out: &mut [u8],
     to: usize,
+    e: u32,
 ) -> Carried
     requires { ⌜ now tab ≡ TABLE ⌝ }
     requires { ⌜
-        Maintained
+        Maintained e
         (in-hand counts (now xs) (now ys) (now cs) (now days) (now marks) notes (now names) (now lens) (now out))
         (now heads) (now nexts) (now kept) (now hashes) (now «name_heads») (now «name_nexts») ⌝ }
     requires { ⌜ to + ROOM ≤ length (now out) ⌝ }
+    requires { ⌜ notes .names ≤ e ⌝ }
     ensures { λ r. ⌜
         Carries (now (s .entry)) to
         (in-hand counts (now (xs .entry)) (now (ys .entry)) (now (cs .entry)) (now (days .entry)) (now (marks .entry)) notes (now (names .entry)) (now (lens .entry)) (now (out .entry)))
         r
         (in-hand (r .counts) (now (xs .exit)) (now (ys .exit)) (now (cs .exit)) (now (days .exit)) (now (marks .exit)) (r .notes) (now (names .exit)) (now (lens .exit)) (now (out .exit))) ⌝ }
     ensures { λ r. ⌜
-        Maintained
+        Maintained e
         (in-hand (r .counts) (now (xs .exit)) (now (ys .exit)) (now (cs .exit)) (now (days .exit)) (now (marks .exit)) (r .notes) (now (names .exit)) (now (lens .exit)) (now (out .exit)))
         (now (heads .exit)) (now (nexts .exit)) (now (kept .exit)) (now (hashes .exit)) (now («name_heads» .exit)) (now («name_nexts» .exit)) ⌝ }
 {
@@ -195,5 +201,6 @@ pub fn carry(
         name_nexts,
         out,
         to,
+        e,
     )
 }

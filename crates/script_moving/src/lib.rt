@@ -13,6 +13,7 @@ ghost use Rattle.text.specs.Table.{TABLE};
 ghost use Rattle.names.specs.Names.{Shelved, Indexed, AllDifferent};
 ghost use Rattle.levels.specs.Levels.{KeptDays};
 ghost use Rattle.script_meaning.specs.Record.{step-in};
+ghost use Rattle.asserts.specs.Within.{Within};
 ghost use Rattle.script_moving.specs.Moving.{term-place, pushes, pops, Movable, Moves};
 use form::Command;
 use meaning::Counts;
@@ -97,7 +98,7 @@ fn work_of(c: Command, broken: u32, len: usize) -> Work
     }
 }
 
-// Adds the rules of the command's term, sets its marks and drops those that it drops.
+// Adds the rules of the command's term, sets its marks and drops those that it drops. The names and the rules held speak of steps below e alone.
 pub fn move_tables(
     c: Command,
     broken: u32,
@@ -118,6 +119,7 @@ pub fn move_tables(
     heads: &mut [u16],
     nexts: &mut [u16],
     kept: &mut [u32],
+    e: u32,
 ) -> asserts::Added
     requires { ⌜ now tab ≡ TABLE ⌝ }
     requires { ⌜ Shelved n (now names) (now lens) ⌝ }
@@ -128,6 +130,8 @@ pub fn move_tables(
     requires { ⌜ LentChains (counts .steps) (counts .rules) (now xs) (now heads) (now nexts) ⌝ }
     requires { ⌜ RULES ≤ length (now nexts) ⌝ }
     requires { ⌜ KeptDays (rule-at (columns (now xs) (now ys) (now cs))) (counts .steps) (counts .marks) (now marks) (now kept) ⌝ }
+    requires { ⌜ n ≤ e ⌝ }
+    requires { ⌜ Within e counts (columns (now xs) (now ys) (now cs)) ⌝ }
     ensures { λ r. ⌜
         Moves c broken (now (s .entry)) (step-in n (now (names .entry)) (now (lens .entry)))
         (unwatched counts (now (xs .entry)) (now (ys .entry)) (now (cs .entry)) (now (days .entry)) (now (marks .entry)))
@@ -155,6 +159,7 @@ pub fn move_tables(
         days,
         heads,
         nexts,
+        e,
     );
     let grown = added.counts;
     let pushed = levels::push(grown, days, marks, kept, work.push);

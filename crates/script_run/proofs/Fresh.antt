@@ -30,7 +30,7 @@ pub fresh-maintained :
     StartRoom (in-hand first-counts xs ys cs days marks first-notes names lens out) →
     ((v : ℕ) → v < STEPS → at days v ≡ 0) → Empty STEPS heads → STEPS ≤ length heads → RULES ≤ length nexts →
     IndexRoom hashes name-heads name-nexts → Empty BUCKETS name-heads →
-    Maintained (in-hand first-counts xs ys cs days marks first-notes names lens out) heads nexts kept hashes name-heads name-nexts
+    Maintained 0 (in-hand first-counts xs ys cs days marks first-notes names lens out) heads nexts kept hashes name-heads name-nexts
 fresh-maintained xs ys cs days marks names lens out heads nexts kept hashes name-heads name-nexts room zeros none heads-room nexts-room index-room no-names =
     record {
       room = room;
@@ -55,6 +55,7 @@ fresh-maintained xs ys cs days marks names lens out heads nexts kept hashes name
       nexts-room = nexts-room;
       days-kept = record { kept-earliest = λ k held h. absurd (omega arith) };
       indexed = record { room = index-room; hashes-are = λ k h. absurd (omega arith); chained = chained-none BUCKETS hashes name-heads name-nexts no-names };
+      within = record { steps-there = omega arith; rules-within = λ i h. absurd (omega arith) };
     }
 
 -- A table of n zeros.
@@ -79,7 +80,7 @@ unfolding idle
 first-is out = refl
 
 -- Tables of zeros are sound, with the links and the index of the names that are lent beside them, and any table for kept days: no mark is open.
-pub fresh-tables : (out : List ℕ) {kept : List ℕ} → Maintained (first-hand out) (zeros STEPS) (zeros RULES) kept (zeros STEPS) (zeros BUCKETS) (zeros STEPS)
+pub fresh-tables : (out : List ℕ) {kept : List ℕ} → Maintained 0 (first-hand out) (zeros STEPS) (zeros RULES) kept (zeros STEPS) (zeros BUCKETS) (zeros STEPS)
 fresh-tables out {kept} =
     fresh-maintained (zeros RULES) (zeros RULES) (replicate RULES (pos 0)) (zeros STEPS) (zeros MARKS) (zeros (NAME-BYTES * STEPS)) (zeros STEPS) out (zeros STEPS) (zeros RULES) kept
     (zeros STEPS) (zeros BUCKETS) (zeros STEPS)
@@ -94,5 +95,5 @@ module _ {c : Counts} {n : Notes} (counts-are : c ≡ first-counts) (notes-are :
   pub hand-is : hand c n out ≡ blank out
   hand-is = hand-first ∙ first-is out
 
-  pub hand-fresh : {kept : List ℕ} → Maintained (hand c n out) (zeros STEPS) (zeros RULES) kept (zeros STEPS) (zeros BUCKETS) (zeros STEPS)
-  hand-fresh {kept} = subst (λ (l : Lent). Maintained l (zeros STEPS) (zeros RULES) kept (zeros STEPS) (zeros BUCKETS) (zeros STEPS)) (sym hand-first) (fresh-tables out)
+  pub hand-fresh : {kept : List ℕ} → Maintained (n .names) (hand c n out) (zeros STEPS) (zeros RULES) kept (zeros STEPS) (zeros BUCKETS) (zeros STEPS)
+  hand-fresh {kept} = subst (λ (l : Lent). Maintained (l .notes .names) l (zeros STEPS) (zeros RULES) kept (zeros STEPS) (zeros BUCKETS) (zeros STEPS)) (sym hand-first) (fresh-tables out)

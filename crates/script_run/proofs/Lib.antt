@@ -1,4 +1,5 @@
 -- What the proofs of the whole script share.
+pub mod Naming
 pub mod Room
 pub mod Beginning
 pub mod Stepping

@@ -25,10 +25,11 @@ use Rattle.script_run.specs.Stepping.{CommandThere, Halts, Halted, Settl
 use Rattle.script_run.proofs.Room.{written-short, error-short}
 use Rattle.script_meaning.proofs.Refusing.{never-short}
 
+-- Other bytes for the answers, and more steps that may be spoken of.
 pub maintained-out :
-    (l : Lent) (o heads nexts kept hashes name-heads name-nexts : List ℕ) → Maintained l heads nexts kept hashes name-heads name-nexts →
-    Maintained (with-out o l) heads nexts kept hashes name-heads name-nexts
-maintained-out l o heads nexts kept hashes name-heads name-nexts m = record {
+    (e d : ℕ) (l : Lent) (o heads nexts kept hashes name-heads name-nexts : List ℕ) → e ≤ d → d ≤ l .tables .counts .steps →
+    Maintained e l heads nexts kept hashes name-heads name-nexts → Maintained d (with-out o l) heads nexts kept hashes name-heads name-nexts
+maintained-out e d l o heads nexts kept hashes name-heads name-nexts more there m = record {
   room = record { tables-room = m .room .tables-room; names-room = m .room .names-room; lens-room = m .room .lens-room };
   sound = record {
     tables-sound = m .sound .tables-sound;
@@ -44,6 +45,13 @@ maintained-out l o heads nexts kept hashes name-heads name-nexts m = record {
   nexts-room = m .nexts-room;
   days-kept = m .days-kept;
   indexed = m .indexed;
+  within = record {
+    steps-there = there;
+    rules-within = λ i h. record {
+      first-in = omega (arith, more, m .within .rules-within i h .first-in);
+      second-in = omega (arith, more, m .within .rules-within i h .second-in);
+    };
+  };
 }
 
 -- The text of the command is the part that is lent to it.

@@ -158,9 +158,9 @@ fn one(
     to: usize,
 ) -> Step
     requires { ⌜ now tab ≡ TABLE ⌝ }
-    requires { ⌜ Maintained (in-hand counts (now xs) (now ys) (now cs) (now days) (now marks) notes (now names) (now lens) (now out)) (now heads) (now nexts) (now kept) (now hashes) (now «name_heads») (now «name_nexts») ⌝ }
+    requires { ⌜ Maintained (notes .names) (in-hand counts (now xs) (now ys) (now cs) (now days) (now marks) notes (now names) (now lens) (now out)) (now heads) (now nexts) (now kept) (now hashes) (now «name_heads») (now «name_nexts») ⌝ }
     ensures { λ r. ⌜ Steps (now (s .entry)) at (in-hand counts (now (xs .entry)) (now (ys .entry)) (now (cs .entry)) (now (days .entry)) (now (marks .entry)) notes (now (names .entry)) (now (lens .entry)) (now (out .entry))) to (r .number) (r .going) (r .paused) (r .at) (r .to) (in-hand (r .counts) (now (xs .exit)) (now (ys .exit)) (now (cs .exit)) (now (days .exit)) (now (marks .exit)) (r .notes) (now (names .exit)) (now (lens .exit)) (now (out .exit))) ⌝ }
-    ensures { λ r. ⌜ Maintained (in-hand (r .counts) (now (xs .exit)) (now (ys .exit)) (now (cs .exit)) (now (days .exit)) (now (marks .exit)) (r .notes) (now (names .exit)) (now (lens .exit)) (now (out .exit))) (now (heads .exit)) (now (nexts .exit)) (now (kept .exit)) (now (hashes .exit)) (now («name_heads» .exit)) (now («name_nexts» .exit)) ⌝ }
+    ensures { λ r. ⌜ Maintained (r .notes .names) (in-hand (r .counts) (now (xs .exit)) (now (ys .exit)) (now (cs .exit)) (now (days .exit)) (now (marks .exit)) (r .notes) (now (names .exit)) (now (lens .exit)) (now (out .exit))) (now (heads .exit)) (now (nexts .exit)) (now (kept .exit)) (now (hashes .exit)) (now («name_heads» .exit)) (now («name_nexts» .exit)) ⌝ }
 {
     let b = begin(s, tab, at, out.len(), to);
     if !b.ready {
@@ -197,6 +197,7 @@ fn one(
         name_nexts,
         out,
         to,
+        notes.names,
     );
     let past = settle(out, to, r.number, r.written);
     let held = r.counts;
@@ -236,9 +237,9 @@ pub fn advance(
     out: &mut [u8],
 ) -> Played
     requires { ⌜ now tab ≡ TABLE ⌝ }
-    requires { ⌜ Maintained (in-hand counts (now xs) (now ys) (now cs) (now days) (now marks) notes (now names) (now lens) (now out)) (now heads) (now nexts) (now kept) (now hashes) (now «name_heads») (now «name_nexts») ⌝ }
+    requires { ⌜ Maintained (notes .names) (in-hand counts (now xs) (now ys) (now cs) (now days) (now marks) notes (now names) (now lens) (now out)) (now heads) (now nexts) (now kept) (now hashes) (now «name_heads») (now «name_nexts») ⌝ }
     ensures { λ r. ⌜ Advances (now (s .entry)) start (in-hand counts (now (xs .entry)) (now (ys .entry)) (now (cs .entry)) (now (days .entry)) (now (marks .entry)) notes (now (names .entry)) (now (lens .entry)) (now (out .entry))) (r .number) (r .paused) (r .at) (r .written) (in-hand (r .counts) (now (xs .exit)) (now (ys .exit)) (now (cs .exit)) (now (days .exit)) (now (marks .exit)) (r .notes) (now (names .exit)) (now (lens .exit)) (now (out .exit))) ⌝ }
-    ensures { λ r. ⌜ Maintained (in-hand (r .counts) (now (xs .exit)) (now (ys .exit)) (now (cs .exit)) (now (days .exit)) (now (marks .exit)) (r .notes) (now (names .exit)) (now (lens .exit)) (now (out .exit))) (now (heads .exit)) (now (nexts .exit)) (now (kept .exit)) (now (hashes .exit)) (now («name_heads» .exit)) (now («name_nexts» .exit)) ⌝ }
+    ensures { λ r. ⌜ Maintained (r .notes .names) (in-hand (r .counts) (now (xs .exit)) (now (ys .exit)) (now (cs .exit)) (now (days .exit)) (now (marks .exit)) (r .notes) (now (names .exit)) (now (lens .exit)) (now (out .exit))) (now (heads .exit)) (now (nexts .exit)) (now (kept .exit)) (now (hashes .exit)) (now («name_heads» .exit)) (now («name_nexts» .exit)) ⌝ }
 {
     let mut at = start;
     let mut to = 0;

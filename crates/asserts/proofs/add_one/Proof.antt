@@ -17,9 +17,6 @@ use Rattle.chains.proofs.push.Reads as push-reads
 use Rattle.inner_add.proofs.fit.Reads as fit-reads
 use Rattle.inner_add.proofs.one_more.Reads as one-more-reads
 
-cast-n : tie.Need-cast-n
-cast-n c = search needs
-
 cast-m : tie.Need-cast-m
 cast-m c = search needs
 
@@ -32,9 +29,9 @@ fit-before-slice-known10 c = c .before .before .before .before .before .before .
 
 fit-requires : tie.Need-fit-requires
 fit-requires c κs =
-    let start = c .before .before .before .before .before .before .before .before .before .before .before .before .before in
+    let start = c .before .before .before .before .before .before .before .before .before .before .before .before in
     rw (toZ-ofZ w32 (start .args .c) (start .fits .c))
-    (ready (start .args .counts) (start .args .xs .now) (start .args .ys .now) (start .args .cs .now) (start .args .days .now)
+    (ready (start .args .counts) (start .args .e) (start .args .xs .now) (start .args .ys .now) (start .args .cs .now) (start .args .days .now)
     (start .args .heads .now) (start .args .nexts .now) (start .args .x) (start .args .y) (start .args .c)
     (start .pre))
 
@@ -43,16 +40,16 @@ push-requires c κs =
     let if1 = c .before .before .before .if1 in
     let at-fit = c .before .before .before .before .before .before .before .before .before .before .before in
     let fit = at-fit .fit in
-    let start = at-fit .before .before .before .before .before .before .before .before .before .before .before .before .before .before in
+    let start = at-fit .before .before .before .before .before .before .before .before .before .before .before .before .before in
     let args = start .args in
-    let t : Tells (args .counts .steps) (first (args .counts .rules)) (args .counts .rules) (rule (args .x) (args .y) (args .c)) (columns (args .xs .now) (args .ys .now) (args .cs .now)) (args .days .now) (fit .result .fits) (fit .result .moved) (columns _ _ _) _
+    let t : Tells (args .e) (first (args .counts .rules)) (args .counts .rules) (rule (args .x) (args .y) (args .c)) (columns (args .xs .now) (args .ys .now) (args .cs .now)) (args .days .now) (fit .result .fits) (fit .result .moved) (columns _ _ _) _
     = rw (toZ-ofZ w32 (args .c) (start .fits .c)) at (fit .ensures) in
-    new-linkable (args .counts) (args .xs .now) (args .ys .now) (args .cs .now) (args .days .now) (args .heads .now) (args .nexts .now)
+    new-linkable (args .counts) (args .e) (args .xs .now) (args .ys .now) (args .cs .now) (args .days .now) (args .heads .now) (args .nexts .now)
     (args .x) (args .y) (args .c) (start .pre) (fit .result .fits) (fit .result .moved) _ _ _ _ t (if1 .taken)
 
 one-more-requires : tie.Need-one-more-requires
 one-more-requires c κs =
-    let start = fit-before-slice-known10 c .before .before .before .before .before .before .before .before .before .before .before .before .before .before in
+    let start = fit-before-slice-known10 c .before .before .before .before .before .before .before .before .before .before .before .before .before in
     start .pre .1 .1 .1 .0
 
 same-length : tie.Need-same-length
@@ -93,12 +90,12 @@ returns c =
     let if1 = then1 .if1 in
     let at-fit = then1 .before .before .before .before .before .before .before .before in
     let fit = at-fit .fit in
-    let start = at-fit .before .before .before .before .before .before .before .before .before .before .before .before .before .before in
+    let start = at-fit .before .before .before .before .before .before .before .before .before .before .before .before .before in
     let one-more = c .one-more in
     let args = start .args in
-    let t : Tells (args .counts .steps) (first (args .counts .rules)) (args .counts .rules) (rule (args .x) (args .y) (args .c)) (columns (args .xs .now) (args .ys .now) (args .cs .now)) (args .days .now) (fit .result .fits) (fit .result .moved) (columns _ _ _) _
+    let t : Tells (args .e) (first (args .counts .rules)) (args .counts .rules) (rule (args .x) (args .y) (args .c)) (columns (args .xs .now) (args .ys .now) (args .cs .now)) (args .days .now) (fit .result .fits) (fit .result .moved) (columns _ _ _) _
     = rw (toZ-ofZ w32 (args .c) (start .fits .c)) at (fit .ensures) in
-    one-held (args .counts) (args .xs .now) (args .ys .now) (args .cs .now) (args .days .now) (args .heads .now) (args .nexts .now)
+    one-held (args .counts) (args .e) (args .xs .now) (args .ys .now) (args .cs .now) (args .days .now) (args .heads .now) (args .nexts .now)
     (args .x) (args .y) (args .c) (start .pre) (fit .result .fits) (fit .result .moved) _ _ _ _ t (if1 .taken) (one-more .result) (one-more .ensures) _ _ (push .ensures)
 
 same-length-7 : tie.Need-same-length-7
@@ -131,19 +128,18 @@ returns-2 : tie.Need-returns-2
 returns-2 c =
     let at-fit = c .before .before .before .before .before .before .before .before in
     let fit = at-fit .fit in
-    let start = at-fit .before .before .before .before .before .before .before .before .before .before .before .before .before .before in
+    let start = at-fit .before .before .before .before .before .before .before .before .before .before .before .before .before in
     let if1 = c .if1 in
     let args = start .args in
-    let t : Tells (args .counts .steps) (first (args .counts .rules)) (args .counts .rules) (rule (args .x) (args .y) (args .c)) (columns (args .xs .now) (args .ys .now) (args .cs .now)) (args .days .now) (fit .result .fits) (fit .result .moved) (columns _ _ _) _
+    let t : Tells (args .e) (first (args .counts .rules)) (args .counts .rules) (rule (args .x) (args .y) (args .c)) (columns (args .xs .now) (args .ys .now) (args .cs .now)) (args .days .now) (fit .result .fits) (fit .result .moved) (columns _ _ _) _
     = rw (toZ-ofZ w32 (args .c) (start .fits .c)) at (fit .ensures) in
-    one-clash (args .counts) (args .xs .now) (args .ys .now) (args .cs .now) (args .days .now) (args .heads .now) (args .nexts .now)
+    one-clash (args .counts) (args .e) (args .xs .now) (args .ys .now) (args .cs .now) (args .days .now) (args .heads .now) (args .nexts .now)
     (args .x) (args .y) (args .c) (start .pre) (fit .result .fits) (fit .result .moved) _ _ _ _ t (if1 .left)
 
 pub add-one-spec : {M : Type 1} → statement M
 add-one-spec =
     tie.close
     (tie.spec
-    cast-n
     cast-m
     fit-requires
     push-requires

@@ -23,13 +23,13 @@ use Rattle.atoms.proofs.next_atom.Reads as next-atom-reads
 use Rattle.names.proofs.find.Reads as find-reads
 
 abbrev Inv-loop : tie.InvT-loop
-Inv-loop s tab at n names lens hashes name-heads name-nexts xs₀ ys₀ cs₀ days₀ heads₀ nexts₀ i₀ held₀ xs ys cs days heads nexts i held =
+Inv-loop s tab at n names lens hashes name-heads name-nexts xs₀ ys₀ cs₀ days₀ heads₀ nexts₀ e i₀ held₀ xs ys cs days heads nexts i held =
     AsLong xs₀ ys₀ cs₀ days₀ heads₀ nexts₀ xs ys cs days heads nexts
-    × (((marks : List ℕ) × Left n names lens (rules-at s at) (unwatched held₀ xs₀ ys₀ cs₀ days₀ marks) (rules-at s i) (unwatched held xs ys cs days marks))
+    × (((marks : List ℕ) × Left n e names lens (rules-at s at) (unwatched held₀ xs₀ ys₀ cs₀ days₀ marks) (rules-at s i) (unwatched held xs ys cs days marks))
     × LentChains (held .steps) (held .rules) xs heads nexts)
 
 abbrev μ-loop : tie.MeasureT-loop
-μ-loop s tab at n names lens hashes name-heads name-nexts xs₀ ys₀ cs₀ days₀ heads₀ nexts₀ i₀ held₀ xs ys cs days heads nexts i held =
+μ-loop s tab at n names lens hashes name-heads name-nexts xs₀ ys₀ cs₀ days₀ heads₀ nexts₀ e i₀ held₀ xs ys cs days heads nexts i held =
     length s - i
 
 -- Places of the code, seen from later ones.
@@ -49,7 +49,7 @@ loop-holds : tie.Need-loop-holds Inv-loop μ-loop
 loop-holds c =
     let start = start-before-slice-known5 c in (
       record { xs-long = refl; ys-long = refl; cs-long = refl; days-long = refl; heads-long = refl; nexts-long = refl },
-      ((start .pre .1 .1 .1 .1 .1 .1 .1 .1 .0 .0, left-start _ _ _ _ _ (start .pre .1 .1 .1 .1 .1 .1 .1 .1 .0 .1) (start .pre .1 .1 .1 .1 .1 .0) (start .pre .1 .1 .1 .1 .1 .1 .0) (start .pre .1 .1 .1 .1 .1 .1 .1 .0)), start .pre .1 .1 .1 .1 .1 .1 .1 .1 .1 .0),
+      ((start .pre .1 .1 .1 .1 .1 .1 .1 .1 .0 .0, left-start _ _ _ _ _ _ (start .pre .1 .1 .1 .1 .1 .1 .1 .1 .0 .1) (start .pre .1 .1 .1 .1 .1 .0) (start .pre .1 .1 .1 .1 .1 .1 .1 .1 .1 .1 .1) (start .pre .1 .1 .1 .1 .1 .1 .0) (start .pre .1 .1 .1 .1 .1 .1 .1 .0)), start .pre .1 .1 .1 .1 .1 .1 .1 .1 .1 .0),
     )
 
 next-atom-requires : tie.Need-next-atom-requires Inv-loop μ-loop
@@ -90,7 +90,7 @@ same-length-6 c =
 returns : tie.Need-returns Inv-loop μ-loop
 returns c =
     let loop = c .before .before .before .loop in
-    (left-none _ _ _ _ _ _ _ (c .before .before .next-atom .ensures .when-none (not-true _ (c .if1 .taken))) (loop .inv .1 .0 .1), loop .inv .1 .1)
+    (left-none _ _ _ _ _ _ _ _ (c .before .before .next-atom .ensures .when-none (not-true _ (c .if1 .taken))) (loop .inv .1 .0 .1), loop .inv .1 .1)
 
 find-requires : tie.Need-find-requires Inv-loop μ-loop
 find-requires c κs =
@@ -129,10 +129,10 @@ add-one-requires c κs =
       (
         loop .inv .1 .1,
         (
-          rw (toZ-ofZ w32 (next-atom .result .amount) (record { sfits = c .struct-told .given .1 .1 .1 .1 .1 .0 .1 })) (atom-good _ _ _ _ _ _ _ (next-atom .result) _ (find .result) (find2 .result) (next-atom .ensures) (not-false _ (if1 .left)) (loop .inv .1 .0 .1) (start .pre .1 .1 .1 .1 .0) (find .ensures) (find2 .ensures)),
+          rw (toZ-ofZ w32 (next-atom .result .amount) (record { sfits = c .struct-told .given .1 .1 .1 .1 .1 .0 .1 })) (atom-good _ _ _ _ _ _ _ _ (next-atom .result) _ (find .result) (find2 .result) (next-atom .ensures) (not-false _ (if1 .left)) (loop .inv .1 .0 .1) (start .pre .1 .1 .1 .1 .0) (find .ensures) (find2 .ensures)),
           (
-            atom-place _ _ _ _ _ _ _ (next-atom .result) _ (find .result) (find2 .result) (next-atom .ensures) (not-false _ (if1 .left)) (loop .inv .1 .0 .1) (start .pre .1 .1 .1 .1 .0) (find .ensures) (find2 .ensures),
-            omega (arith, start .pre .1 .1 .1 .1 .1 .1 .1 .1 .1 .1, loop .inv .0 .nexts-long),
+            atom-place _ _ _ _ _ _ _ _ (next-atom .result) _ (find .result) (find2 .result) (next-atom .ensures) (not-false _ (if1 .left)) (loop .inv .1 .0 .1) (start .pre .1 .1 .1 .1 .0) (find .ensures) (find2 .ensures),
+            (omega (arith, start .pre .1 .1 .1 .1 .1 .1 .1 .1 .1 .1 .0, loop .inv .0 .nexts-long), loop .inv .1 .0 .1 .within),
           ),
         ),
       ),
@@ -194,7 +194,7 @@ returns-2 c =
     let next-atom = at-next-atom .next-atom in
     let loop = at-next-atom .before .loop in
     let start = at-next-atom .before .before .before .before .before .before .before .before .before .before .before .before .before in
-    (atom-clash _ _ _ _ _ _ _ (next-atom .result) _ (find .result) (find2 .result) (next-atom .ensures) (not-false _ (if1 .left)) (loop .inv .1 .0 .1) (start .pre .1 .1 .1 .1 .0) (find .ensures) (find2 .ensures) _ _ (c .if2 .taken) (rw (toZ-ofZ w32 (next-atom .result .amount) (record { sfits = struct-told .given .1 .1 .1 .1 .1 .0 .1 })) at (add-one .ensures .0 (loop .inv .1 .0 .0))), add-one .ensures .1)
+    (atom-clash _ _ _ _ _ _ _ _ (next-atom .result) _ (find .result) (find2 .result) (next-atom .ensures) (not-false _ (if1 .left)) (loop .inv .1 .0 .1) (start .pre .1 .1 .1 .1 .0) (find .ensures) (find2 .ensures) _ _ (c .if2 .taken) (rw (toZ-ofZ w32 (next-atom .result .amount) (record { sfits = struct-told .given .1 .1 .1 .1 .1 .0 .1 })) at (add-one .ensures .0 (loop .inv .1 .0 .0))), add-one .ensures .1)
 
 loop-less : tie.Need-loop-less Inv-loop μ-loop
 loop-less c =
@@ -225,7 +225,7 @@ loop-again c =
         heads-long = (add-one .kept .1 .1 .1 .1 .1 .0) ∙ (loop .inv .0 .heads-long);
         nexts-long = (add-one .kept .1 .1 .1 .1 .1 .1 .0) ∙ (loop .inv .0 .nexts-long);
       },
-      ((loop .inv .1 .0 .0, atom-held _ _ _ _ _ _ _ (next-atom .result) _ (find .result) (find2 .result) (next-atom .ensures) (not-false _ (if1 .left)) (loop .inv .1 .0 .1) (start .pre .1 .1 .1 .1 .0) (find .ensures) (find2 .ensures) _ _ (c .before .if2 .left) (rw (toZ-ofZ w32 (next-atom .result .amount) (record { sfits = struct-told .given .1 .1 .1 .1 .1 .0 .1 })) at (add-one .ensures .0 (loop .inv .1 .0 .0)))), add-one .ensures .1),
+      ((loop .inv .1 .0 .0, atom-held _ _ _ _ _ _ _ _ (next-atom .result) _ (find .result) (find2 .result) (next-atom .ensures) (not-false _ (if1 .left)) (loop .inv .1 .0 .1) (start .pre .1 .1 .1 .1 .0) (find .ensures) (find2 .ensures) _ _ (c .before .if2 .left) (rw (toZ-ofZ w32 (next-atom .result .amount) (record { sfits = struct-told .given .1 .1 .1 .1 .1 .0 .1 })) at (add-one .ensures .0 (loop .inv .1 .0 .0)))), add-one .ensures .1),
     )
 
 pub add-rules-spec : {M : Type 1} → statement M

@@ -27,7 +27,7 @@ Inv-loop s tab xs₀ ys₀ cs₀ days₀ marks₀ heads₀ nexts₀ kept₀ name
     × ((length name-heads ≡ length name-heads₀)
     × ((length name-nexts ≡ length name-nexts₀)
     × (length out ≡ length out₀))))))))))))))
-    × (Maintained (in-hand held xs ys cs days marks noted names lens out) heads nexts kept hashes name-heads name-nexts
+    × (Maintained (noted .names) (in-hand held xs ys cs days marks noted names lens out) heads nexts kept hashes name-heads name-nexts
     × ((r : ℕ) → Ends s at (in-hand held xs ys cs days marks noted names lens out) r → Ends s at₀ (in-hand held₀ xs₀ ys₀ cs₀ days₀ marks₀ noted₀ names₀ lens₀ out₀) r))
 
 abbrev μ-loop : tie.MeasureT-loop

@@ -10,7 +10,7 @@ use Rattle.script_meaning.specs.Effect.{Does}
 use Rattle.script_meaning.proofs.Naming.{declared-in-form, asked-few, asked-within}
 use Rattle.script_meaning.proofs.Keeping.{Fine, tables-border, shelved-of, does-fine}
 use Rattle.script_telling.proofs.Indexing.{indexed-after}
-use Rattle.script_moving.proofs.Laws.{moves-border}
+use Rattle.script_moving.proofs.Laws.{moves-border, moves-within}
 use Rattle.script_command.specs.Carrying.{in-hand}
 use Rattle.script_command.proofs.Composing.{Made, does}
 use Rattle.script_command.proofs.Granting.{movable-of, declarable, knows}
@@ -40,7 +40,7 @@ print-requires c κs =
               (λ i e. asked-within (args .s .now) i (is ∙ e)),
               (
                 knows before (args .s .now) fine (args .c) (start .pre .1 .1 .0),
-                ((λ i e. asked-few (args .s .now) i (is ∙ e)), (m .room .tables-room .days-room, start .pre .1 .1 .1 .1)),
+                ((λ i e. asked-few (args .s .now) i (is ∙ e)), (m .room .tables-room .days-room, start .pre .1 .1 .1 .1 .0)),
               ),
             ),
           ),
@@ -63,7 +63,7 @@ move-tables-requires c κs =
           m .indexed,
           (
             m .sound .names-different,
-            (movable-of before (args .s .now) fine (args .c) is (start .pre .1 .1 .0), (tables-border fine, (m .chained, (m .nexts-room, m .days-kept)))),
+            (movable-of before (args .s .now) fine (args .c) is (start .pre .1 .1 .0), (tables-border fine, (m .chained, (m .nexts-room, (m .days-kept, (start .pre .1 .1 .1 .1 .1, m .within)))))),
           ),
         ),
       ),
@@ -202,6 +202,9 @@ returns c =
           chained = move-tables .ensures .1 .0;
           nexts-room = omega (arith, move-tables .kept .1 .1 .1 .1 .1 .1 .1 .1 .1 .1 .1 .1 .1 .1 .1 .1 .1 .0, m .nexts-room);
           days-kept = move-tables .ensures .1 .1;
+          within =
+              moves-within (args .e) (args .c) (args .notes .broken) (args .s .now) (args .notes .names) (args .names .now) (args .lens .now) (before .tables) moved (move-tables .result .clash)
+              (movable-of before (args .s .now) fine (args .c) is (start .pre .1 .1 .0)) (tables-border fine) (start .pre .1 .1 .1 .1 .1) (m .within) moves;
           indexed = subst (λ (n : ℕ). Indexed n (declare .last .1 .1 .1 .0) (declare .last .1 .1 .1 .1 .0) (declare .last .1 .1 .1 .1 .1 .0) (declare .last .1 .1 .1 .1 .1 .1 .0) (declare .last .1 .1 .1 .1 .1 .1 .1 .0)) (sym (ap (λ (x : Notes). x .names) (notes-after .ensures)))
               (indexed-after (args .c) (args .s .now) (args .notes) (move-tables .result .clash) (move-tables .result .counts .marks) (args .names .now) (args .lens .now) (args .hashes .now) (args .name-heads .now) (args .name-nexts .now) (declare .last .1 .1 .1 .0) (declare .last .1 .1 .1 .1 .0) (declare .last .1 .1 .1 .1 .1 .0) (declare .last .1 .1 .1 .1 .1 .1 .0) (declare .last .1 .1 .1 .1 .1 .1 .1 .0) (declare .ensures) (m .indexed));
         },

@@ -29,7 +29,7 @@ add-rules-requires c κs =
     let pre = start .pre in
     let movable = pre .1 .1 .1 .1 .0 in
     let place = work-of .ensures .0 in
-    (pre .0, (rw place (movable .term-in), (pre .1 .0, (pre .1 .1 .0, (pre .1 .1 .1 .0, (movable .names-known, (rw place (movable .rules-fine), (rw place (movable .places), ((start .args .marks .now, pre .1 .1 .1 .1 .1 .0), (pre .1 .1 .1 .1 .1 .1 .0, pre .1 .1 .1 .1 .1 .1 .1 .0))))))))))
+    (pre .0, (rw place (movable .term-in), (pre .1 .0, (pre .1 .1 .0, (pre .1 .1 .1 .0, (pre .1 .1 .1 .1 .1 .1 .1 .1 .1 .0, (rw place (movable .rules-fine), (rw place (movable .places), ((start .args .marks .now, pre .1 .1 .1 .1 .1 .0), (pre .1 .1 .1 .1 .1 .1 .0, (pre .1 .1 .1 .1 .1 .1 .1 .0, pre .1 .1 .1 .1 .1 .1 .1 .1 .1 .1)))))))))))
 
 push-requires : tie.Need-push-requires
 push-requires c κs =
@@ -64,7 +64,7 @@ pop-requires c κs =
         omega (arith, marks-are, held .grown .same-open, asked .0 .marks-there, work-of .ensures .1 .1),
         (
           rw (push .ensures .0) (add-rules .ensures .1),
-          rw (ap (λ (x : Counts). x .steps) (push .ensures .0)) (push .ensures .1 .1 (columns (last .0) (last .1 .0) (last .1 .1 .0)) idle (held .border .sound) (days-stay before added (args .kept .now) (asked .1 .0 .sound) (held .grown) (asked .1 .1 .1 .1))),
+          rw (ap (λ (x : Counts). x .steps) (push .ensures .0)) (push .ensures .1 .1 (columns (last .0) (last .1 .0) (last .1 .1 .0)) idle (held .border .sound) (days-stay before added (args .kept .now) (asked .1 .0 .sound) (held .grown) (asked .1 .1 .1 .1 .0))),
         ),
       ),
     )
@@ -129,7 +129,7 @@ returns c =
     let same = pushed-same (work-of .result .push) added (push .result) (push .last .1 .1 .0) (push .ensures .0) (push .ensures .1 .0) in
     let adds = subst (λ (i : ℕ). AddsAll (map (resolved (step-in (args .n) (args .names .now) (args .lens .now))) (rules-at (args .s .now) i)) before (add-rules .result .clash) added) (work-of .ensures .0) (add-rules .ensures .0 (args .marks .now)) in
     let dropped = subst (λ (u : Tables). Popped (work-of .result .pop) u after) same (pop .ensures .0) in
-    let kept = push .ensures .1 .1 (columns (last .0) (last .1 .0) (last .1 .1 .0)) idle (held .border .sound) (days-stay before added (args .kept .now) (asked .1 .0 .sound) (held .grown) (asked .1 .1 .1 .1)) in (
+    let kept = push .ensures .1 .1 (columns (last .0) (last .1 .0) (last .1 .1 .0)) idle (held .border .sound) (days-stay before added (args .kept .now) (asked .1 .0 .sound) (held .grown) (asked .1 .1 .1 .1 .0)) in (
       (
         added,
         (

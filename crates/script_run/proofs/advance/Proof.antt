@@ -26,7 +26,7 @@ Inv-loop s tab start xs₀ ys₀ cs₀ days₀ marks₀ heads₀ nexts₀ kept�
     × ((length name-nexts ≡ length name-nexts₀)
     × ((length out ≡ length out₀)))))))))))))))
     × (Underway s start (in-hand held₀ xs₀ ys₀ cs₀ days₀ marks₀ noted₀ names₀ lens₀ out₀) at to (in-hand held xs ys cs days marks noted names lens out)
-    × Maintained (in-hand held xs ys cs days marks noted names lens out) heads nexts kept hashes name-heads name-nexts)
+    × Maintained (noted .names) (in-hand held xs ys cs days marks noted names lens out) heads nexts kept hashes name-heads name-nexts)
 
 abbrev μ-loop : tie.MeasureT-loop
 μ-loop s tab start xs₀ ys₀ cs₀ days₀ marks₀ heads₀ nexts₀ kept₀ names₀ lens₀ hashes₀ name-heads₀ name-nexts₀ out₀ at₀ to₀ held₀ noted₀ xs ys cs days marks heads nexts kept names lens hashes name-heads name-nexts out at to held noted = length s - at

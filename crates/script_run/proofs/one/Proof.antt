@@ -10,6 +10,7 @@ use Rattle.meaning.specs.Bounds.{SHORT}
 use borrow.Author.Needs.{needs}
 use Rattle.script_command.specs.Carrying.{in-hand, Carries}
 use Rattle.script_run.proofs.Stepping.{maintained-out, part-is, halts-room, halted-steps, carried-short, carried-steps}
+use Rattle.script_run.proofs.Naming.{carried-named}
 use Rattle.script_run.proofs.one.Statement.{statement}
 use Rattle.script_run.proofs.one.Tie as tie
 
@@ -37,7 +38,7 @@ returns c =
     let halt = c .before .before .before .halt in
     let if1 = c .before .before .before .before .before .if1 in
     let before = in-hand (start .args .counts) (start .args .xs .now) (start .args .ys .now) (start .args .cs .now) (start .args .days .now) (start .args .marks .now) (start .args .notes) (start .args .names .now) (start .args .lens .now) (start .args .out .now) in
-    (halted-steps (start .args .s .now) (start .args .at) before (start .args .to) (begin .result .number) (halt .result) (halt .last .0) (eqb (begin .result .number) SHORT) (eqb-true (begin .result .number) SHORT) (eqb-false (begin .result .number) SHORT) (begin .ensures .when-not (not-true _ (if1 .taken))) (halt .ensures), maintained-out before (halt .last .0) (start .args .heads .now) (start .args .nexts .now) (start .args .kept .now) (start .args .hashes .now) (start .args .name-heads .now) (start .args .name-nexts .now) (start .pre .1))
+    (halted-steps (start .args .s .now) (start .args .at) before (start .args .to) (begin .result .number) (halt .result) (halt .last .0) (eqb (begin .result .number) SHORT) (eqb-true (begin .result .number) SHORT) (eqb-false (begin .result .number) SHORT) (begin .ensures .when-not (not-true _ (if1 .taken))) (halt .ensures), maintained-out (start .args .notes .names) (start .args .notes .names) before (halt .last .0) (start .args .heads .now) (start .args .nexts .now) (start .args .kept .now) (start .args .hashes .now) (start .args .name-heads .now) (start .args .name-nexts .now) (omega arith) (start .pre .1 .within .steps-there) (start .pre .1))
 
 sub-carry : tie.Need-sub-carry
 sub-carry c =
@@ -59,7 +60,7 @@ carry-requires c κs =
     let start = c .before .before .before .before .before .before .before .before .before .before .before .before .before .before .before .before .before .before .before .before .before .before .before .before .before .before .before .before .before .before .before .before in
     let begin = c .before .before .before .before .before .before .before .before .before .before .before .before .before .before .before .before .before .begin in
     let if1 = c .before .before .before .before .before .before .before .before .before .before .before .before .before .before .before .if1 in
-    (start .pre .0, (start .pre .1, (begin .ensures .when-ready (not-false _ (if1 .left))) .room))
+    (start .pre .0, (start .pre .1, ((begin .ensures .when-ready (not-false _ (if1 .left))) .room, omega arith)))
 
 settle-requires : tie.Need-settle-requires
 settle-requires c κs =
@@ -156,7 +157,7 @@ returns-2 c =
     let goes-on = c .goes-on in
     let before = in-hand (start .args .counts) (start .args .xs .now) (start .args .ys .now) (start .args .cs .now) (start .args .days .now) (start .args .marks .now) (start .args .notes) (start .args .names .now) (start .args .lens .now) (start .args .out .now) in
     let after = in-hand (carry .result .counts) (carry .last .1 .1 .1 .1 .0) (carry .last .1 .1 .1 .1 .1 .0) (carry .last .1 .1 .1 .1 .1 .1 .0) (carry .last .1 .1 .1 .1 .1 .1 .1 .0) (carry .last .1 .1 .1 .1 .1 .1 .1 .1 .0) (carry .result .notes) (carry .last .1 .1 .1 .1 .1 .1 .1 .1 .1 .1 .1 .1 .0) (carry .last .1 .1 .1 .1 .1 .1 .1 .1 .1 .1 .1 .1 .1 .0) (carry .last .1 .1 .1 .1 .1 .1 .1 .1 .1 .1 .1 .1 .1 .1 .1 .1 .1 .0) in
-    (carried-steps (start .args .s .now) (start .args .at) before (start .args .to) (begin .result .from) (begin .result .end) (begin .ensures .when-ready (not-false _ (if1 .left))) (carry .result) after (subst (λ (x : List ℕ). Carries x (start .args .to) before (carry .result) after) (part-is (start .args .s .now) (start .args .at) (length (start .args .out .now)) (start .args .to) (begin .result .from) (begin .result .end) ((begin .result .end) - (begin .result .from)) (begin .ensures .when-ready (not-false _ (if1 .left))) (omega (arith, (begin .ensures .when-ready (not-false _ (if1 .left))) .from-is, (begin .ensures .when-ready (not-false _ (if1 .left))) .end-is))) (carry .ensures .0)) (settle .last .0) (settle .result) (settle .ensures) (goes-on .result) (goes-on .ensures), maintained-out after (settle .last .0) (carry .last .1 .1 .1 .1 .1 .1 .1 .1 .1 .0) (carry .last .1 .1 .1 .1 .1 .1 .1 .1 .1 .1 .0) (carry .last .1 .1 .1 .1 .1 .1 .1 .1 .1 .1 .1 .0) (carry .last .1 .1 .1 .1 .1 .1 .1 .1 .1 .1 .1 .1 .1 .1 .0) (carry .last .1 .1 .1 .1 .1 .1 .1 .1 .1 .1 .1 .1 .1 .1 .1 .0) (carry .last .1 .1 .1 .1 .1 .1 .1 .1 .1 .1 .1 .1 .1 .1 .1 .1 .0) (carry .ensures .1))
+    (carried-steps (start .args .s .now) (start .args .at) before (start .args .to) (begin .result .from) (begin .result .end) (begin .ensures .when-ready (not-false _ (if1 .left))) (carry .result) after (subst (λ (x : List ℕ). Carries x (start .args .to) before (carry .result) after) (part-is (start .args .s .now) (start .args .at) (length (start .args .out .now)) (start .args .to) (begin .result .from) (begin .result .end) ((begin .result .end) - (begin .result .from)) (begin .ensures .when-ready (not-false _ (if1 .left))) (omega (arith, (begin .ensures .when-ready (not-false _ (if1 .left))) .from-is, (begin .ensures .when-ready (not-false _ (if1 .left))) .end-is))) (carry .ensures .0)) (settle .last .0) (settle .result) (settle .ensures) (goes-on .result) (goes-on .ensures), maintained-out (start .args .notes .names) (carry .result .notes .names) after (settle .last .0) (carry .last .1 .1 .1 .1 .1 .1 .1 .1 .1 .0) (carry .last .1 .1 .1 .1 .1 .1 .1 .1 .1 .1 .0) (carry .last .1 .1 .1 .1 .1 .1 .1 .1 .1 .1 .1 .0) (carry .last .1 .1 .1 .1 .1 .1 .1 .1 .1 .1 .1 .1 .1 .1 .0) (carry .last .1 .1 .1 .1 .1 .1 .1 .1 .1 .1 .1 .1 .1 .1 .1 .0) (carry .last .1 .1 .1 .1 .1 .1 .1 .1 .1 .1 .1 .1 .1 .1 .1 .1 .0) (carried-named _ (start .args .to) before (carry .result) after (carry .ensures .0)) (omega (arith, carry .ensures .1 .sound .names-in, carry .ensures .1 .sound .all-steps)) (carry .ensures .1))
 
 pub one-spec : {M : Type 1} → statement M
 one-spec =
