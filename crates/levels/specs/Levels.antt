@@ -45,7 +45,7 @@ pub record Popped (n : ℕ) (before after : Tables) : Type 0 where
 
 -- Kept days stand in so many rows, which the marks use in turn.
 abbrev pub ROWS : ℕ
-ROWS = 16
+ROWS = 4
 
 -- A row has STEPS days and one place more, which names the mark whose days they are.
 abbrev pub ROW : ℕ

@@ -17,7 +17,7 @@ ghost use Rattle.levels.specs.Levels.{marked, more-marks, row-of, Popped
 use meaning::Counts;
 
 // So many rows of kept days are used in turn.
-pub const ROWS: usize = 16;
+pub const ROWS: usize = 4;
 
 // A row has STEPS days and one place more, for the mark whose days they are: k + 1 names mark k, and 0 none.
 pub const ROW: usize = meaning::STEPS + 1;

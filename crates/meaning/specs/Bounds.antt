@@ -3,7 +3,7 @@ use Prim.Native.Nat.{ℕ}
 
 -- Steps are numbered from 0, and there are 1 to STEPS of them. A list lent for days or for a ring has at least STEPS places.
 abbrev pub STEPS : ℕ
-STEPS = 256
+STEPS = 1024
 
 -- At most so many rules are held.
 abbrev pub RULES : ℕ

@@ -5,7 +5,7 @@ ghost use Rattle.meaning.specs.Tables.{steps-alone, rules-now, marks-now
 ghost use Rattle.meaning.specs.Promise.{reply};
 
 // There are 1 to STEPS steps.
-pub const STEPS: usize = 256;
+pub const STEPS: usize = 1024;
 
 // At most so many rules are held.
 pub const RULES: usize = 4096;
