@@ -1,6 +1,6 @@
 #ifndef DATES_H
 #define DATES_H
-#define DATES_VERSION "1.0.0"
+#define DATES_VERSION "1.1.0"
 
 /*
  * The date engine's calls, for C (C99 and later) and C++ (C++11 and later). The library is libdates where it is installed (./install), in the
@@ -32,12 +32,12 @@ extern "C" {
 #endif
 
 /* The bounds. */
-#define DATES_STEPS 256         /* there are 1 to so many steps, numbered from 0; a list lent for days or for a ring has at least so many places */
+#define DATES_STEPS 1024        /* there are 1 to so many steps, numbered from 0; a list lent for days or for a ring has at least so many places */
 #define DATES_RULES 4096        /* at most so many rules are held, numbered from 0 in order of adding */
 #define DATES_LARGEST 1000000   /* the largest amount; the smallest is -DATES_LARGEST */
 #define DATES_MARKS 64          /* at most so many marks are open */
 #define DATES_WATCHED 1024      /* at most so many rules are watched, numbered from 0 */
-#define DATES_LATEST 255000000  /* no day of an earliest plan is later */
+#define DATES_LATEST 1023000000 /* no day of an earliest plan is later */
 #define DATES_TEXT 65536        /* a script has at most so many bytes, where it is run as a whole */
 #define DATES_NAME_BYTES 32     /* a name has at most so many bytes, and so many places in the table of names */
 #define DATES_DEPTH 16          /* terms are at most so deep, the asserted term itself being depth 1 */
@@ -285,7 +285,7 @@ uint32_t dates_command(
 uint32_t dates_run_script(const uint8_t *script, size_t script_len, uint8_t *out, size_t out_len, size_t *written);
 
 /*
- * One set of all that is lent, each table at its bound. It is large (some 80,000 bytes): make it static or take it from the heap. It needs no setting up but
+ * One set of all that is lent, each table at its bound. It is large (some 112,000 bytes): make it static or take it from the heap. It needs no setting up but
  * dates_t_open or dates_t_start.
  */
 typedef struct dates_tables {

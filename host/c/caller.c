@@ -94,7 +94,7 @@ static void refusals(void)
     uint32_t last;
 
     case_3();
-    count(dates_t_open(&t, 0) == DATES_STEP && dates_t_open(&t, DATES_STEPS + 1) == DATES_STEP && days_are(0, 2, 5, 0), "Open with 0 and 257 steps");
+    count(dates_t_open(&t, 0) == DATES_STEP && dates_t_open(&t, DATES_STEPS + 1) == DATES_STEP && days_are(0, 2, 5, 0), "Open with no step, and with one too many");
     count(dates_t_add(&t, 4, 0, 0, &value) == DATES_STEP && value == 0, "a step number not below the count");
     /* Numbers that would be the steps 0, 1 and 65,535, were they cut to 16 bits. */
     for (last = 0; last < 3; last++) {
@@ -136,6 +136,38 @@ static void short_tables(void)
     for (which = 0; which < 8; which++)
         count(open_short(which) == DATES_SHORT && days_are(0, 2, 5, 0), "Open with a table one place short");
     count(open_short(8) == DATES_DONE && t.counts.steps == 7, "Open with every table at its bound");
+}
+
+/* How many steps there could be in version 1.0.0. */
+enum { BEFORE = 256 };
+
+#define LENT(days_len) \
+    t.xs, DATES_RULES, t.ys, DATES_RULES, t.cs, DATES_RULES, t.days, days_len, t.marks, DATES_MARKS, t.wxs, DATES_WATCHED, t.wys, DATES_WATCHED, t.wcs, DATES_WATCHED
+
+/* Tables and lists as they were kept then are DATES_SHORT, whatever the step count; so many steps in tables of today are sound. */
+static void kept_before(void)
+{
+    const uint8_t *leave = (const uint8_t *)"(exit)";
+    uint32_t value = 9;
+    size_t read = 9;
+    size_t written = 9;
+
+    case_3();
+    count(dates_open(&t.counts, LENT(BEFORE), 4) == DATES_SHORT && t.counts.rules == 2, "Open with the days of before");
+    count(dates_mark(&t.counts, LENT(BEFORE)) == DATES_SHORT && t.counts.marks == 0, "Mark with the days of before");
+    count(dates_add(&t.counts, LENT(DATES_STEPS), t.ring, BEFORE, 2, 0, 5, &value) == DATES_SHORT && value == 0 && t.counts.rules == 2, "Add with the list of before");
+    count(dates_trial(&t.counts, LENT(DATES_STEPS), t.tried, BEFORE, t.ring, DATES_STEPS, 2, 0, 5, &value) == DATES_SHORT, "Trial with the list of days of before");
+    count(dates_trial(&t.counts, LENT(DATES_STEPS), t.tried, DATES_STEPS, t.ring, BEFORE, 2, 0, 5, &value) == DATES_SHORT, "Trial with the list for rings of before");
+    count(dates_start(&t.counts, &t.record, LENT(DATES_STEPS), t.names, BEFORE * DATES_NAME_BYTES, t.lens, DATES_STEPS) == DATES_SHORT, "Start with the names of before");
+    count(dates_start(&t.counts, &t.record, LENT(DATES_STEPS), t.names, sizeof t.names, t.lens, BEFORE) == DATES_SHORT && t.counts.rules == 2, "Start with the lengths of before");
+
+    dates_t_start(&t);
+    count(dates_command(leave, 6, &t.counts, &t.record, LENT(DATES_STEPS), t.names, BEFORE * DATES_NAME_BYTES, t.lens, DATES_STEPS, t.out, DATES_ROOM, &read, &written) == DATES_SHORT && read == 0, "a command with the names of before");
+    count(dates_command(leave, 6, &t.counts, &t.record, LENT(DATES_STEPS), t.names, sizeof t.names, t.lens, BEFORE, t.out, DATES_ROOM, &read, &written) == DATES_SHORT, "a command with the lengths of before");
+    count(dates_t_command(&t, leave, 6, &read, &written) == DATES_DONE && read == 6, "a command with all that it needs");
+    count(dates_t_open(&t, BEFORE) == DATES_DONE && dates_t_add(&t, 0, BEFORE - 1, -2, &value) == DATES_DONE && value == 1 && t.days[BEFORE - 1] == 2, "as many steps as before");
+    count(dates_t_add(&t, BEFORE, 0, 0, &value) == DATES_STEP && dates_t_mark(&t) == DATES_DONE && dates_t_back(&t) == DATES_DONE, "and no more");
+    count(dates_t_command(&t, leave, 6, &read, &written) == DATES_DAMAGED && read == 0, "a script has all steps");
 }
 
 static const char script[] =
@@ -190,6 +222,7 @@ int main(void)
     worked_cases();
     refusals();
     short_tables();
+    kept_before();
     scripts();
     printf("%d passed, %d failed\n", passed, failed);
     return failed > 0;

@@ -1,6 +1,6 @@
 /*
  * How much stack each call takes: every call but the whole script is made once on a stack of its own of 64 KiB, with a page below it that may not be touched, on full
- * tables. It checks that each stays within, and prints how many bytes each used; the last line is `N passed, M failed`.
+ * tables. It checks that none takes more than README says, and prints how many bytes each used; the last line is `N passed, M failed`.
  */
 #define _GNU_SOURCE
 #include "dates.h"
@@ -10,7 +10,7 @@
 #include <sys/mman.h>
 #include <ucontext.h>
 
-enum { STACK = 65536, GUARD = 65536, PAINT = 0xA5 };
+enum { STACK = 65536, MOST = 46000, GUARD = 65536, PAINT = 0xA5, LAST = DATES_STEPS - 1 };
 
 static dates_tables t;
 static dates_tables script;
@@ -19,14 +19,15 @@ static uint32_t number, value, other;
 static size_t used_text, used_out;
 static const uint8_t assertion[] = "(assert (and (<= (- a b) 1) (not (<= (- b a) (- 5)))))";
 
-static void do_open(void) { number = dates_t_open(&t, 256); }
+static void do_open(void) { number = dates_t_open(&t, DATES_STEPS); }
 static void do_watch(void) { number = dates_t_watch(&t, 1, 2, 3); }
 static void do_mark(void) { number = dates_t_mark(&t); }
 static void do_back(void) { number = dates_t_back(&t); }
-static void do_add(void) { number = dates_t_add(&t, 255, 0, 0, &value); }
-static void do_trial(void) { number = dates_t_trial(&t, 255, 0, 0, &value); }
+static void do_add(void) { number = dates_t_add(&t, LAST, 0, 0, &value); }
+static void do_move(void) { number = dates_t_add(&t, 0, 1, -2, &value); }
+static void do_trial(void) { number = dates_t_trial(&t, LAST, 0, 0, &value); }
 static void do_consequences(void) { number = dates_t_consequences(&t, &value, &other); }
-static void do_ring_check(void) { number = dates_t_ring_check(&t, t.ring, 256, 255, 0, 0, &value); }
+static void do_ring_check(void) { number = dates_t_ring_check(&t, t.ring, DATES_STEPS, LAST, 0, 0, &value); }
 static void do_start(void) { number = dates_t_start(&script); }
 static void do_pop(void) { number = dates_t_command(&script, (const uint8_t *)"(pop 1)", 7, &used_text, &used_out); }
 static void do_command(void) { number = dates_t_command(&script, assertion, sizeof assertion - 1, &used_text, &used_out); }
@@ -48,15 +49,15 @@ static size_t used(uint8_t *stack, void (*call)(void))
 
 static void command(const char *text) { dates_t_command(&script, (const uint8_t *)text, strlen(text), &used_text, &used_out); }
 
-/* 256 steps in a chain and 4,094 rules, 1,023 watched rules over all steps, 63 marks: nearly full, so that nothing is FULL. */
+/* All steps in a chain and 4,094 rules, 1,023 watched rules over all steps, 63 marks: nearly full, so that nothing is FULL. */
 static void fill(void)
 {
     uint32_t i;
-    dates_t_open(&t, 256);
-    for (i = 0; i < 255; i++) dates_t_add(&t, i, i + 1, -1, &value);
-    for (i = 255; i < 4094; i++) dates_t_add(&t, i % 256, i * 7 % 256, 1000, &value);
-    for (i = 0; i < 1023; i++) dates_t_watch(&t, i % 256, (i + 5) % 256, 0);
-    for (i = 0; i < 63; i++) dates_t_mark(&t);
+    dates_t_open(&t, DATES_STEPS);
+    for (i = 0; i < LAST; i++) dates_t_add(&t, i, i + 1, -1, &value);
+    for (i = LAST; i < DATES_RULES - 2; i++) dates_t_add(&t, i % DATES_STEPS, i * 7 % DATES_STEPS, DATES_STEPS, &value);
+    for (i = 0; i < DATES_WATCHED - 1; i++) dates_t_watch(&t, i % DATES_STEPS, (i + 5) % DATES_STEPS, 0);
+    for (i = 0; i < DATES_MARKS - 1; i++) dates_t_mark(&t);
     dates_t_start(&script);
     command("(set-logic QF_IDL)");
     command("(declare-fun a () Int)");
@@ -68,9 +69,9 @@ int main(void)
 {
     static const struct { const char *name; void (*call)(void); uint32_t gives; } calls[] = {
         { "Add, conflict", do_add, DATES_CONFLICT }, { "Ring check", do_ring_check, DATES_DONE }, { "Trial", do_trial, DATES_CONFLICT },
-        { "Watch", do_watch, DATES_DONE },           { "Mark", do_mark, DATES_DONE },             { "Consequences", do_consequences, DATES_DONE },
-        { "Back", do_back, DATES_DONE },             { "command, assert", do_command, DATES_DONE }, { "command, pop", do_pop, DATES_DONE },
-        { "start", do_start, DATES_DONE },           { "Open", do_open, DATES_DONE },
+        { "Watch", do_watch, DATES_DONE },           { "Mark", do_mark, DATES_DONE },             { "Add, steps move", do_move, DATES_DONE },
+        { "Consequences", do_consequences, DATES_DONE }, { "Back", do_back, DATES_DONE },         { "command, assert", do_command, DATES_DONE },
+        { "command, pop", do_pop, DATES_DONE },      { "start", do_start, DATES_DONE },           { "Open", do_open, DATES_DONE },
     };
     int passed = 0, failed = 0;
     size_t i;
@@ -84,11 +85,11 @@ int main(void)
         size_t bytes;
         bytes = used(memory + GUARD, calls[i].call);
         printf("%s: %lu bytes of stack\n", calls[i].name, (unsigned long)bytes);
-        if (bytes < STACK && number == calls[i].gives) {
+        if (bytes <= MOST && number == calls[i].gives) {
             passed++;
         } else {
             failed++;
-            printf("FAILED: %s gave %u\n", calls[i].name, (unsigned)number);
+            printf("FAILED: %s gave %u, or took more than %d bytes\n", calls[i].name, (unsigned)number, MOST);
         }
     }
     printf("%d passed, %d failed\n", passed, failed);

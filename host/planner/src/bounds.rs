@@ -1,7 +1,7 @@
 //! The bounds of the library.
 
 /// There are 1 to so many steps, numbered from 0.
-pub const STEPS: usize = 256;
+pub const STEPS: usize = 1024;
 
 /// At most so many rules are held, numbered from 0 in order of adding.
 pub const RULES: usize = 4096;
@@ -16,7 +16,7 @@ pub const MARKS: usize = 64;
 pub const WATCHED: usize = 1024;
 
 /// No day of an earliest plan is later.
-pub const LATEST: u32 = 255_000_000;
+pub const LATEST: u32 = 1_023_000_000;
 
 /// A script has at most so many bytes, where it is run as a whole.
 pub const TEXT: usize = 65_536;

@@ -217,7 +217,7 @@ pub fn ring_check_over(counts: &Counts, t: &View, list: &[u32], r: Rule, verdict
     show!(dates_ring_check(counts; t; list.as_ptr(), list.len(), r.first, r.second, r.amount, verdict))
 }
 
-/// Start: 256 steps and an empty record.
+/// Start: as many steps as there may be, and an empty record.
 pub fn start(counts: &mut Counts, record: &mut Record, t: &mut Tables, names: &Names) -> u32 {
     lend!(dates_start(counts, record; t; names.bytes.as_ptr(), names.bytes.len(), names.lens.as_ptr(), names.lens.len()))
 }

@@ -59,7 +59,7 @@ pub struct Consequences {
 }
 
 impl Planner {
-    /// **Open**: so many steps, on day 0, and no rules, marks or watched rules. Refused with [`Refusal::Step`] where `steps` is not 1 to 256.
+    /// **Open**: so many steps, on day 0, and no rules, marks or watched rules. Refused with [`Refusal::Step`] where `steps` is not 1 to 1,024.
     ///
     /// ```
     /// use planner::Planner;

@@ -9,10 +9,10 @@ use std::fmt;
 /// ```
 /// use planner::{Planner, Refusal};
 ///
-/// let refusal = Planner::open(257).unwrap_err();
+/// let refusal = Planner::open(1_025).unwrap_err();
 /// assert_eq!(refusal, Refusal::Step);
 /// assert_eq!((refusal.number(), refusal.name()), (3, "STEP"));
-/// assert_eq!(refusal.to_string(), "STEP (3): a step count outside 1 to 256, or a step number not below the count");
+/// assert_eq!(refusal.to_string(), "STEP (3): a step count outside 1 to 1,024, or a step number not below the count");
 /// ```
 #[derive(Clone, Debug, PartialEq, Eq)]
 pub enum Refusal {
@@ -20,7 +20,7 @@ pub enum Refusal {
     Short,
     /// 2: the tables are not sound. Those of a [`Planner`](crate::Planner) are; see [`Planner::command`](crate::Planner::command) for the record of a script.
     Damaged,
-    /// 3: a step count outside 1 to 256, or a step number not below the count.
+    /// 3: a step count outside 1 to 1,024, or a step number not below the count.
     Step,
     /// 4: an amount outside -1,000,000 to 1,000,000.
     Amount,
@@ -64,7 +64,7 @@ impl Refusal {
         match self {
             Refusal::Short => (1, "SHORT", "a lent table or list has too few places"),
             Refusal::Damaged => (2, "DAMAGED", "the tables are not sound"),
-            Refusal::Step => (3, "STEP", "a step count outside 1 to 256, or a step number not below the count"),
+            Refusal::Step => (3, "STEP", "a step count outside 1 to 1,024, or a step number not below the count"),
             Refusal::Amount => (4, "AMOUNT", "an amount outside -1,000,000 to 1,000,000"),
             Refusal::Full => (5, "FULL", "no place for one more rule, mark, watched rule or declared name"),
             Refusal::Conflict(_) => (6, "CONFLICT", "with the new rule no arrangement exists"),

@@ -15,7 +15,7 @@ pub struct Answer {
 }
 
 impl Planner {
-    /// The start of a script: 256 steps, no rules, marks or watched rules, and no names declared. Steps are numbered as their names are declared.
+    /// The start of a script: 1,024 steps, no rules, marks or watched rules, and no names declared. Steps are numbered as their names are declared.
     pub fn start() -> Result<Planner, Refusal> {
         let mut planner = Planner::blank();
         let (mut tables, names) = planner.owned.lend();
@@ -30,7 +30,7 @@ impl Planner {
     /// here; that is for whoever hands over the commands.
     ///
     /// Refused with [`Refusal::Syntax`], [`Refusal::Size`], [`Refusal::Mode`], [`Refusal::Name`], [`Refusal::Amount`], [`Refusal::Full`] or [`Refusal::NoMark`],
-    /// in the order that `docs/SCRIPTS.md` gives. A planner that was opened with fewer than 256 steps has no script: [`Refusal::Damaged`]. So it is
+    /// in the order that `docs/SCRIPTS.md` gives. A planner that was opened with fewer than 1,024 steps has no script: [`Refusal::Damaged`]. So it is
     /// after [`back`](Planner::back) has dropped the mark of the level that counts as contradictory; `pop` keeps account of that.
     ///
     /// ```
@@ -109,7 +109,7 @@ pub fn next_command(text: &[u8]) -> &[u8] {
 /// assert_eq!(refusal, Some(Refusal::NoMark));
 /// ```
 pub fn run_script(text: &[u8]) -> (Vec<u8>, Option<Refusal>) {
-    // Room for any answers: `x ` in a `get-value` prints `(x 255000000) `, seven bytes for one, and nothing prints more. A longer script prints one line.
+    // Room for any answers: `x ` in a `get-value` prints `(x 1023000000) `, fifteen bytes for two, and nothing prints more. A longer script prints one line.
     let mut out = vec![0; 8 * text.len().min(TEXT) + 2 * ROOM];
     let mut written = 0;
     let number = calls::run_script(text, &mut out, &mut written);

@@ -1,6 +1,6 @@
 //! The worked cases and the refusals, through the planner; scripts by commands and as a whole.
 
-use crate::bounds::{LARGEST, LATEST, MARKS, RULES, STEPS, WATCHED};
+use crate::bounds::{ASKED, LARGEST, LATEST, MARKS, RULES, STEPS, TEXT, WATCHED};
 use crate::{next_command, run_script, Moved, Planner, Refusal, Ring, Rule};
 
 fn rule(first: u32, second: u32, amount: i32) -> Rule {
@@ -106,7 +106,7 @@ fn case_13() {
         planner.add(rule(step, step + 1, -LARGEST)).unwrap();
     }
     assert_eq!(planner.days()[STEPS - 1], LATEST);
-    for steps in [0, 257, u32::MAX] {
+    for steps in [0, STEPS as u32 + 1, u32::MAX] {
         assert_eq!(Planner::open(steps).unwrap_err(), Refusal::Step);
     }
 }
@@ -234,11 +234,14 @@ fn refused_commands() {
     assert_eq!(run_script(&vec![b' '; 65_537]), (b"(error \"11\")\n".to_vec(), Some(Refusal::Size)));
     assert_eq!(run_script(&vec![b' '; 65_536]), (Vec::new(), None));
     assert_eq!(holding(&[]).command(b"(exit)"), Err(Refusal::Damaged));
+    // 256 steps, which were all that there could be before, are sound for the other calls.
+    let mut fewer = Planner::open(256).unwrap();
+    assert_eq!((fewer.add(rule(0, 255, -2)), fewer.command(b"(exit)")), (Ok(Moved(1)), Err(Refusal::Damaged)));
 }
 
 #[test]
 fn commands_and_the_other_calls_on_the_same_tables() {
-    let mut planner = Planner::open(256).unwrap();
+    let mut planner = Planner::open(STEPS as u32).unwrap();
     for text in [&b"(set-logic QF_IDL)"[..], b"(declare-fun cut () Int)", b"(declare-fun dry () Int)", b"(push 1)", b"(assert (>= (- dry cut) 2))"] {
         assert_eq!(planner.command(text).unwrap().read, text.len());
     }
@@ -258,19 +261,24 @@ fn commands_and_the_other_calls_on_the_same_tables() {
     assert_eq!(planner.days()[1], 0);
 }
 
-/// The longest answer that a text can have: a name of one byte on the latest day, as often as a script has room for.
+/// The longest answers that a text can have: a name of one byte on a late day, as often as a script has room for. The latest day of all needs a name for every
+/// step; the first of nine digits leaves more room.
 #[test]
 fn room_for_any_answer() {
-    let mut text = b"(set-logic QF_IDL)".to_vec();
-    let name = |k: usize| if k == 255 { "x".to_string() } else { format!("y{}", k) };
-    (0..256).for_each(|k| text.extend(format!("(declare-fun {} () Int)", name(k)).bytes()));
-    (0..255).for_each(|k| text.extend(format!("(assert (<= (- {} {}) (- 1000000)))", name(k), name(k + 1)).bytes()));
-    text.extend(b"(check-sat)");
-    let asked = format!("(get-value ({}x))", "x ".repeat(255));
-    let times = (65_536 - text.len()) / asked.len();
-    text.extend(asked.repeat(times).bytes());
-    let (printed, refusal) = run_script(&text);
-    assert_eq!((printed.len(), refusal), (4 + times * (256 * 14 + 2), None));
+    let letter = |k: usize| char::from(b"ABCDEFGHIJKLMNOPQRSTUVWXYZabcdef"[k % 32]);
+    for last in [STEPS - 1, 100] {
+        let name = |k: usize| if k == last { "x".to_string() } else { [letter(k / 32), letter(k)].iter().collect() };
+        let mut text = b"(set-logic QF_IDL)".to_vec();
+        (0..=last).for_each(|k| text.extend(format!("(declare-fun {} () Int)", name(k)).bytes()));
+        (0..last).for_each(|k| text.extend(format!("(assert (<= (- {} {}) (- {})))", name(k), name(k + 1), LARGEST).bytes()));
+        text.extend(b"(check-sat)");
+        let asked = format!("(get-value ({}x))", "x ".repeat(ASKED - 1));
+        let times = (TEXT - text.len()) / asked.len();
+        text.extend(asked.repeat(times).bytes());
+        let pair = format!("(x {}) ", last as u64 * LARGEST as u64);
+        let (printed, refusal) = run_script(&text);
+        assert_eq!((printed.len(), refusal), (4 + times * (ASKED * pair.len() + 2), None));
+    }
 }
 
 #[test]
