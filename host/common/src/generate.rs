@@ -54,7 +54,7 @@ struct Harvest<'r> {
 impl Harvest<'_> {
     fn script(random: &mut Random) -> Vec<u8> {
         let large = random.chance(10);
-        let count = if large { 100 + random.below(157) } else if random.chance(100) { 30 + random.below(60) } else { 2 + random.below(11) };
+        let count = if large && random.chance(500) { reader::NAMES } else if large { 100 + random.below(reader::NAMES - 99) } else if random.chance(100) { 30 + random.below(60) } else { 2 + random.below(11) };
         let span = random.pick(&[3, 20, 400, 900_000]);
         let names = (0..count).map(|i| if i < 12 { STEPS[i].to_string() } else { format!("field{}", i) }).collect();
         let days = (0..count).map(|_| random.between(0, span)).collect();
@@ -73,6 +73,10 @@ impl Harvest<'_> {
         }
         let length = if large { 900 } else if self.random.chance(50) { 150 } else { 3 + self.random.below(40) };
         for _ in 0..length {
+            // What is left of a script's bytes is enough to ask for the day of every name.
+            if self.text.len() > 50_000 {
+                break;
+            }
             self.command();
         }
         if self.random.chance(700) {

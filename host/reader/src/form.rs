@@ -1,7 +1,7 @@
 //! From trees to commands. Trees are read from left to right, and the first departure stops the reading: it is the leftmost.
 
 use crate::text::{kind, Kind, Tree};
-use crate::{DEPTH, NAMES, NAME_BYTES, SIZE, SYNTAX};
+use crate::{ASKED, DEPTH, NAME_BYTES, SIZE, SYNTAX};
 
 pub type Name = Vec<u8>;
 
@@ -70,12 +70,12 @@ pub fn is_name(word: &[u8]) -> bool {
     kind(word) == Some(Kind::Symbol) && word.len() <= NAME_BYTES
 }
 
-/// One name or more, 256 at most.
+/// One name or more, and no more than may be asked for at once.
 fn names(mut parts: Parts) -> Read<Vec<Name>> {
     let mut all = vec![parts.name()?];
     while parts.more() {
         let name = parts.name()?;
-        if all.len() == NAMES {
+        if all.len() == ASKED {
             return Err(TOO_MUCH);
         }
         all.push(name);

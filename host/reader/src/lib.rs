@@ -27,7 +27,10 @@ pub const SIZE: u32 = 11;
 pub const SCRIPT_BYTES: usize = 65_536;
 pub const NAME_BYTES: usize = 32;
 pub const DEPTH: usize = 16;
-pub const NAMES: usize = 256;
+/// As many names may be declared as there are steps.
+pub const NAMES: usize = 1_024;
+/// The names of one `get-value`.
+pub const ASKED: usize = 256;
 pub const RULES: usize = 4_096;
 pub const MARKS: usize = 64;
 pub const LARGEST: i64 = 1_000_000;

@@ -5,7 +5,7 @@
 use crate::Options;
 use crate::acts::Act;
 use crate::compare::{compare_all, Both};
-use crate::office::{Field, Office, Place};
+use crate::office::{Field, Office, Place, STEPS, STEPS_BEFORE};
 use crate::sequences::rule;
 use crate::shapes::{self, Shape};
 use crate::tests::Tally;
@@ -56,7 +56,7 @@ fn changes(office: &Office, shape: &Shape, random: &mut Random, long: bool) -> V
     for field in Field::ALL {
         let old = office.field(field);
         let past = match field {
-            Field::Steps | Field::Names => 257,
+            Field::Steps | Field::Names => STEPS as u32 + 1,
             Field::Rules => 4_097,
             Field::Marks => 65,
             Field::Watched => 1_025,
@@ -120,13 +120,13 @@ fn cells(office: &Office, random: &mut Random, long: bool) -> Vec<(Place, usize)
     all
 }
 
-/// Each table and list with other lengths, alone and on damaged tables.
+/// Each table and list with other lengths, that of the bound on steps before among them, alone and on damaged tables.
 fn lengths(office: &Office) -> Vec<Vec<Act>> {
     let watched = office.counts().watched as usize;
     let mut all = Vec::new();
     for place in Place::ALL {
-        let room = place.room();
-        for len in [room - 1, room, room + 1, 0, 1, watched, watched.saturating_sub(1), watched + 1] {
+        let (room, before) = (place.room(), place.room_for(STEPS_BEFORE));
+        for len in [room - 1, room, room + 1, before, before + 1, 0, 1, watched, watched.saturating_sub(1), watched + 1] {
             all.push(vec![Act::Lend(place, len)]);
         }
         all.push(vec![Act::Lend(place, room - 1), Act::SetField(Field::Steps, 0)]);

@@ -30,7 +30,7 @@ impl Writer {
             5 => list.insert(at.min(list.len()), number),
             6 => list.clear(),
             7 => asked.amount = asked.amount.saturating_add(self.random.pick(&[1, 2, 1_000_000, -1])),
-            8 => list.resize(300 + at, number),
+            8 => list.resize(STEPS + 1 + at, number),
             9 if list.len() > 2 => list.swap(1, 2),
             10 | 11 => detour(office, &mut list, at),
             _ => (),

@@ -5,8 +5,11 @@ use common::Random;
 use planner::calls::{Counts, Names, Record, Rule, Tables};
 
 /// How many steps and watched rules there may be.
-pub const STEPS: usize = 256;
+pub const STEPS: usize = reader::NAMES;
 pub const WATCHED: usize = 1_024;
+
+/// How many steps there could be before. Tables and lists of that bound are SHORT.
+pub const STEPS_BEFORE: usize = 256;
 
 /// Places on either side of what is lent.
 const BESIDE: usize = 8;
@@ -72,13 +75,18 @@ impl Place {
 
     /// How many places it must have; for the two lists those of a ring.
     pub fn room(self) -> usize {
+        self.room_for(STEPS)
+    }
+
+    /// How many places it must have where so many steps may be.
+    pub fn room_for(self, steps: usize) -> usize {
         use Place::*;
         match self {
             Xs | Ys | Cs => reader::RULES,
-            Days | Lens | One | Two => STEPS,
+            Days | Lens | One | Two => steps,
             Marks => reader::MARKS,
             Wxs | Wys | Wcs => WATCHED,
-            Names => reader::NAME_BYTES * STEPS,
+            Names => reader::NAME_BYTES * steps,
             Out => reader::LENT,
         }
     }

@@ -4,7 +4,7 @@
 use crate::acts::Act;
 use crate::commands::{self, Script};
 use crate::engine::{Given, CONFLICT};
-use crate::office::{Office, Place, STEPS};
+use crate::office::{Office, Place, STEPS, STEPS_BEFORE};
 use common::Random;
 use planner::calls::Rule;
 
@@ -44,7 +44,7 @@ impl Kind {
     pub fn of(place: u64) -> Kind {
         use Kind::*;
         match place % 4_000 {
-            700 => Full,
+            n if n % 1_000 == 700 => Full,
             n if n % 400 == 100 => Chain,
             n if n % 125 == 10 => Brim,
             n if n % 40 == 7 => Wide,
@@ -75,11 +75,12 @@ impl Writer {
         let steps = match kind {
             Kind::Small | Kind::Spoiled => 1 + random.below(8),
             Kind::Ties => 1 + random.below(5),
-            Kind::Edges => random.pick(&[1, 2, 3, 255, 256]),
+            Kind::Edges => random.pick(&[1, 2, 3, STEPS_BEFORE, STEPS - 1, STEPS]),
             Kind::Levels | Kind::Watching => 2 + random.below(5),
-            Kind::Wide => 20 + random.below(237),
+            Kind::Wide => 20 + random.below(STEPS - 19),
             Kind::Mixed | Kind::Chain | Kind::Brim => STEPS,
-            Kind::Full => random.pick(&[3, 17, 40, 256]),
+            // Every other one over all steps.
+            Kind::Full => [STEPS, 3, STEPS, 17, STEPS, 40, STEPS, STEPS_BEFORE][(seed / 1_000 % 8) as usize],
         };
         let span = random.pick(&[5, 300, 900_000]);
         let hidden = (0..steps).map(|_| random.between(0, span)).collect();
@@ -111,18 +112,21 @@ impl Writer {
         }
     }
 
-    /// The chain's rules in order, from its end, or in no order; then the rule that closes it.
+    /// The chain's rules in order, from its end, or in no order; then the rule that closes it. Planning the last two from scratch takes long, so most of
+    /// them go over fewer steps.
     fn chain(&mut self) -> Vec<Act> {
-        let last = STEPS - 1;
+        let order = self.random.below(3);
+        let steps = if order == 0 { STEPS } else { self.random.pick(&[STEPS, STEPS_BEFORE, STEPS_BEFORE]) };
+        let last = steps - 1;
         let mut rules: Vec<Rule> = (0..last).map(|at| rule(at, at + 1, -1_000_000)).collect();
-        match self.random.below(3) {
+        match order {
             0 => (),
             1 => rules.reverse(),
             _ => shuffle(&mut rules, &mut self.random),
         }
-        let mut acts = vec![Act::Open(STEPS as u32), Act::Watch(rule(0, last, -1_000_000)), Act::Watch(rule(last, 0, 1_000_000))];
+        let mut acts = vec![Act::Open(steps as u32), Act::Watch(rule(0, last, -1_000_000)), Act::Watch(rule(last, 0, 1_000_000))];
         acts.extend(rules.into_iter().map(Act::Add));
-        // Its ring fills a list that has no place too many.
+        // Over all steps its ring fills a list that has no place too many.
         acts.extend([Act::Consequences, Act::Mark, Act::Lend(Place::One, STEPS), Act::Lend(Place::Two, STEPS)]);
         acts.extend([Act::Trial(rule(last, 0, 1_000_000)), Act::Add(rule(last, 0, 1_000_000))]);
         acts
@@ -240,10 +244,11 @@ impl Writer {
     }
 
     fn step_count(&mut self, office: &Office) -> u32 {
+        let all = STEPS as u32;
         match self.kind {
-            Kind::Edges => self.random.pick(&[0, 1, 2, 3, 255, 256, 257, 65_536, u32::MAX]),
-            Kind::Mixed => self.random.pick(&[256, 256, 255, 3]),
-            _ => self.random.pick(&[0, 1, 2, 4, 8, office.counts().steps, 257]),
+            Kind::Edges => self.random.pick(&[0, 1, 2, 3, all - 1, all, all + 1, 65_536, u32::MAX]),
+            Kind::Mixed => self.random.pick(&[all, all, all - 1, STEPS_BEFORE as u32, 3]),
+            _ => self.random.pick(&[0, 1, 2, 4, 8, office.counts().steps, all + 1]),
         }
     }
 
@@ -265,7 +270,7 @@ impl Writer {
         };
         if self.random.chance(past) {
             // Some of them would be steps, were they cut to 16 bits.
-            let bad = self.random.pick(&[steps, steps + 1, 256, 65_535, 65_536, 65_537, 1 << 31, u32::MAX as usize]);
+            let bad = self.random.pick(&[steps, steps + 1, STEPS, 65_535, 65_536, 65_537, 1 << 31, u32::MAX as usize]);
             let good = self.random.below(steps);
             let amount = self.random.pick(&[0, 1_000_001]);
             return if self.random.chance(500) { rule(bad, good, amount) } else { rule(good, bad, amount) };

@@ -1,7 +1,7 @@
 //! Sound states of several shapes, for damage to begin from, and the calls that are made after it.
 
 use crate::acts::Act;
-use crate::office::{Field, Place};
+use crate::office::{Field, Place, STEPS};
 use crate::sequences::rule;
 
 pub struct Shape {
@@ -88,14 +88,15 @@ fn rings_of_zero() -> Shape {
 
 /// A chain over all steps with the smallest amount, and all marks open.
 fn chain() -> Shape {
-    let mut acts = vec![Act::SetField(Field::Names, 0), Act::Open(256)];
-    for at in 0..255 {
+    let last = STEPS - 1;
+    let mut acts = vec![Act::SetField(Field::Names, 0), Act::Open(STEPS as u32)];
+    for at in 0..last {
         acts.push(add(at, at + 1, -1_000_000));
-        if at % 4 == 0 {
+        if at % (STEPS / reader::MARKS) == 0 {
             acts.push(Act::Mark);
         }
     }
-    let calls = vec![Act::Trial(rule(255, 0, 1_000_000)), Act::Mark, add(255, 0, 0), Act::Consequences, Act::Back, say("(check-sat)"), Act::Start];
+    let calls = vec![Act::Trial(rule(last, 0, 1_000_000)), Act::Mark, add(last, 0, 0), Act::Consequences, Act::Back, say("(check-sat)"), Act::Start];
     Shape { name: "chain", acts, calls, changes: Vec::new() }
 }
 
@@ -168,12 +169,13 @@ fn contradictory() -> Shape {
     Shape { name: "a contradictory level", acts, calls: commands(), changes }
 }
 
-/// As many names as steps.
+/// As many names as steps, and one too many.
 fn many_names() -> Shape {
     let mut acts = vec![Act::Start, say("(set-logic QF_IDL)")];
-    acts.extend((0..256).map(|number| say(&format!("(declare-fun n{} () Int)", number))));
-    acts.extend([say("(declare-fun n256 () Int)"), say("(assert (<= (- n0 n255) (- 9)))"), say("(check-sat)")]);
-    let calls = vec![say("(get-value (n255))"), say("(declare-fun y () Int)"), Act::Start];
-    let changes = vec![renamed(255, "n0"), renamed(0, "n255"), renamed(17, "n19"), renamed(255, "push")];
+    let last = STEPS - 1;
+    acts.extend((0..=STEPS).map(|number| say(&format!("(declare-fun n{} () Int)", number))));
+    acts.extend([say(&format!("(assert (<= (- n0 n{}) (- 9)))", last)), say("(check-sat)")]);
+    let calls = vec![say(&format!("(get-value (n{}))", last)), say("(declare-fun y () Int)"), Act::Start];
+    let changes = vec![renamed(last, "n0"), renamed(0, &format!("n{}", last)), renamed(17, "n19"), renamed(last, "push")];
     Shape { name: "all names", acts, calls, changes }
 }

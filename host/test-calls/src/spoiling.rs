@@ -1,7 +1,7 @@
 //! What the caller of a sequence does to what it lends.
 
 use crate::acts::Act;
-use crate::office::{Field, Office, Place};
+use crate::office::{Field, Office, Place, STEPS, STEPS_BEFORE, WATCHED};
 use crate::sequences::{Kind, Writer};
 
 impl Writer {
@@ -17,7 +17,7 @@ impl Writer {
                 let field = self.random.pick(if mixed { &Field::ALL } else { &Field::ALL[..4] });
                 let old = office.field(field);
                 self.undo = Some(Act::SetField(field, old));
-                Act::SetField(field, self.random.pick(&[old.wrapping_add(1), old.wrapping_sub(1), 0, u32::MAX, 4_097, 257, 65, 1_025]))
+                Act::SetField(field, self.random.pick(&[old.wrapping_add(1), old.wrapping_sub(1), 0, u32::MAX, 4_097, STEPS as u32 + 1, 65, WATCHED as u32 + 1]))
             }
             3..=7 => {
                 let cells = [
@@ -48,7 +48,7 @@ impl Writer {
                 let place = self.random.pick(&Place::ALL);
                 let old = office.lent(place);
                 self.undo = Some(Act::Lend(place, old));
-                Act::Lend(place, self.random.pick(&[place.room() - 1, place.room() - 1, place.room(), 0, 1]))
+                Act::Lend(place, self.random.pick(&[place.room() - 1, place.room() - 1, place.room(), place.room_for(STEPS_BEFORE), 0, 1]))
             }
         }
     }

@@ -12,8 +12,8 @@ use planner::calls::Rule;
 use reader::DONE;
 use std::path::Path;
 
-/// Problems with more rules take z3 long.
-const RULES: u32 = 600;
+/// Problems with more rules take z3 long; a chain over all steps has fewer.
+const RULES: u32 = 1_100;
 
 /// The question that the problem at the end of a sequence makes, where there is a whole one.
 pub fn question(seed: u64, both: &Both) -> Option<Question> {

@@ -34,7 +34,7 @@ impl Engine for Entry {
     }
 
     fn run(&self, script: &[u8]) -> Result<Answer, String> {
-        // Room for any answers: `x ` in a `get-value` prints `(x 255000000) `, seven bytes for one, and nothing prints more.
+        // Room for any answers: `x ` in a `get-value` prints `(x 1023000000) `, fifteen bytes for two, and nothing prints more.
         self.run_within(script, 8 * script.len() + 2 * LENT)
     }
 }

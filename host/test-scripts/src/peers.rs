@@ -7,7 +7,7 @@ use reader::{next_command, Answer, Command, Next};
 
 /// The question for a script, or nothing where a peer cannot read it as we do: a refusal or `unsupported`, a name declared above
 /// level 0 (which the peer forgets at the pop) or one that may mean something to the peer, a CR that ends a comment.
-pub fn question(seed: u64, script: &[u8], run: &dyn Fn(&[u8]) -> Result<Answer, String>) -> Option<Question> {
+pub fn question(name: String, script: &[u8], run: &dyn Fn(&[u8]) -> Result<Answer, String>) -> Option<Question> {
     let (commands, names) = peer_text(script)?;
     let (answer, state) = reader::run_to_state(script);
     if answer.end != reader::DONE || answer.out.windows(4).any(|word| word == b"unsu") {
@@ -20,7 +20,7 @@ pub fn question(seed: u64, script: &[u8], run: &dyn Fn(&[u8]) -> Result<Answer, 
         let days = days(&commands, &names, run).unwrap_or_else(|| vec![-1; names.len()]);
         wanted.extend(earliest_questions(&names, &days, &mut text));
     }
-    Some(Question { name: format!("script {}", seed), text, wanted, shown: format!("script {}", quote(script)) })
+    Some(Question { name, text, wanted, shown: format!("script {}", quote(script)) })
 }
 
 fn verdicts(out: &[u8]) -> Vec<&'static str> {
@@ -67,7 +67,8 @@ fn peer_text(script: &[u8]) -> Option<(Vec<u8>, Vec<String>)> {
 /// A name that means nothing to any peer.
 fn plain(name: Vec<u8>) -> Option<String> {
     let name = String::from_utf8(name).ok()?;
-    let known = generate::STEPS.contains(&&name[..]) || name.starts_with("field") || ["x", "y", "z"].contains(&&name[..]);
+    let two_letters = name.len() == 2 && name.starts_with(|c: char| c.is_ascii_uppercase()) && name.ends_with(|c: char| c.is_ascii_alphabetic());
+    let known = generate::STEPS.contains(&&name[..]) || name.starts_with("field") || two_letters || ["x", "y", "z"].contains(&&name[..]);
     known.then(|| name)
 }
 
@@ -76,11 +77,12 @@ fn days(commands: &[u8], names: &[String], run: &dyn Fn(&[u8]) -> Result<Answer,
     if names.is_empty() {
         return Some(Vec::new());
     }
-    let asked = format!("(check-sat)(get-value ({}))", names.join(" "));
-    let answer = run(&[commands, asked.as_bytes()].concat()).ok()?;
+    let lists: Vec<String> = names.chunks(reader::ASKED).map(|some| format!("(get-value ({}))", some.join(" "))).collect();
+    let answer = run(&[commands, b"(check-sat)", lists.concat().as_bytes()].concat()).ok()?;
     let text = String::from_utf8_lossy(&answer.out).to_string();
-    let last = text.lines().last()?;
-    let pairs = last.trim_matches(|c| c == '(' || c == ')').split(") (");
+    let lines: Vec<&str> = text.lines().collect();
+    let last = &lines[lines.len().checked_sub(lists.len())?..];
+    let pairs = last.iter().flat_map(|line| line.trim_matches(|c| c == '(' || c == ')').split(") ("));
     let days: Option<Vec<i64>> = pairs.map(|pair| pair.rsplit(' ').next()?.parse().ok()).collect();
     days.filter(|days| days.len() == names.len())
 }

@@ -82,7 +82,7 @@ fn examples(options: &Options, tally: &mut Tally) {
 /// The entry with little room: SHORT where fewer than 16,384 bytes are left before a command.
 #[cfg(feature = "entry")]
 fn room(tally: &mut Tally) {
-    let list = format!("(get-value ({}))", vec!["x"; 256].join(" "));
+    let list = format!("(get-value ({}))", vec!["x"; cases::ASKED].join(" "));
     let long = format!("{}(check-sat)(foo){}", cases::XY, list.repeat(100));
     let many = format!("{}{}", cases::XY, "(check-sat) ;c\n".repeat(3000));
     let texts = ["", " ; nothing\n", "(check-sat)", "x", "(exit)", cases::XY, &long, &many, "(foo)(foo)(", "(foo)(foo);"];
@@ -144,8 +144,9 @@ fn ask_peers(options: &Options, tally: &mut Tally) {
     let engines = in_process();
     let run = |text: &[u8]| engines.first().map_or_else(|| Ok(reader::run(text)), |engine| engine.run(text));
     let seeds = options.seed..options.seed + options.count;
-    let scripts = Kind::ALL.into_iter().flat_map(|kind| seeds.clone().map(move |seed| (seed, kind.script(seed))));
-    let questions: Vec<_> = scripts.filter_map(|(seed, text)| peers::question(seed, &text, &run)).collect();
+    let scripts = Kind::ALL.into_iter().flat_map(|kind| seeds.clone().map(move |seed| (format!("script {}", seed), kind.script(seed))));
+    let largest = cases::all_steps().map(|(name, text)| (name.to_string(), text.into_bytes()));
+    let questions: Vec<_> = largest.into_iter().chain(scripts).filter_map(|(name, text)| peers::question(name, &text, &run)).collect();
     let enough = if questions.len() as u64 * 4 >= options.count { Ok(()) } else { Err(format!("  only {} scripts", questions.len())) };
     tally.count("peers are asked enough", enough);
     for peer in &options.peers {

@@ -88,6 +88,21 @@ fn many(count: usize) -> String {
     format!("(set-logic QF_IDL){}", declared)
 }
 
+/// A name of two letters for each step. It begins with a capital, so that none is a word of the standard.
+fn short(number: usize) -> String {
+    const LETTERS: &[u8; 40] = b"ABCDEFGHIJKLMNOPQRSTUVWXYZabcdefghijklmn";
+    [LETTERS[number / 40], LETTERS[number % 40]].map(char::from).iter().collect()
+}
+
+/// All names and a rule from each to the next, the largest day there is, with its ring and without it: large as they are, for the peers as well.
+pub fn all_steps() -> [(&'static str, String); 2] {
+    let declared: String = (0..NAMES).map(|i| format!("(declare-fun {} () Int)", short(i))).collect();
+    let link = |i: usize| format!("(assert (<= (- {} {}) (- 1000000)))", short(i - 1), short(i));
+    let end = format!("(check-sat)(push 1)(assert (<= (- {} {}) 1000000))(check-sat)(pop 1)(check-sat)", short(NAMES - 1), short(0));
+    let whole = |rules: String| format!("(set-logic QF_IDL){}{}{}", declared, rules, end);
+    [("all steps in a chain", whole((1..NAMES).map(link).collect())), ("all steps in a chain, from its end", whole((1..NAMES).rev().map(link).collect()))]
+}
+
 fn names(c: &mut Cases) {
     let (n32, n33) = ("n".repeat(32), "n".repeat(33));
     c.xy(format!("(declare-fun {0} () Int)(assert (<= (- x {0}) (- 1)))(check-sat)(get-value ({0}))", n32), format!("sat\n(({} 1))\n", n32));
@@ -98,32 +113,53 @@ fn names(c: &mut Cases) {
     c.xy(format!("(get-value ({}))", n32), MODE);
     c.xy(format!("(check-sat)(get-value (x {}))", n33), ["sat\n", SIZE].concat());
 
-    // 256 names, and one more.
-    c.whole("256 names", many(256) + "(check-sat)", "sat\n");
-    c.whole("257 names", many(256) + "(declare-fun z () Int)", FULL);
-    c.whole("a 257th name that stands", many(256) + "(declare-fun n255 () Int)", NAME);
-    c.whole("a 257th name while contradictory", many(256) + "(assert (< (- n0 n0) 0))(declare-fun z () Int)", FULL);
-    c.whole("a 257th name after a pop", "(set-logic QF_IDL)(push 1)".to_string() + &many(256)[18..] + "(pop 1)(declare-fun z () Int)", FULL);
-    c.whole("a name over 32 bytes at 256 names", many(256) + &format!("(declare-fun {} () Int)", n33), SIZE);
+    // All names, one fewer, and one more.
+    let (last, all) = (NAMES - 1, many(NAMES));
+    c.whole("one name fewer than there may be", many(last) + "(check-sat)", "sat\n");
+    c.whole("the last name that there may be", many(last) + "(declare-fun z () Int)(assert (<= (- n0 z) (- 9)))(check-sat)(get-value (z))", "sat\n((z 9))\n");
+    c.whole("all names", all.clone() + "(check-sat)", "sat\n");
+    c.whole("one name more", all.clone() + "(declare-fun z () Int)", FULL);
+    c.whole("one name more that stands", all.clone() + &format!("(declare-fun n{} () Int)", last), NAME);
+    c.whole("one name more while contradictory", all.clone() + "(assert (< (- n0 n0) 0))(declare-fun z () Int)", FULL);
+    c.whole("one name more after a pop", "(set-logic QF_IDL)(push 1)".to_string() + &all[18..] + "(pop 1)(declare-fun z () Int)", FULL);
+    c.whole("a name over 32 bytes at all names", all.clone() + &format!("(declare-fun {} () Int)", n33), SIZE);
+    // The bound that there was before: nothing is refused there now.
+    c.whole("257 names", many(257) + "(assert (<= (- n255 n256) (- 9)))(check-sat)(get-value (n256))", "sat\n((n256 9))\n");
 
-    // 255 rules of -1,000,000: the largest day.
-    let chain: String = (1..256).map(|i| format!("(assert (<= (- n{} n{}) (- 1000000)))", i - 1, i)).collect();
-    c.whole("the largest day", many(256) + &chain + "(check-sat)(get-value (n0 n1 n255))", "sat\n((n0 0) (n1 1000000) (n255 255000000))\n");
-    let reversed: String = (1..256).rev().map(|i| format!("(assert (<= (- n{} n{}) (- 1000000)))", i - 1, i)).collect();
-    c.whole("the largest day, rules from the end", many(256) + &reversed + "(check-sat)(get-value (n0 n1 n255))", "sat\n((n0 0) (n1 1000000) (n255 255000000))\n");
-    c.whole("a ring over 256 steps", many(256) + &chain + "(push 1)(assert (<= (- n255 n0) 1000000))(check-sat)(pop 1)(check-sat)", "unsat\nsat\n");
+    // A rule of -1,000,000 from each name to the next, 1,023 of them: the largest day.
+    let link = |i: usize| format!("(assert (<= (- n{} n{}) (- 1000000)))", i - 1, i);
+    let chain = all.clone() + &(1..NAMES).map(link).collect::<String>();
+    let reversed = all + &(1..NAMES).rev().map(link).collect::<String>();
+    let (asked, days) = ("(check-sat)(get-value (n0 n1 n1023))", "sat\n((n0 0) (n1 1000000) (n1023 1023000000))\n");
+    c.whole("the largest day", chain.clone() + asked, days);
+    c.whole("the largest day, rules from the end", reversed + asked, days);
+    c.whole("a ring over all steps", chain.clone() + "(push 1)(assert (<= (- n1023 n0) 1000000))(check-sat)(pop 1)(check-sat)", "unsat\nsat\n");
+    c.whole("a rule on the last two of all steps that fits", chain + "(push 1)(assert (< (- n1022 n1023) (- 999999)))(check-sat)(pop 1)(check-sat)", "sat\nsat\n");
 
-    // All 256 names at once, each of 32 bytes, with the days of a chain: the longest answer there is.
+    for (name, script) in all_steps() {
+        c.whole(name, script, "sat\nunsat\nsat\n");
+    }
+
+    // 256 names at once, each of 32 bytes, with the days of a chain.
     let long = |i: usize| format!("{}{:03}", "n".repeat(29), i);
-    let declared: String = (0..256).map(|i| format!("(declare-fun {} () Int)", long(i))).collect();
-    let chain: String = (1..256).map(|i| format!("(assert (<= (- {} {}) (- 1000000)))", long(i - 1), long(i))).collect();
-    let all: Vec<String> = (0..256).map(long).collect();
-    let pairs: Vec<String> = (0..256).map(|i| format!("({} {})", long(i), i * 1_000_000)).collect();
-    let script = format!("(set-logic QF_IDL){}{}(check-sat)(get-value ({}))", declared, chain, all.join(" "));
-    c.whole("the longest answer", script, format!("sat\n({})\n", pairs.join(" ")));
+    let declared: String = (0..ASKED).map(|i| format!("(declare-fun {} () Int)", long(i))).collect();
+    let chain: String = (1..ASKED).map(|i| format!("(assert (<= (- {} {}) (- 1000000)))", long(i - 1), long(i))).collect();
+    let asked: Vec<String> = (0..ASKED).map(long).collect();
+    let pairs: Vec<String> = (0..ASKED).map(|i| format!("({} {})", long(i), i * 1_000_000)).collect();
+    let script = format!("(set-logic QF_IDL){}{}(check-sat)(get-value ({}))", declared, chain, asked.join(" "));
+    c.whole("a long answer", script, format!("sat\n({})\n", pairs.join(" ")));
+
+    // The longest answer there is: 256 times a name of 32 bytes on the largest day.
+    let name = |i: usize| if i == last { n32.clone() } else { short(i) };
+    let declared: String = (0..NAMES).map(|i| format!("(declare-fun {} () Int)", name(i))).collect();
+    let rules: Vec<String> = (1..NAMES).map(|i| format!("(<= (- {} {}) (- 1000000))", name(i - 1), name(i))).collect();
+    let script = format!("(set-logic QF_IDL){}(assert (and {}))(check-sat)(get-value ({}))", declared, rules.join(" "), vec![&n32[..]; ASKED].join(" "));
+    let line = format!("({})\n", vec![format!("({} 1023000000)", n32); ASKED].join(" "));
+    assert_eq!(line.len(), 11_778);
+    c.whole("the longest answer", script, "sat\n".to_string() + &line);
 
     // 256 names in one get-value, and one more.
-    let (xs, pairs) = (vec!["x"; 256].join(" "), vec!["(x 0)"; 256].join(" "));
+    let (xs, pairs) = (vec!["x"; ASKED].join(" "), vec!["(x 0)"; ASKED].join(" "));
     c.xy(format!("(check-sat)(get-value ({}))(check-sat)", xs), format!("sat\n({})\nsat\n", pairs));
     c.xy(format!("(check-sat)(get-value ({} x))", xs), ["sat\n", SIZE].concat());
     c.xy(format!("(get-value ({} x))", xs), SIZE);
@@ -203,7 +239,7 @@ fn bytes(c: &mut Cases) {
     c.whole("deep brackets to the end", "(a".to_string() + &"(".repeat(32_766) + &")".repeat(32_767), UNSUPPORTED);
     // Many answers: more than any buffer of one command.
     c.whole("21,000 unsupported commands", "(a)".repeat(21_000), UNSUPPORTED.repeat(21_000));
-    let list = format!("(get-value ({}))", vec!["x"; 256].join(" "));
-    let line = format!("({})\n", vec!["(x 1000000)"; 256].join(" "));
+    let list = format!("(get-value ({}))", vec!["x"; ASKED].join(" "));
+    let line = format!("({})\n", vec!["(x 1000000)"; ASKED].join(" "));
     c.xy(format!("(assert (<= (- y x) (- 1000000)))(check-sat){}", list.repeat(120)), format!("sat\n{}", line.repeat(120)));
 }

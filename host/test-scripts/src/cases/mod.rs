@@ -13,6 +13,10 @@ pub struct Case {
     pub out: Vec<u8>,
 }
 
+/// How many names may stand declared, and how many one `get-value` may have.
+pub const NAMES: usize = 1_024;
+pub const ASKED: usize = 256;
+
 /// Two declared names.
 pub const XY: &str = "(set-logic QF_IDL)(declare-fun x () Int)(declare-fun y () Int)";
 
@@ -44,6 +48,8 @@ impl Cases {
         }
     }
 }
+
+pub use bounds::all_steps;
 
 /// The answers to refusals, by name.
 pub const AMOUNT: &str = "(error \"4\")\n";
