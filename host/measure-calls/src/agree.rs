@@ -3,6 +3,7 @@
 
 use crate::office::{Call, Office, BY_HAND, LIBRARY};
 use common::Random;
+use planner::bounds::{MARKS, RULES, STEPS, WATCHED};
 use planner::calls::Rule;
 
 const SEQUENCES: u64 = 600;
@@ -21,7 +22,7 @@ pub fn check() -> (usize, [usize; 8]) {
     let (mut compared, mut given) = (0, [0; 8]);
     for seed in 0..SEQUENCES {
         let random = &mut Random::new(seed);
-        let steps = if seed % 8 == 0 { 1 + random.below(256) } else { 1 + random.below(9) };
+        let steps = if seed % 8 == 0 { 1 + random.below(STEPS) } else { 1 + random.below(9) };
         let mut office = Office::new(steps);
         if seed % 5 == 0 {
             fill(&mut office, random);
@@ -48,9 +49,9 @@ fn fill(office: &mut Office, random: &mut Random) {
     let last = office.counts.steps as usize - 1;
     let loose = Rule { first: 0, second: last as u32, amount: 1_000_000 };
     match random.below(3) {
-        0 => (0..4096 - random.below(3)).for_each(|_| office.hold(loose)),
-        1 => (0..1024 - random.below(3)).for_each(|_| office.watch(loose)),
-        _ => office.counts.marks = 64 - random.below(3) as u32,
+        0 => (0..RULES - random.below(3)).for_each(|_| office.hold(loose)),
+        1 => (0..WATCHED - random.below(3)).for_each(|_| office.watch(loose)),
+        _ => office.counts.marks = (MARKS - random.below(3)) as u32,
     }
 }
 
@@ -61,7 +62,7 @@ fn any_call(steps: usize, random: &mut Random) -> Call {
         14..=16 => Call::Watch(any_rule(steps, random)),
         17..=18 => Call::Mark,
         19..=20 => Call::Back,
-        21 if random.chance(150) => Call::Open(random.pick(&[0, steps as u32, 257])),
+        21 if random.chance(150) => Call::Open(random.pick(&[0, steps as u32, STEPS as u32 + 1])),
         _ => Call::Consequences,
     }
 }
@@ -80,7 +81,8 @@ fn any_rule(steps: usize, random: &mut Random) -> Rule {
 /// The office with one thing spoiled: a count, a cell, or a table or list with a place too few.
 fn spoiled(office: &Office, random: &mut Random) -> Office {
     let mut spoiled = office.clone();
-    let number = random.pick(&[0u32, 1, 2, 5, 64, 65, 256, 257, 1024, 1025, 4096, 4097, u32::MAX]);
+    let bound = random.pick(&[MARKS, STEPS, WATCHED, RULES]) as u32;
+    let number = random.pick(&[0u32, 1, 2, 5, bound, bound + 1, u32::MAX]);
     let place = random.below(12);
     match random.below(20) {
         0 => spoiled.counts.steps = number,
@@ -95,13 +97,13 @@ fn spoiled(office: &Office, random: &mut Random) -> Office {
         10 => spoiled.marks[place] = number,
         11 => spoiled.wxs[place] = number as u16,
         12 => spoiled.wcs[place] = number as i32,
-        13 => spoiled.xs.truncate(4095),
-        14 => spoiled.cs.truncate(4095),
-        15 => spoiled.days.truncate(255),
-        16 => spoiled.marks.truncate(63),
-        17 => spoiled.wys.truncate(1023),
-        18 => spoiled.one.truncate(random.below(257)),
-        _ => spoiled.two.truncate(random.below(257)),
+        13 => spoiled.xs.truncate(RULES - 1),
+        14 => spoiled.cs.truncate(RULES - 1),
+        15 => spoiled.days.truncate(STEPS - 1),
+        16 => spoiled.marks.truncate(MARKS - 1),
+        17 => spoiled.wys.truncate(WATCHED - 1),
+        18 => spoiled.one.truncate(random.below(STEPS + 1)),
+        _ => spoiled.two.truncate(random.below(STEPS + 1)),
     }
     spoiled
 }

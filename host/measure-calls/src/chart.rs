@@ -1,6 +1,6 @@
-//! The growth of the calls as a picture: both axes double from line to line, so that a time that grows as steps + rules is the dashed line.
+//! The growth of the calls as a picture: the times double from line to line. A time that grows as steps + rules is the dashed line.
 
-use crate::growth::{Line, SIZES};
+use crate::growth::{larger, Line, SIZES};
 use crate::shapes::Shape;
 use std::fmt::Write;
 
@@ -13,7 +13,7 @@ const COLOURS: [&str; 6] = ["#000000", "#0072b2", "#d55e00", "#b8860b", "#009e73
 pub fn svg(lines: &[Line]) -> String {
     let mut out = String::from("<svg xmlns=\"http://www.w3.org/2000/svg\" viewBox=\"0 0 820 340\" width=\"820\" height=\"340\" font-family=\"sans-serif\" font-size=\"12\">\n");
     out += "<title>How the time of a call grows with the tables</title>\n<rect width=\"820\" height=\"340\" fill=\"white\"/>\n";
-    let most = lines.iter().flat_map(|line| line.times).fold(8.0, f64::max);
+    let most = lines.iter().flat_map(|line| line.times).fold(larger(SIZES[SIZES.len() - 1]), f64::max);
     let doublings = most.log2().ceil() as u32;
     let middle = TOP + PANEL.1 / 2.0;
     let _ = writeln!(out, "<text x=\"18\" y=\"{0}\" text-anchor=\"middle\" transform=\"rotate(-90 18 {0})\">time, as a multiple of the first size</text>", middle);
@@ -50,22 +50,26 @@ fn frame(out: &mut String, shape: Shape, left: f64, doublings: u32) {
     }
     for (column, (steps, rules)) in SIZES.into_iter().enumerate() {
         let x = across(left, column);
-        let _ = writeln!(out, "<text x=\"{}\" y=\"{}\" text-anchor=\"middle\" font-size=\"11\">{}/{}</text>", x, bottom + 16.0, steps, rules);
+        let _ = writeln!(out, "<text x=\"{:.1}\" y=\"{}\" text-anchor=\"middle\" font-size=\"11\">{}</text>", x, bottom + 15.0, steps);
+        let _ = writeln!(out, "<text x=\"{:.1}\" y=\"{}\" text-anchor=\"middle\" font-size=\"11\">{}</text>", x, bottom + 28.0, rules);
     }
-    let _ = writeln!(out, "<text x=\"{}\" y=\"{}\" text-anchor=\"middle\">steps/rules</text>", (left + right) / 2.0, bottom + 36.0);
+    let _ = writeln!(out, "<text x=\"{}\" y=\"{}\" text-anchor=\"middle\">steps, and rules below</text>", (left + right) / 2.0, bottom + 46.0);
     let _ = writeln!(out, "<path d=\"M{} {}V{}H{}\" fill=\"none\" stroke=\"#444444\"/>", left, TOP, bottom, right);
-    let ends = (across(left, 0), up(1.0, doublings), across(left, 3), up(8.0, doublings));
-    let _ = writeln!(out, "<line x1=\"{}\" y1=\"{}\" x2=\"{}\" y2=\"{}\" stroke=\"#888888\" stroke-dasharray=\"5 4\"/>", ends.0, ends.1, ends.2, ends.3);
+    let _ = writeln!(out, "<polyline points=\"{}\" fill=\"none\" stroke=\"#888888\" stroke-dasharray=\"5 4\"/>", path(left, &SIZES.map(larger), doublings));
 }
 
 /// The line of one call, with a mark at each size.
-fn draw(out: &mut String, left: f64, kind: usize, times: &[f64; 4], doublings: u32) {
-    let points: Vec<(f64, f64)> = times.iter().enumerate().map(|(column, time)| (across(left, column), up(*time, doublings))).collect();
-    let path: Vec<String> = points.iter().map(|(x, y)| format!("{:.1},{:.1}", x, y)).collect();
-    let _ = writeln!(out, "<polyline points=\"{}\" fill=\"none\" stroke=\"{}\" stroke-width=\"1.5\"/>", path.join(" "), COLOURS[kind]);
-    for (x, y) in points {
-        mark(out, kind, x, y);
+fn draw(out: &mut String, left: f64, kind: usize, times: &[f64; SIZES.len()], doublings: u32) {
+    let _ = writeln!(out, "<polyline points=\"{}\" fill=\"none\" stroke=\"{}\" stroke-width=\"1.5\"/>", path(left, times, doublings), COLOURS[kind]);
+    for (column, time) in times.iter().enumerate() {
+        mark(out, kind, across(left, column), up(*time, doublings));
     }
+}
+
+/// The points of a line through its times.
+fn path(left: f64, times: &[f64; SIZES.len()], doublings: u32) -> String {
+    let points = times.iter().enumerate().map(|(column, time)| format!("{:.1},{:.1}", across(left, column), up(*time, doublings)));
+    points.collect::<Vec<String>>().join(" ")
 }
 
 /// The mark of a call: figures that can be told apart where several stand on one place.

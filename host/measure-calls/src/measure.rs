@@ -37,7 +37,8 @@ pub fn measure(case: &Case) -> Times {
         undo(office);
         office.counts.rules
     };
-    let plain = |office: &mut Office| office.plain_pass();
+    let wide = case.office.wide_days();
+    let plain = |office: &mut Office| office.plain_pass(&wide);
     let office = &mut case.office.clone();
     let [library, by_hand, undone, plain] = shortest(office, [&library, &by_hand, &undone, &plain], &undo);
     Times { library: library - undone, by_hand: by_hand - undone, plain }

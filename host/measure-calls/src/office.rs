@@ -55,6 +55,9 @@ pub struct Outcome {
     pub values: [u32; 2],
 }
 
+/// Days for every step that 16 bits can say.
+pub type WideDays = [u32; 1 << 16];
+
 /// The counts, the tables and two lists.
 #[derive(Clone, Debug, PartialEq, Eq)]
 pub struct Office {
@@ -123,12 +126,19 @@ impl Office {
         Outcome { number, values }
     }
 
-    /// One plain pass over the rules held: how many the days break. It tests nothing else: a step is taken for a byte, so that no index needs a test.
+    /// The days, with a place for every number of 16 bits.
+    pub fn wide_days(&self) -> Box<WideDays> {
+        let mut days = vec![0; 1 << 16];
+        days[..STEPS].copy_from_slice(&self.days[..STEPS]);
+        days.into_boxed_slice().try_into().expect("a place for every number")
+    }
+
+    /// One plain pass over the rules held: how many the days break. It tests nothing else: the days have a place for whatever a step is, so that no index
+    /// needs a test.
     #[inline(never)]
-    pub fn plain_pass(&self) -> u32 {
+    pub fn plain_pass(&self, days: &WideDays) -> u32 {
         let rules = self.counts.rules as usize;
-        let days: &[u32; STEPS] = self.days[..STEPS].try_into().expect("room for the days");
-        let day = |step: u16| i64::from(days[usize::from(step as u8)]);
+        let day = |step: u16| i64::from(days[usize::from(step)]);
         let mut broken = 0;
         for ((&x, &y), &c) in self.xs[..rules].iter().zip(&self.ys[..rules]).zip(&self.cs[..rules]) {
             broken += u32::from(day(x) - day(y) > i64::from(c));

@@ -77,8 +77,12 @@ fn chain(size: Size, random: &mut Random) -> Vec<Rule> {
 
 fn scattered(size: Size, random: &mut Random) -> Vec<Rule> {
     let hidden: Vec<i64> = (0..size.steps).map(|_| random.between(0, 1000)).collect();
-    let one = |_| {
-        let (x, y) = (random.below(size.steps), random.below(size.steps - 1));
+    let last = size.steps - 1;
+    // Where few rules come to a step, the first ones lead to each from an earlier one: else some steps could not be moved from the first.
+    let few = size.rules < 8 * size.steps;
+    let one = |number: usize| {
+        let step = number + 1;
+        let (x, y) = if few && step < last { (random.below(step), step) } else { (random.below(size.steps), random.below(last)) };
         rule(x, y, hidden[x] - hidden[y] + random.between(0, 200))
     };
     (0..size.rules).map(one).collect()

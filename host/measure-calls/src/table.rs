@@ -3,18 +3,16 @@
 use crate::cases::{self, cases};
 use crate::measure::{measure, Times};
 use crate::shapes::Shape;
+use planner::bounds::{RULES, STEPS, WATCHED};
 
 /// Steps and rules.
-pub const SIZES: [(usize, usize); 2] = [(64, 512), (256, 4096)];
-
-/// The watched rules of Consequences.
-const WATCHED: usize = 1024;
+pub const SIZES: [(usize, usize); 3] = [(64, 512), (256, RULES), (STEPS, RULES)];
 
 /// One case, with its times at each size. Where there are just 64 steps, Consequences over 64 is the same as over all, and is left out.
 pub struct Row {
     pub name: &'static str,
     pub shape: Shape,
-    pub times: [Option<Times>; 2],
+    pub times: [Option<Times>; SIZES.len()],
 }
 
 /// Measures every case, printing each as it is done.
@@ -32,7 +30,7 @@ pub fn rows() -> Vec<Row> {
                 );
                 let known = rows.iter().position(|row| row.name == case.name && row.shape == shape);
                 let at = known.unwrap_or_else(|| {
-                    rows.push(Row { name: case.name, shape, times: [None; 2] });
+                    rows.push(Row { name: case.name, shape, times: [None; SIZES.len()] });
                     rows.len() - 1
                 });
                 rows[at].times[column] = Some(t);
@@ -55,7 +53,7 @@ pub fn markdown(rows: &[Row]) -> String {
             text += &format!(" {}, {} steps, {} rules |", shape.name(), steps, rules);
         }
     }
-    text += "\n|---|---|---|---|---|\n";
+    text += &format!("\n|---{}|\n", "|---".repeat(Shape::ALL.len() * SIZES.len()));
     for row in rows.iter().filter(|row| row.shape == Shape::ALL[0]) {
         text += &format!("| {} |", row.name);
         for other in rows.iter().filter(|other| other.name == row.name) {
@@ -68,10 +66,15 @@ pub fn markdown(rows: &[Row]) -> String {
     text
 }
 
-/// Says of each target at full tables whether it is reached.
+/// Says of each target whether it is reached, at each size of full tables.
 pub fn targets(rows: &[Row]) -> String {
+    let full = (0..SIZES.len()).filter(|column| SIZES[*column].1 == RULES);
+    full.map(|column| targets_at(rows, column)).collect()
+}
+
+fn targets_at(rows: &[Row], column: usize) -> String {
     let most = |names: &[&str], ratio: fn(Times) -> f64| {
-        let full = rows.iter().filter(|row| names.contains(&row.name)).filter_map(|row| row.times[1]);
+        let full = rows.iter().filter(|row| names.contains(&row.name)).filter_map(|row| row.times[column]);
         full.map(ratio).fold(0.0, f64::max)
     };
     let by_hand: fn(Times) -> f64 = |t| ratios(t).0;
@@ -82,7 +85,7 @@ pub fn targets(rows: &[Row]) -> String {
         ("Add, to the same by hand", most(&[cases::ADD_STILL, cases::ADD_MOVING, cases::ADD_CLASHING], by_hand), 1.5),
         ("Consequences, to the same by hand", most(&[cases::SPLIT_SOME, cases::SPLIT_ALL], by_hand), 2.0),
     ];
-    let mut text = format!("at {} steps and {} rules, the larger of the two shapes:\n", SIZES[1].0, SIZES[1].1);
+    let mut text = format!("at {} steps and {} rules, the larger of the two shapes:\n", SIZES[column].0, SIZES[column].1);
     for (what, got, wanted) in lines {
         let verdict = if got <= wanted { "reached" } else { "MISSED" };
         text += &format!("{:<44}{:>6.2}, wanted at most {:.1}: {}\n", what, got, wanted, verdict);
