@@ -196,7 +196,19 @@ pub fn back(
     if 0 < number {
         return meaning::refused(counts, number);
     }
-    inner_back::back(counts, xs, ys, cs, days, marks, wxs, wys, wcs)
+    inner_back::back(
+        counts,
+        xs,
+        ys,
+        cs,
+        days,
+        marks,
+        wxs,
+        wys,
+        wcs,
+        &mut heads,
+        &nexts,
+    )
 }
 
 // Add: SHORT, DAMAGED, STEP, AMOUNT, FULL, CONFLICT with the ring in the list; else the rule is held and the days are the earliest plan.

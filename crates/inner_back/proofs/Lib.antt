@@ -2,3 +2,4 @@
 pub mod Passing
 pub mod Replanning
 pub mod Dropping
+pub mod Unlinking

@@ -1,6 +1,4 @@
 -- From days that keep the rules to their earliest plan: what holds before and after the gains are spread.
-use Rattle.lent.specs.Lent.{first}
-use Rattle.meaning.specs.Bounds.{RULES}
 use Prim.Native.Nat.{ℕ, zero, suc, _+_, _-_, _^_, _≤_, _<_}
 use native.Mathlib.Omega.{arith}
 use mathlib.Core.Path.{sym}
@@ -12,11 +10,11 @@ use Rattle.meaning.specs.Tables.{at}
 use Rattle.meaning.specs.Promise.{Planned}
 use Rattle.meaning.proofs.Theory.{earliest-ext}
 use Rattle.meaning.proofs.DayBound.{day-bound}
-use Rattle.chains.specs.Chains.{ChainsOf, Buildable}
+use Rattle.chains.specs.Chains.{ChainsOf}
 use Rattle.spread.specs.Ground.{rules, Ground}
 use Rattle.spread.specs.Contracts.{Askable, Spread}
 use Rattle.spread.proofs.Uses.{back-earliest}
-use Rattle.inner_back.specs.Replan.{Plannable, PlanRoom, Reaches, Bringable, Brought}
+use Rattle.inner_back.specs.Replan.{Plannable, Reaches, Bringable, Brought}
 
 module _ {n : ℕ} {H : ℕ → Type 0} {xs ys : List ℕ} {cs : List ℤ} {days : List ℕ} (plannable : Plannable n H xs ys cs days) where
   -- Where some of the rules stay, they can be planned.
@@ -78,17 +76,6 @@ module _ {n : ℕ} {H : ℕ → Type 0} {xs ys : List ℕ} {cs : List ℤ} {days
 pub all-below : (m k : ℕ) → ((i : ℕ) → i < m → i < k) → m ≤ k
 all-below zero k below = omega arith
 all-below (suc m) k below = below m (omega arith)
-
--- The first m rules can be put on chains.
-pub buildable :
-    {n m : ℕ} {xs ys : List ℕ} {cs : List ℤ} {days heads nexts gains by : List ℕ} → Plannable n (first m) xs ys cs days → PlanRoom n m heads nexts gains by → Buildable n m xs heads nexts
-buildable {n} {m} {xs} plannable room = record {
-  heads-room = room .heads-room;
-  firsts-room = all-below m (length xs) (λ i h. plannable .placed i h .first-place);
-  nexts-room = room .nexts-room;
-  links-fit = omega (arith, all-below m RULES (plannable .number-in));
-  firsts-in = λ i i-in. plannable .in-bounds i i-in .steps-in .first-in;
-}
 
 -- Gains that bring each day to k can be spread.
 pub askable : {n k : ℕ} (days : List ℕ) {gains by : List ℕ} → k < 2 ^ 32 → n ≤ length gains → n ≤ length by → Reaches n k days gains → Askable n gains by

@@ -26,10 +26,8 @@ pub record Droppable (n : ℕ) (H S : ℕ → Type 0) (xs ys : List ℕ) (cs : L
   pub earliest : Earliest n (rules xs ys cs) H (at days)
   pub stay : (i : ℕ) → S i → H i
 
--- The chains, the gains and the rules they come by have a place for each of n steps and m rules.
-pub record PlanRoom (n m : ℕ) (heads nexts gains by : List ℕ) : Type 0 where
-  pub heads-room : n ≤ length heads
-  pub nexts-room : m ≤ length nexts
+-- The gains and the rules they come by have a place for each of n steps.
+pub record PlanRoom (n : ℕ) (gains by : List ℕ) : Type 0 where
   pub gains-room : n ≤ length gains
   pub by-room : n ≤ length by
 

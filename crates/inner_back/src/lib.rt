@@ -1,13 +1,15 @@
-// Back on tables that are known to have room and to be sound. The days keep the rules that stay, but may be later than those rules ask: so each step
-// is asked to reach the latest day, the gains for that are spread over the rules that stay, and all days are brought back by the latest day. What a
-// spread gives is the earliest plan from the asked days on, so what is left is the earliest plan.
-ghost use Prim.Native.Nat.{_≤_};
+// Back on tables that are known to have room and to be sound, with the chains of their rules. The rules that go are taken off the chains. The days keep
+// the rules that stay, but may be later than those rules ask: so each step is asked to reach the latest day, the gains for that are spread over the rules
+// that stay, and all days are brought back by the latest day. What a spread gives is the earliest plan from the asked days on, so what is left is the
+// earliest plan.
+ghost use Prim.Native.Nat.{ℕ, _≤_, _<_};
 ghost use lib.ListN.{length};
-ghost use Rattle.meaning.specs.Bounds.{RULES};
+ghost use Rattle.meaning.specs.Tables.{at};
 ghost use Rattle.meaning.specs.Promise.{Planned};
 ghost use Rattle.lent.specs.Lent.{tables};
 ghost use Rattle.lent.specs.Promises.{Border, GoesBack};
 ghost use Rattle.lent.specs.Lent.{first};
+ghost use Rattle.chains.specs.Chains.{LentChains};
 ghost use Rattle.spread.specs.Ground.{rules};
 ghost use Rattle.inner_back.specs.Replan.{Plannable, Droppable, PlanRoom, LatestDay, Reachable, Reaches, Bringable, Brought};
 use meaning::Counts;
@@ -24,8 +26,11 @@ pub fn back(
     wxs: &[u16],
     wys: &[u16],
     wcs: &[i32],
+    heads: &mut [u16],
+    nexts: &[u16],
 ) -> Reply
     requires { ⌜ Border (tables counts (now xs) (now ys) (now cs) (now days) (now marks) (now wxs) (now wys) (now wcs)) ⌝ }
+    requires { ⌜ LentChains (counts .steps) (counts .rules) (now xs) (now heads) (now nexts) ⌝ }
     ensures { λ r. ⌜
         GoesBack counts (now (xs .entry)) (now (ys .entry)) (now (cs .entry)) (now (days .entry)) (now (marks .entry))
         (now (wxs .entry)) (now (wys .entry)) (now (wcs .entry)) r (now (days .exit)) ⌝ }
@@ -35,15 +40,10 @@ pub fn back(
         return meaning::refused(counts, meaning::NOMARK);
     }
     let mark = marks[open - 1];
-    keep_first(
-        counts.steps as usize,
-        counts.rules as usize,
-        mark as usize,
-        xs,
-        ys,
-        cs,
-        days,
-    );
+    let steps = counts.steps as usize;
+    let rules = counts.rules as usize;
+    drop_rules(mark as usize, rules, steps, xs, heads, nexts);
+    keep_first(steps, rules, mark as usize, xs, ys, cs, days, heads, nexts);
     let left = counts.marks - 1;
     meaning::done(
         meaning::marks_now(meaning::rules_now(counts, mark), left),
@@ -52,7 +52,24 @@ pub fn back(
     )
 }
 
-// Brings the days of n steps, which are the earliest plan of m rules, to the earliest plan of the first k of them. Where k is m nothing changes.
+// Takes the rules from number k up to m off their chains, newest first.
+pub fn drop_rules(k: usize, m: usize, n: usize, xs: &[u16], heads: &mut [u16], nexts: &[u16])
+    requires { ⌜ k ≤ m ⌝ }
+    requires { ⌜ LentChains n m (now xs) (now heads) (now nexts) ⌝ }
+    requires { ⌜ ((i : ℕ) → i < m → at (now xs) i < n) ⌝ }
+    requires { ⌜ m ≤ length (now xs) ⌝ }
+    requires { ⌜ m ≤ 65535 ⌝ }
+    ensures { λ _. ⌜ LentChains n k (now (xs .entry)) (now (heads .exit)) (now (nexts .entry)) ⌝ }
+{
+    let mut i = m;
+    while k < i {
+        i -= 1;
+        chains::drop_last(xs, heads, nexts, i);
+    }
+}
+
+// Brings the days of n steps, which are the earliest plan of m rules, to the earliest plan of the first k of them, whose chains are lent. Where k is m
+// nothing changes.
 pub fn keep_first(
     n: usize,
     m: usize,
@@ -61,41 +78,40 @@ pub fn keep_first(
     ys: &[u16],
     cs: &[i32],
     days: &mut [u32],
+    heads: &[u16],
+    nexts: &[u16],
 )
     requires { ⌜ Droppable n (first m) (first k) (now xs) (now ys) (now cs) (now days) ⌝ }
+    requires { ⌜ LentChains n k (now xs) (now heads) (now nexts) ⌝ }
     ensures { λ _. ⌜ Planned n (rules (now (xs .entry)) (now (ys .entry)) (now (cs .entry))) (first k) (now (days .entry)) (now (days .exit)) ⌝ }
 {
     if k == m {
         return;
     }
-    plan(n, k, xs, ys, cs, days);
+    plan(n, k, xs, ys, cs, days, heads, nexts);
 }
 
-// Brings the days of n steps, which keep each of m rules, to the earliest plan of those rules.
-fn plan(n: usize, m: usize, xs: &[u16], ys: &[u16], cs: &[i32], days: &mut [u32])
+// Brings the days of n steps, which keep each of m rules, to the earliest plan of those rules, whose chains are lent.
+fn plan(
+    n: usize,
+    m: usize,
+    xs: &[u16],
+    ys: &[u16],
+    cs: &[i32],
+    days: &mut [u32],
+    heads: &[u16],
+    nexts: &[u16],
+)
     requires { ⌜ Plannable n (first m) (now xs) (now ys) (now cs) (now days) ⌝ }
-    requires { ⌜ m ≤ RULES ⌝ }
+    requires { ⌜ LentChains n m (now xs) (now heads) (now nexts) ⌝ }
     ensures { λ _. ⌜ Planned n (rules (now (xs .entry)) (now (ys .entry)) (now (cs .entry))) (first m) (now (days .entry)) (now (days .exit)) ⌝ }
 {
-    let mut heads = [0u16; meaning::STEPS];
-    let mut nexts = [0u16; meaning::RULES];
     let mut gains = [0u64; meaning::STEPS];
     let mut by = [0u16; meaning::STEPS];
-    plan_with(
-        n,
-        m,
-        xs,
-        ys,
-        cs,
-        days,
-        &mut heads,
-        &mut nexts,
-        &mut gains,
-        &mut by,
-    );
+    plan_with(n, m, xs, ys, cs, days, heads, nexts, &mut gains, &mut by);
 }
 
-// The same, where the lists for the chains, the gains and the rules they come by are lent.
+// The same, where the lists for the gains and the rules they come by are lent too.
 fn plan_with(
     n: usize,
     m: usize,
@@ -103,16 +119,16 @@ fn plan_with(
     ys: &[u16],
     cs: &[i32],
     days: &mut [u32],
-    heads: &mut [u16],
-    nexts: &mut [u16],
+    heads: &[u16],
+    nexts: &[u16],
     gains: &mut [u64],
     by: &mut [u16],
 )
     requires { ⌜ Plannable n (first m) (now xs) (now ys) (now cs) (now days) ⌝ }
-    requires { ⌜ PlanRoom n m (now heads) (now nexts) (now gains) (now by) ⌝ }
+    requires { ⌜ LentChains n m (now xs) (now heads) (now nexts) ⌝ }
+    requires { ⌜ PlanRoom n (now gains) (now by) ⌝ }
     ensures { λ _. ⌜ Planned n (rules (now (xs .entry)) (now (ys .entry)) (now (cs .entry))) (first m) (now (days .entry)) (now (days .exit)) ⌝ }
 {
-    chains::build(n, m, xs, heads, nexts);
     let latest = latest_day(n, days);
     ask(n, latest, days, gains);
     spread::spread(n, m, xs, ys, cs, days, heads, nexts, n, gains, by);

@@ -2,6 +2,5 @@
 pub mod Copying
 pub mod Filing
 pub mod Pushing
-pub mod Dropping
 pub mod Popping
 pub mod Laws

@@ -1,10 +1,10 @@
 // Levels of a script: setting and dropping several marks at once. Where the days of an open mark are kept a pop copies them, else it plans afresh.
 // A table of kept days has ROWS rows, which the marks use in turn: mark k has row k % ROWS, and a later mark takes it over.
 ghost use mathlib.Core.Path.{_≡_};
-ghost use Prim.Native.Nat.{ℕ, _+_, _-_, _*_, _≤_, _<_};
+ghost use Prim.Native.Nat.{_+_, _-_, _*_, _≤_, _<_};
 ghost use lib.ListN.{length};
 ghost use Rattle.meaning.specs.Bounds.{STEPS, MARKS};
-ghost use Rattle.meaning.specs.Tables.{at, rule-at};
+ghost use Rattle.meaning.specs.Tables.{rule-at};
 ghost use Rattle.meaning.specs.Promise.{Planned};
 ghost use Rattle.lent.specs.Lent.{columns, first};
 ghost use Rattle.lent.specs.Idle.{unwatched};
@@ -95,22 +95,6 @@ pub fn push(counts: Counts, days: &[u32], marks: &mut [u32], kept: &mut [u32], n
     meaning::marks_now(counts, (first + n) as u32)
 }
 
-// Takes the rules from number k up to m off their chains, newest first.
-fn drop_rules(k: usize, m: usize, n: usize, xs: &[u16], heads: &mut [u16], nexts: &[u16])
-    requires { ⌜ k ≤ m ⌝ }
-    requires { ⌜ LentChains n m (now xs) (now heads) (now nexts) ⌝ }
-    requires { ⌜ ((i : ℕ) → i < m → at (now xs) i < n) ⌝ }
-    requires { ⌜ m ≤ length (now xs) ⌝ }
-    requires { ⌜ m ≤ 65535 ⌝ }
-    ensures { λ _. ⌜ LentChains n k (now (xs .entry)) (now (heads .exit)) (now (nexts .entry)) ⌝ }
-{
-    let mut i = m;
-    while k < i {
-        i -= 1;
-        chains::drop_last(xs, heads, nexts, i);
-    }
-}
-
 // Drops the newest n marks and every rule added after the oldest of them.
 pub fn pop(
     counts: Counts,
@@ -140,13 +124,25 @@ pub fn pop(
     let m = marks[k];
     let steps = counts.steps as usize;
     let rules = counts.rules as usize;
-    drop_rules(m as usize, rules, steps, xs, heads, nexts);
-    days_at(steps, rules, m as usize, xs, ys, cs, days, kept, k);
+    inner_back::drop_rules(m as usize, rules, steps, xs, heads, nexts);
+    days_at(
+        steps,
+        rules,
+        m as usize,
+        xs,
+        ys,
+        cs,
+        days,
+        heads,
+        nexts,
+        kept,
+        k,
+    );
     meaning::marks_now(meaning::rules_now(counts, m), k as u32)
 }
 
-// Brings the days of n steps, which are the earliest plan of m rules, to the earliest plan of the first l of them, those held when mark k was set: a copy where
-// they are kept.
+// Brings the days of n steps, which are the earliest plan of m rules, to the earliest plan of the first l of them, those held when mark k was set, whose chains
+// are lent. Where the days of the mark are kept, they are copied.
 fn days_at(
     n: usize,
     m: usize,
@@ -155,10 +151,13 @@ fn days_at(
     ys: &[u16],
     cs: &[i32],
     days: &mut [u32],
+    heads: &[u16],
+    nexts: &[u16],
     kept: &[u32],
     k: usize,
 )
     requires { ⌜ Droppable n (first m) (first l) (now xs) (now ys) (now cs) (now days) ⌝ }
+    requires { ⌜ LentChains n l (now xs) (now heads) (now nexts) ⌝ }
     requires { ⌜ k < MARKS ⌝ }
     requires { ⌜ KeptFor (rules (now xs) (now ys) (now cs)) n l k (now kept) ⌝ }
     ensures { λ _. ⌜ Planned n (rules (now (xs .entry)) (now (ys .entry)) (now (cs .entry))) (first l) (now (days .entry)) (now (days .exit)) ⌝ }
@@ -167,5 +166,5 @@ fn days_at(
         copy_days(n, kept, row_of(k), days, 0);
         return;
     }
-    inner_back::keep_first(n, m, l, xs, ys, cs, days);
+    inner_back::keep_first(n, m, l, xs, ys, cs, days, heads, nexts);
 }

@@ -1,9 +1,9 @@
--- `desk::back`: the first test decides the refusals that all calls share; the rest is `back` on sound tables.
+-- `desk::back`: the first test decides the refusals that all calls share; the rest is `back` on sound tables, with the chains that the test left.
 use Prim.Native.Nat.{ℕ}
 use mathlib.Core.Path.{refl}
 use lib.ListN.{length-replicate}
 use Rattle.meaning.specs.Bounds.{STEPS, RULES}
-use Rattle.desk.proofs.Entering.{entered, refused-alone}
+use Rattle.desk.proofs.Entering.{entered, chains-entered, refused-alone}
 use native.Mathlib.Omega.{arith}
 use borrow.Author.Needs.{needs}
 use Rattle.desk.proofs.back.Statement.{statement}
@@ -32,8 +32,17 @@ same-length c = search needs
 returns : tie.Need-returns
 returns c = rw (c .refused .ensures) (refused-alone _ _ _ _ _ (c .before .before .before .before .verdict .ensures) _ _ (omega (arith, c .before .if1 .taken)) refl (λ f. f))
 
+slice-aggregate-back : tie.Need-slice-aggregate-back
+slice-aggregate-back c = search needs
+
+slice-aggregate-back-2 : tie.Need-slice-aggregate-back-2
+slice-aggregate-back-2 c = search needs
+
 back-requires : tie.Need-back-requires
-back-requires c κs = entered _ _ _ _ _ (c .before .before .before .before .verdict .ensures) (omega (arith, c .before .if1 .left))
+back-requires c κs =
+    let else1 = c .before .before .before in
+    let verdict = else1 .before .before .before .verdict in
+    (entered _ _ _ _ _ (verdict .ensures) (omega (arith, else1 .if1 .left)), chains-entered _ _ _ _ _ (verdict .ensures) (omega (arith, else1 .if1 .left)))
 
 same-length-2 : tie.Need-same-length-2
 same-length-2 c = search needs
@@ -51,6 +60,8 @@ back-spec =
     refused-requires
     same-length
     returns
+    slice-aggregate-back
+    slice-aggregate-back-2
     back-requires
     same-length-2
     returns-2)

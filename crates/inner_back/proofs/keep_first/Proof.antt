@@ -1,5 +1,4 @@
 -- `inner_back::keep_first` meets its contract: the days stay where all rules do; else the first k rules, which the days keep, are planned.
-use Rattle.meaning.specs.Bounds.{RULES}
 use Rattle.inner_back.proofs.Replanning.{plannable-fewer, all-below}
 use Rattle.inner_back.proofs.Dropping.{all-stay}
 use native.Mathlib.Omega.{arith}
@@ -8,13 +7,13 @@ use Rattle.inner_back.proofs.keep_first.Tie as tie
 
 returns : tie.Need-returns
 returns c =
-    let start = c .before .before .before .before in
-    all-stay (start .pre) (omega (arith, c .if1 .taken, all-below (start .args .k) (start .args .m) (start .pre .stay)))
+    let start = c .before .before .before .before .before .before in
+    all-stay (start .pre .0) (omega (arith, c .if1 .taken, all-below (start .args .k) (start .args .m) (start .pre .0 .stay)))
 
 plan-requires : tie.Need-plan-requires
 plan-requires c κs =
-    let start = c .before .before .before .before .before in
-    (plannable-fewer (start .pre .plannable) (start .pre .stay), all-below (start .args .k) RULES (λ i h. start .pre .plannable .number-in i (start .pre .stay i h)))
+    let start = c .before .before .before .before .before .before .before in
+    (plannable-fewer (start .pre .0 .plannable) (start .pre .0 .stay), start .pre .1)
 
 same-length : tie.Need-same-length
 same-length c = c .before .before .plan .kept .1 .1 .1 .1 .1 .0

@@ -19,7 +19,7 @@ row-of-requires c κs = search needs
 
 copy-days-requires : tie.Need-copy-days-requires
 copy-days-requires c κs =
-    let start = c .before .before .before .before .before .before .before .before in
+    let start = c .before .before .before .before .before .before .before .before .before .before in
     (kept-places (start .pre .0) (c .before .before .before .holds .ensures .so (c .before .before .if1 .taken)) (c .before .row-of .ensures), omega (arith, start .pre .0 .plannable .days-room))
 
 same-length : tie.Need-same-length
@@ -27,8 +27,10 @@ same-length c = search needs
 
 returns : tie.Need-returns
 returns c =
-    let start = c .before .before .before .before .before .before .before .before .before .before .before in
-    plan-kept (start .pre .0) (c .before .before .before .before .before .before .holds .ensures .so (c .before .before .before .before .before .if1 .taken)) (c .before .before .before .before .row-of .ensures) (start .pre .1 .1) (c .before .before .copy-days .ensures)
+    let then1 = c .before .before .before .before .before in
+    let holds = then1 .before .holds in
+    let start = then1 .before .before .before .before .before .before .before .before in
+    plan-kept (start .pre .0) (holds .ensures .so (then1 .if1 .taken)) (c .before .before .before .before .row-of .ensures) (start .pre .1 .1 .1) (c .before .before .copy-days .ensures)
 
 keep-first-requires : tie.Need-keep-first-requires
 keep-first-requires c κs = search needs

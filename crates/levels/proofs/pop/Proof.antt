@@ -10,10 +10,16 @@ use Rattle.levels.proofs.pop.Tie as tie
 use Rattle.levels.proofs.pop.Reads as reads
 use Rattle.levels.proofs.pop.Lts as lts
 use Rattle.levels.proofs.days_at.Reads as days-at-reads
-use Rattle.levels.proofs.drop_rules.Reads as drop-rules-reads
+use Rattle.inner_back.proofs.drop_rules.Reads as drop-rules-reads
+
+-- Places of the code, seen from later ones.
+abbrev start-before-shared-slice-known5 : tie.After-shared-slice-known5 → tie.Start
+start-before-shared-slice-known5 c = c .before .before .before .before .before .before .before
 
 returns : tie.Need-returns
-returns c = (popped-none _ (c .if1 .taken) (c .before .before .before .before .before .before .before .before .pre .0 .sound), c .before .before .before .before .before .before .before .before .pre .1 .1 .0)
+returns c =
+    let start = start-before-shared-slice-known5 (c .before) in
+    (popped-none _ (c .if1 .taken) (start .pre .0 .sound), start .pre .1 .1 .0)
 
 cast-k : tie.Need-cast-k
 cast-k c = search needs
@@ -35,14 +41,15 @@ cast-rules c = search needs
 
 cast-drop-rules : tie.Need-cast-drop-rules
 cast-drop-rules c =
-    let start = c .before .before .before .before .before .before .before .before .before .before .before .before in
+    let start = start-before-shared-slice-known5 (c .before .before .before .before .before) in
     omega (arith, start .pre .0 .sound .marks-held (start .args .counts .marks - start .args .n) (omega (arith, c .before .before .before .before .if1 .left, start .pre .1 .0)), start .pre .0 .sound .counts-in .rules-in)
 
 drop-rules-requires : tie.Need-drop-rules-requires
 drop-rules-requires c κs =
-    let start = c .before .before .before .before .before .before .before .before .before .before .before .before .before in
+    let else1 = c .before .before .before .before .before in
+    let start = start-before-shared-slice-known5 (else1 .before) in
     let sound = start .pre .0 .sound in (
-      sound .marks-held (start .args .counts .marks - start .args .n) (omega (arith, c .before .before .before .before .before .if1 .left, start .pre .1 .0)),
+      sound .marks-held (start .args .counts .marks - start .args .n) (omega (arith, else1 .if1 .left, start .pre .1 .0)),
       (
         start .pre .1 .1 .0,
         (
@@ -54,14 +61,16 @@ drop-rules-requires c κs =
 
 cast-days-at : tie.Need-cast-days-at
 cast-days-at c =
-    let start = c .before .before .before .before .before .before .before .before .before .before .before .before .before .before .before .before in
-    omega (arith, start .pre .0 .sound .marks-held (start .args .counts .marks - start .args .n) (omega (arith, c .before .before .before .before .before .before .before .before .if1 .left, start .pre .1 .0)), start .pre .0 .sound .counts-in .rules-in)
+    let else1 = c .before .before .before .before .before .before .before .before in
+    let start = start-before-shared-slice-known5 (else1 .before) in
+    omega (arith, start .pre .0 .sound .marks-held (start .args .counts .marks - start .args .n) (omega (arith, else1 .if1 .left, start .pre .1 .0)), start .pre .0 .sound .counts-in .rules-in)
 
 days-at-requires : tie.Need-days-at-requires
 days-at-requires c κs =
-    let start = c .before .before .before .before .before .before .before .before .before .before .before .before .before .before .before .before .before in
-    let k-in : start .args .counts .marks - start .args .n < start .args .counts .marks = omega (arith, c .before .before .before .before .before .before .before .before .before .if1 .left, start .pre .1 .0) in
-    (droppable-at (start .pre .0) k-in refl, (omega (arith, k-in, start .pre .0 .sound .counts-in .marks-in), start .pre .1 .1 .1 .kept-earliest _ k-in))
+    let else1 = c .before .before .before .before .before .before .before .before .before .before in
+    let start = start-before-shared-slice-known5 (else1 .before) in
+    let k-in : start .args .counts .marks - start .args .n < start .args .counts .marks = omega (arith, else1 .if1 .left, start .pre .1 .0) in
+    (droppable-at (start .pre .0) k-in refl, (c .before .before .before .before .drop-rules .ensures, (omega (arith, k-in, start .pre .0 .sound .counts-in .marks-in), start .pre .1 .1 .1 .kept-earliest _ k-in)))
 
 rules-now-requires : tie.Need-rules-now-requires
 rules-now-requires c κs = search needs
@@ -80,9 +89,11 @@ same-length-2 c = search needs
 
 returns-2 : tie.Need-returns-2
 returns-2 c =
-    let start = c .before .before .before .before .before .before .before .before .before .before .before .before .before .before .before .before .before .before .before .before .before .before in
+    let at-drop-rules = c .before .before .before .before .before .before .before .before .before in
+    let else1 = at-drop-rules .before .before .before .before .before .before in
+    let start = else1 .before .before .before .before .before .before .before .before in
     rw (c .marks-now .ensures, c .before .rules-now .ensures)
-    (popped-cut (start .args .n) _ (omega (arith, c .before .before .before .before .before .before .before .before .before .before .before .before .before .before .if1 .left)) (start .pre .1 .0) refl (c .before .before .before .before .days-at .ensures), c .before .before .before .before .before .before .before .before .drop-rules .ensures)
+    (popped-cut (start .args .n) _ (omega (arith, else1 .if1 .left)) (start .pre .1 .0) refl (c .before .before .before .before .days-at .ensures), at-drop-rules .drop-rules .ensures)
 
 pub pop-spec : {M : Type 1} → statement M
 pop-spec =
