@@ -1,6 +1,6 @@
 #ifndef DATES_H
 #define DATES_H
-#define DATES_VERSION "1.1.0"
+#define DATES_VERSION "2.0.0"
 
 /*
  * The date engine's calls, for C (C99 and later) and C++ (C++11 and later). The library is libdates where it is installed (./install), in the
