@@ -42,13 +42,16 @@ same-length-4 c = search needs
 
 returns : tie.Need-returns
 returns c =
-    let start = c .before .before .before .before .before .before .before .before .before .before .before .before .before .before .before .before .before in
+    let at-write-rule = c .before .before .before .before .before in
+    let then1 = at-write-rule .before .before .before .before in
+    let lack = then1 .before .lack in
+    let start = then1 .before .before .before .before .before .before .before .before in
     let args = start .args in
-    let l : Lack (args .days .now) (args .x) (args .y) (args .c) (c .before .before .before .before .before .before .before .before .before .before .lack .result) = rw (toZ-ofZ w32 (args .c) (start .fits .c)) at (c .before .before .before .before .before .before .before .before .before .before .lack .ensures) in
+    let l : Lack (args .days .now) (args .x) (args .y) (args .c) (lack .result) = rw (toZ-ofZ w32 (args .c) (start .fits .c)) at (lack .ensures) in
     record {
       when-fits = λ e.
           taken-at-once (args .n) (first (args .m)) number (args .m) (args .xs .now) (args .ys .now) (args .cs .now) (args .days .now) (args .heads .now) (args .nexts .now) (args .x) (args .y) (args .c) (start .pre)
-          (l .none (omega (arith, c .before .before .before .before .before .before .before .before .before .if1 .taken))) _ (rw (toZ-ofZ w32 (args .c) (start .fits .c)) at (c .before .before .before .before .before .write-rule .ensures));
+          (l .none (omega (arith, then1 .if1 .taken))) _ (rw (toZ-ofZ w32 (args .c) (start .fits .c)) at (at-write-rule .write-rule .ensures));
       when-not = λ e. absurd (true≢false e);
     }
 
@@ -60,8 +63,9 @@ slice-aggregate-fit-with-2 c = search needs
 
 fit-with-requires : tie.Need-fit-with-requires
 fit-with-requires c κs =
-    let start = c .before .before .before .before .before .before .before .before .before .before .before .before .before .before .before in
-    (rw (toZ-ofZ w32 (start .args .c) (start .fits .c)) (start .pre), no-gains (start .args .n) _ (c .before .before .before .before .before .before .if2 .taken))
+    let then2 = c .before .before .before .before .before .before in
+    let start = then2 .before .before .before .before .before .before .before .before .before in
+    (rw (toZ-ofZ w32 (start .args .c) (start .fits .c)) (start .pre), no-gains (start .args .n) _ (then2 .if2 .taken))
 
 same-length-5 : tie.Need-same-length-5
 same-length-5 c = search needs
@@ -77,8 +81,9 @@ same-length-8 c = search needs
 
 returns-2 : tie.Need-returns-2
 returns-2 c =
-    let start = c .before .before .before .before .before .before .before .before .before .before .before .before .before .before .before .before .before .before .before .before .before .before .before .before .before in
-    (rw (toZ-ofZ w32 (start .args .c) (start .fits .c)) at (c .before .before .before .before .before .before .before .before .before .fit-with .ensures)) .tells
+    let at-fit-with = c .before .before .before .before .before .before .before .before .before in
+    let start = at-fit-with .before .before .before .before .before .before .before .before .before .before .before .before .before .before .before .before in
+    (rw (toZ-ofZ w32 (start .args .c) (start .fits .c)) at (at-fit-with .fit-with .ensures)) .tells
 
 slice-aggregate-fit-with-3 : tie.Need-slice-aggregate-fit-with-3
 slice-aggregate-fit-with-3 c = search needs
@@ -105,8 +110,9 @@ same-length-12 c = search needs
 
 returns-3 : tie.Need-returns-3
 returns-3 c =
-    let start = c .before .before .before .before .before .before .before .before .before .before .before .before .before .before .before .before .before .before .before .before .before .before .before .before .before in
-    (rw (toZ-ofZ w32 (start .args .c) (start .fits .c)) at (c .before .before .before .before .before .before .before .before .before .fit-with2 .ensures)) .tells
+    let at-fit-with2 = c .before .before .before .before .before .before .before .before .before in
+    let start = at-fit-with2 .before .before .before .before .before .before .before .before .before .before .before .before .before .before .before .before in
+    (rw (toZ-ofZ w32 (start .args .c) (start .fits .c)) at (at-fit-with2 .fit-with2 .ensures)) .tells
 
 pub fit-spec : {M : Type 1} → statement M
 fit-spec =

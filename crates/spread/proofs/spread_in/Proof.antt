@@ -14,8 +14,20 @@ use borrow.Author.Needs.{needs}
 use Rattle.spread.proofs.spread_in.Statement.{statement}
 use Rattle.spread.proofs.spread_in.Tie as tie
 
+-- Places of the code, seen from later ones.
+abbrev settle-all-before-slice-known15 : tie.After-slice-known15 → tie.After-settle-all
+settle-all-before-slice-known15 c = c .before .before .before .before .before .before .before .before .before .before
+
+abbrev begin-before-settle-all-arg5 : tie.After-settle-all-arg5 → tie.After-begin
+begin-before-settle-all-arg5 c = c .before .before .before .before .before .before .before .before .before .before .before .before .before .before .before
+
+abbrev start-before-begin-arg5 : tie.After-begin-arg5 → tie.Start
+start-before-begin-arg5 c = c .before .before .before .before .before .before .before .before .before .before .before .before .before .before .before
+
 begin-requires : tie.Need-begin-requires
-begin-requires c κs = (c .before .before .before .before .before .before .before .before .before .before .before .before .before .before .before .pre .1 .0, c .before .before .before .before .before .before .before .before .before .before .before .before .before .before .before .pre .1 .1)
+begin-requires c κs =
+    let start = start-before-begin-arg5 c in
+    (start .pre .1 .0, start .pre .1 .1)
 
 -- The one gain is small, and so is none.
 small : (n y gain : ℕ) (g g′ : ℕ → ℕ) → gain < 2 ^ 62 → ((v : ℕ) → v < n → g v ≡ 0) → Put y gain g g′ → (v : ℕ) → v < n → g′ v < 2 ^ 62
@@ -27,12 +39,14 @@ small n y gain g g′ fits none put v v-in = tell (ℕ-discrete v y)
 
 settle-all-requires : tie.Need-settle-all-requires
 settle-all-requires c κs =
-    let a = c .before .before .before .before .before .before .before .before .before .before .before .before .before .before .before .before .before .before .before .before .before .before .before .before .before .before .before .before .before .before .before .args in
-    let asked = c .before .before .before .before .before .before .before .before .before .before .before .before .before .before .before .before .before .before .before .before .before .before .before .before .before .before .before .before .before .before .before .pre .1 .0 in
-    let room = c .before .before .before .before .before .before .before .before .before .before .before .before .before .before .before .before .before .before .before .before .before .before .before .before .before .before .before .before .before .before .before .pre .1 .1 in
-    let begin = c .before .before .before .before .before .before .before .before .before .before .before .before .before .before .before .begin in
+    let at-begin = begin-before-settle-all-arg5 c in
+    let start = start-before-begin-arg5 (at-begin .before) in
+    let a = start .args in
+    let asked = start .pre .1 .0 in
+    let room = start .pre .1 .1 in
+    let begin = at-begin .begin in
     let begun = begin .ensures .0 in (
-      c .before .before .before .before .before .before .before .before .before .before .before .before .before .before .before .before .before .before .before .before .before .before .before .before .before .before .before .before .before .before .before .pre .0,
+      start .pre .0,
       (
         record {
           room = record {
@@ -53,30 +67,48 @@ settle-all-requires c κs =
     )
 
 same-length : tie.Need-same-length
-same-length c = c .before .before .before .before .before .before .before .before .before .before .settle-all .kept .1 .1 .1 .1 .1 .1 .1 .1 .1 .0 ∙ c .before .before .before .before .before .before .before .before .before .before .before .before .before .before .before .before .before .before .before .before .before .before .before .before .before .before .begin .kept .1 .1 .1 .0
+same-length c =
+    let at-settle-all = settle-all-before-slice-known15 c in
+    let begin = begin-before-settle-all-arg5 (at-settle-all .before) .begin in
+    at-settle-all .settle-all .kept .1 .1 .1 .1 .1 .1 .1 .1 .1 .0 ∙ begin .kept .1 .1 .1 .0
 
 same-length-2 : tie.Need-same-length-2
-same-length-2 c = c .before .before .before .before .before .before .before .before .before .before .settle-all .kept .1 .1 .1 .1 .1 .1 .1 .1 .1 .1 .0 ∙ c .before .before .before .before .before .before .before .before .before .before .before .before .before .before .before .before .before .before .before .before .before .before .before .before .before .before .begin .kept .1 .1 .1 .1 .0
+same-length-2 c =
+    let at-settle-all = settle-all-before-slice-known15 c in
+    let begin = begin-before-settle-all-arg5 (at-settle-all .before) .begin in
+    at-settle-all .settle-all .kept .1 .1 .1 .1 .1 .1 .1 .1 .1 .1 .0 ∙ begin .kept .1 .1 .1 .1 .0
 
 same-length-3 : tie.Need-same-length-3
-same-length-3 c = c .before .before .before .before .before .before .before .before .before .before .settle-all .kept .1 .1 .1 .1 .1 .1 .1 .1 .1 .1 .1 .0 ∙ c .before .before .before .before .before .before .before .before .before .before .before .before .before .before .before .before .before .before .before .before .before .before .before .before .before .before .begin .kept .1 .1 .1 .1 .1 .0
+same-length-3 c =
+    let at-settle-all = settle-all-before-slice-known15 c in
+    let begin = begin-before-settle-all-arg5 (at-settle-all .before) .begin in
+    at-settle-all .settle-all .kept .1 .1 .1 .1 .1 .1 .1 .1 .1 .1 .1 .0 ∙ begin .kept .1 .1 .1 .1 .1 .0
 
 same-length-4 : tie.Need-same-length-4
-same-length-4 c = c .before .before .before .before .before .before .before .before .before .before .settle-all .kept .1 .1 .1 .1 .1 .1 .1 .1 .1 .1 .1 .1 .0 ∙ c .before .before .before .before .before .before .before .before .before .before .before .before .before .before .before .before .before .before .before .before .before .before .before .before .before .before .begin .kept .1 .1 .1 .1 .1 .1 .0
+same-length-4 c =
+    let at-settle-all = settle-all-before-slice-known15 c in
+    let begin = begin-before-settle-all-arg5 (at-settle-all .before) .begin in
+    at-settle-all .settle-all .kept .1 .1 .1 .1 .1 .1 .1 .1 .1 .1 .1 .1 .0 ∙ begin .kept .1 .1 .1 .1 .1 .1 .0
 
 same-length-5 : tie.Need-same-length-5
-same-length-5 c = c .before .before .before .before .before .before .before .before .before .before .settle-all .kept .1 .1 .1 .1 .1 .1 .1 .1 .1 .1 .1 .1 .1 .0 ∙ c .before .before .before .before .before .before .before .before .before .before .before .before .before .before .before .before .before .before .before .before .before .before .before .before .before .before .begin .kept .1 .1 .1 .1 .1 .1 .1 .0
+same-length-5 c =
+    let at-settle-all = settle-all-before-slice-known15 c in
+    let begin = begin-before-settle-all-arg5 (at-settle-all .before) .begin in
+    at-settle-all .settle-all .kept .1 .1 .1 .1 .1 .1 .1 .1 .1 .1 .1 .1 .1 .0 ∙ begin .kept .1 .1 .1 .1 .1 .1 .1 .0
 
 returns : tie.Need-returns
 returns c =
-    let a = c .before .before .before .before .before .before .before .before .before .before .before .before .before .before .before .before .before .before .before .before .before .before .before .before .before .before .before .before .before .before .before .before .before .before .before .before .before .before .before .before .before .before .args in
-    let asked = c .before .before .before .before .before .before .before .before .before .before .before .before .before .before .before .before .before .before .before .before .before .before .before .before .before .before .before .before .before .before .before .before .before .before .before .before .before .before .before .before .before .before .pre .1 .0 in
-    let begin = c .before .before .before .before .before .before .before .before .before .before .before .before .before .before .before .before .before .before .before .before .before .before .before .before .before .before .begin in
+    let at-settle-all = settle-all-before-slice-known15 c in
+    let at-begin = begin-before-settle-all-arg5 (at-settle-all .before) in
+    let start = start-before-begin-arg5 (at-begin .before) in
+    let a = start .args in
+    let asked = start .pre .1 .0 in
+    let begin = at-begin .begin in
     let begun = begin .ensures .0 in
     let low : ℕ → ℕ = λ v. at (a .days .now) v + alone (a .y) (a .gain) v in
     from-before (a .n) (first (a .m)) (a .xs .now) (a .ys .now) (a .cs .now) (a .days .now) (a .goal) low (a .gains .now) (begin .last .1 .1 .1 .0) _ _ (a .y) (a .gain) (asked .step-in)
     (begun .asked)
-    (c .before .before .before .before .before .before .before .before .before .before .settle-all .ensures low
+    (at-settle-all .settle-all .ensures low
     (no-turn-yet (a .n) (rules (a .xs .now) (a .ys .now) (a .cs .now)) (first (a .m)) (at (a .days .now)) low (at (begin .last .1 .1 .1 .0))
     (at (begin .last .1 .1 .1 .1 .0)) (at (begin .last .1 .1 .1 .1 .1 .0)) (begin .result)
     (λ v v-in. omega (arith, alone-is (a .n) (a .y) (a .gain) (at (a .gains .now)) (at (begin .last .1 .1 .1 .0)) (asked .none-yet) (begun .asked) v v-in))
