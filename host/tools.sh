@@ -52,6 +52,14 @@ fresh() { # FILE
     [ -f "$1" ] && [ -z "$(find crates.txt crates -newer "$1" -print -quit)" ]
 }
 
+# The module that the toolchain's compiler was given when an archive was made: tools/build keeps it beside the archive, but on x86-64, where nobody needs it.
+module_of() { echo "target/staticlib/lib$1.bc"; }
+
+# Prints the sum of the module of an archive, for the stamp of that; nothing on x86-64.
+module_sum() { # CRATE
+    [ "$machine" = x86_64 ] || sha256sum "$(module_of "$1")" 2>/dev/null || echo "no module"
+}
+
 # Makes the library's archive ready. Not 0 where it is not proved.
 need_archive() { tools/build library; }
 

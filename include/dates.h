@@ -1,6 +1,6 @@
 #ifndef DATES_H
 #define DATES_H
-#define DATES_VERSION "2.0.0"
+#define DATES_VERSION "3.1.0"
 
 /*
  * The date engine's calls, for C (C99 and later) and C++ (C++11 and later). The library is libdates where it is installed (./install), in the
@@ -59,12 +59,13 @@ extern "C" {
 #define DATES_NAME 10     /* a name unknown, or declared while it stands */
 #define DATES_SIZE 11     /* script over DATES_TEXT bytes, name over DATES_NAME_BYTES, terms over DATES_DEPTH deep, over DATES_ASKED names in one get-value */
 
-/* How many of each thing the tables hold. Each call brings it up to date. */
+/* How many of each thing the tables hold, and the last day of the plan. Each call brings it up to date. */
 typedef struct dates_counts {
     uint32_t steps;    /* steps, numbered from 0 */
     uint32_t rules;    /* rules held; the next one gets this number */
     uint32_t marks;    /* marks open */
     uint32_t watched;  /* watched rules */
+    uint32_t last;     /* the last day: the largest day of all steps; any other value makes the tables DATES_DAMAGED */
 } dates_counts;
 
 /* The script's record. */
@@ -78,7 +79,7 @@ typedef struct dates_record {
 /*
  * The tables, the same for every call. Each length counts elements and must be at least the bound, else the call is DATES_SHORT; room beyond is never touched.
  *
- *     counts            how many of each thing the tables hold
+ *     counts            how many of each thing the tables hold, and the last day of the plan
  *     xs, xs_len        the first steps of the rules held, for at least DATES_RULES
  *     ys, ys_len        their second steps, for at least DATES_RULES
  *     cs, cs_len        their amounts, for at least DATES_RULES
@@ -88,13 +89,13 @@ typedef struct dates_record {
  *     wys, wys_len      their second steps, for at least DATES_WATCHED
  *     wcs, wcs_len      their amounts, for at least DATES_WATCHED
  *
- * They are sound when the counts are within bounds, every rule held or watched is within bounds, marks never fall and none exceeds the rule count, and the days equal
- * the earliest plan of the rules held. dates_open and dates_start make them so, and every call leaves sound tables sound. Cells past the counts may hold anything, and past the
+ * They are sound when the counts are within bounds, every rule held or watched is within bounds, marks never fall and none exceeds the rule count, the days equal
+ * the earliest plan of the rules held, and counts->last is the largest of them. dates_open and dates_start make them so, and every call leaves sound tables sound. Cells past the counts may hold anything, and past the
  * counts after a call they are as before it. What a call may write is a pointer without const.
  */
 
 /*
- * Open: sets that many steps, no rules, marks or watched rules, and day 0 for every step. What the tables held before does not matter.
+ * Open: sets that many steps, no rules, marks or watched rules, day 0 for every step, and 0 for the last day. What the tables held before does not matter.
  *     steps   how many steps there are to be
  * Writes counts, and the days of these steps.
  *     DATES_SHORT   a table has too few places
@@ -155,7 +156,8 @@ uint32_t dates_back(
  *     list, list_len   gets the ring on DATES_CONFLICT; at least DATES_STEPS places, and places past the ring's length keep what they had
  *     x, y, c          the rule: its first step, its second step, its amount
  *     value            gets how many steps have a day different from before; on DATES_CONFLICT the ring's length; on any other refusal 0
- * The ring is a negative one: first the refused rule, under the number it would have had (counts->rules), then rules held.
+ * The ring is a negative one: first the refused rule, under the number it would have had (counts->rules), then rules held. Of all such rings it has the fewest rules,
+ * and of those with as few it is the one whose list of numbers is smallest at the first difference. So the same tables and the same rule always give the same ring.
  * Writes counts, the new rule's place in xs, ys and cs, the days of all steps, and value; on DATES_CONFLICT list and value alone.
  *     DATES_SHORT      a table or the list has too few places
  *     DATES_DAMAGED    the tables are not sound
@@ -174,7 +176,7 @@ uint32_t dates_add(
 /*
  * Trial: answers as Add would and writes to no table.
  *     one, one_len   gets the days of all steps if the rule fits, else is not written; at least DATES_STEPS places
- *     two, two_len   gets the ring on DATES_CONFLICT, else is not written; at least DATES_STEPS places
+ *     two, two_len   gets the ring on DATES_CONFLICT, the one that Add would give, else is not written; at least DATES_STEPS places
  *     x, y, c        the rule: its first step, its second step, its amount
  *     value          gets how many steps would move; on DATES_CONFLICT the ring's length; on any other refusal 0
  * Writes one or two, and value.
@@ -210,7 +212,7 @@ uint32_t dates_consequences(
     uint32_t *one, size_t one_len, uint32_t *two, size_t two_len, uint32_t *held, uint32_t *excluded);
 
 /*
- * Ring check: whether a list is a negative ring that starts with the rule under its would-be number and goes on over rules held.
+ * Ring check: whether a list is a negative ring that starts with the rule under its would-be number and goes on over rules held. It need not be the one that Add gives.
  *     list, list_len   any list of any numbers
  *     x, y, c          the rule: its first step, its second step, its amount
  *     verdict          gets 1 where the list is such a ring, else 0; on a refusal 0
@@ -226,6 +228,20 @@ uint32_t dates_ring_check(
     const uint32_t *days, size_t days_len, const uint32_t *marks, size_t marks_len,
     const uint16_t *wxs, size_t wxs_len, const uint16_t *wys, size_t wys_len, const int32_t *wcs, size_t wcs_len,
     const uint32_t *list, size_t list_len, uint32_t x, uint32_t y, int32_t c, uint32_t *verdict);
+
+/*
+ * Last day: the largest day of the plan, over all steps of the tables, those of a script that have no name too.
+ *     day   gets the largest day, which is counts->last where the tables are sound; on a refusal 0
+ * Writes day.
+ *     DATES_SHORT     a table has too few places
+ *     DATES_DAMAGED   the tables are not sound
+ */
+uint32_t dates_last_day(
+    const dates_counts *counts,
+    const uint16_t *xs, size_t xs_len, const uint16_t *ys, size_t ys_len, const int32_t *cs, size_t cs_len,
+    const uint32_t *days, size_t days_len, const uint32_t *marks, size_t marks_len,
+    const uint16_t *wxs, size_t wxs_len, const uint16_t *wys, size_t wys_len, const int32_t *wcs, size_t wcs_len,
+    uint32_t *day);
 
 /*
  * Start: opens the tables with DATES_STEPS steps and empties the script's record. What they held before does not matter.
@@ -359,6 +375,12 @@ static inline uint32_t dates_t_consequences(dates_tables *t, uint32_t *held, uin
 static inline uint32_t dates_t_ring_check(const dates_tables *t, const uint32_t *list, size_t list_len, uint32_t x, uint32_t y, int32_t c, uint32_t *verdict)
 {
     return dates_ring_check(&t->counts, DATES_LENT_(t), list, list_len, x, y, c, verdict);
+}
+
+/* The last day of the plan: dates_last_day. */
+static inline uint32_t dates_t_last_day(const dates_tables *t, uint32_t *day)
+{
+    return dates_last_day(&t->counts, DATES_LENT_(t), day);
 }
 
 /* Start a script: dates_start. */

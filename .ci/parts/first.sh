@@ -18,11 +18,13 @@ kit=$(dirname -- "$(dirname -- "$(rt doc)")") || stop "rt does not answer"
 echo 'unsigned dates_main(unsigned char *text, unsigned long length) { return text == 0 || length == 0; }' >"$work/other.c"
 "$kit/on/$machine/toolchain/bin/clang" --target=x86_64-unknown-linux-gnu -fPIE -c "$work/other.c" -o "$work/other.o" &&
     "$kit/on/$machine/toolchain/bin/llvm-ar" rcs "$work/other.a" "$work/other.o" || stop "no other archive"
+"$kit/on/$machine/toolchain/bin/clang" --target=x86_64-unknown-linux-gnu -emit-llvm -c "$work/other.c" -o "$work/other.bc" || stop "no module"
 
 # ---- The copy and the stand-in. PAUSE is how long a crate takes; with DO=fail one is not proved, with DO=other the program writes something else, with DO=break rt fails.
+# Where it makes an archive under another kit, it gives that kit's compiler a module.
 tree=$work/tree
 mkdir -p "$tree/tools" "$tree/host/c" "$tree/crates/program" "$work/bin"
-cp dates "$tree/" && cp tools/build "$tree/tools/" && cp host/tools.sh "$tree/host/" && cp host/c/bare.c "$tree/host/c/" && cp -r include examples "$tree/" ||
+cp dates "$tree/" && cp tools/build "$tree/tools/" && cp host/tools.sh host/native.sh "$tree/host/" && cp host/c/bare.c "$tree/host/c/" && cp -r include examples "$tree/" ||
     stop "no copy of the command"
 printf '%s\n' '# Words.' 'meaning:' 'lent: meaning # here too' 'text:' 'export_record: lent' 'exports: export_record' 'program: lent text io' 'dates: program' >"$tree/crates.txt"
 echo one >"$tree/crates/program/source"
@@ -52,6 +54,7 @@ for crate in \$crates; do
     echo "rt: \$crate proved (1 s)"
 done
 if [ "\$1" = staticlib ]; then
+    [ -z "\${RATTLE_HOME:-}" ] || "\$RATTLE_HOME/on/$machine/toolchain/bin/clang" --target=x86_64-unknown-linux-gnu -w -c -x ir '$work/other.bc' -o target/staticlib/other.o || exit
     case \$2 in
     exports) echo archive >target/staticlib/libexports.a ;;
     *) if [ "\${DO:-}" = other ]; then cp '$work/other.a' target/staticlib/libprogram.a; else cp '$PWD/$PROGRAM_ARCHIVE' target/staticlib/; fi ;;
@@ -140,6 +143,22 @@ builds_library() {
 one "the library is built beside the program" builds_library
 library_is_there() { "$tree/tools/build" library 2>"$work/err" && diff "$work/err" /dev/null && called 7; }
 one "and not again where no source is newer" library_is_there
+# Whether the module that the compiler was given stands beside both archives, on Arm; where one has changed or is gone, its archive is made again.
+modules_kept() {
+    cmp "$tree/target/staticlib/libprogram.bc" "$work/other.bc" && cmp "$tree/target/staticlib/libexports.bc" "$work/other.bc"
+}
+made_again() { # CALLS
+    forget
+    "$tree/tools/build" program library 2>"$work/err" && called "$1" && modules_kept
+}
+if [ "$machine" != x86_64 ]; then
+    one "the modules of both are kept" modules_kept
+    one "with them no archive is made again" made_again 1
+    echo >>"$tree/target/staticlib/libprogram.bc"
+    one "where the program's has changed, its archive is" made_again 2
+    rm "$tree/target/staticlib/libexports.bc"
+    one "where the library's is gone, its archive is" made_again 2
+fi
 
 # Runs a command in a terminal, and prints each drawing of its line as a line.
 in_terminal() { # COMMAND..

@@ -1,7 +1,7 @@
 #!/usr/bin/env bash
 # The installed product. A copy of the tree, with what is proved and built, is installed into an empty folder and taken away; then the program and the library do what
 # they should from there alone: also the program on every case and generated script, with its streams and its status. first.sh and host.sh, which come before, have built the
-# program and the library; a stand-in for rt says so in the copy, and nothing is proved here, but that on Arm host/native.sh builds the two anew.
+# program and the library; a stand-in for rt in the copy proves nothing and makes no archive.
 set -u
 CDPATH='' cd -- "$(dirname -- "${BASH_SOURCE[0]}")/../.." || exit 1
 . host/tools.sh
@@ -11,25 +11,21 @@ work=$(mktemp -d) || exit 1
 trap 'rm -rf "$work"' EXIT
 chmod 755 "$work"
 
-[ -f "$PROGRAM_ARCHIVE" ] && [ -f "$ARCHIVE" ] || stop "there is no $PROGRAM_ARCHIVE or $ARCHIVE; tools/build program library makes them"
+[ -f "$PROGRAM_ARCHIVE" ] && [ -f "$LIBRARY_STAMP" ] || stop "the program or the library is not built; tools/build program library does that"
 command -v cc >/dev/null || get_packages gcc libc6-dev || stop "there is no C compiler"
 command -v pkg-config >/dev/null || get_packages pkg-config || stop "there is no pkg-config"
 
 # ---- A copy of the tree, which is installed and goes.
 tree=$work/tree prefix="$work/a home/.local" home="$work/a home"
 mkdir -p "$tree/target" "$home"
-built=(staticlib stamp)
-[ "$machine" = x86_64 ] || built+=(rlib)
-cp -a dates install tools host include docs examples crates crates.txt CHANGES.md "$tree/" && (cd target && cp -a "${built[@]}" "$tree/target/") || stop "no copy of the tree"
+cp -a dates install tools host include docs examples crates crates.txt CHANGES.md "$tree/" && cp -a target/staticlib target/stamp "$LIBRARY_STAMP" "$tree/target/" || stop "no copy of the tree"
 version=$(version_of_header)
 mkdir "$work/bin"
 cat >"$work/bin/rt" <<STANDIN
 #!/bin/sh
-[ -z "\${RATTLE_HOME:-}" ] || exec '$(command -v rt)' "\$@"
 case \$1 in
 doc) exec '$(command -v rt)' doc ;;
 check) echo 'rt: $PROGRAM proved (unchanged since it was last proved)' ;;
-staticlib) echo 'rt: $ARCHIVE has the functions of $ENTRY' ;;
 *) exit 2 ;;
 esac
 STANDIN

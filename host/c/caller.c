@@ -1,5 +1,6 @@
 /*
- * A caller of the library over include/dates.h, valid as C99 and as C++: worked cases, the refusals of short tables, and a script command by command and as a whole.
+ * A caller of the library over include/dates.h, valid as C99 and as C++: worked cases, shortest reasons, the refusals of short tables, and a script command by command
+ * and as a whole.
  * It checks all that it gets; the last line is `N passed, M failed`.
  */
 #include "dates.h"
@@ -9,11 +10,12 @@
 
 /* The layout that the library was built for. A size below 0 stops the compiler. */
 #define LAYOUT(name, holds) typedef char layout_##name[(holds) ? 1 : -1]
-LAYOUT(counts, sizeof(dates_counts) == 16);
+LAYOUT(counts, sizeof(dates_counts) == 20);
 LAYOUT(counts_steps, offsetof(dates_counts, steps) == 0);
 LAYOUT(counts_rules, offsetof(dates_counts, rules) == 4);
 LAYOUT(counts_marks, offsetof(dates_counts, marks) == 8);
 LAYOUT(counts_watched, offsetof(dates_counts, watched) == 12);
+LAYOUT(counts_last, offsetof(dates_counts, last) == 16);
 LAYOUT(record, sizeof(dates_record) == 16);
 LAYOUT(record_names, offsetof(dates_record, names) == 0);
 LAYOUT(record_logic, offsetof(dates_record, logic) == 4);
@@ -40,6 +42,13 @@ static dates_tables t;
 static int days_are(uint32_t a, uint32_t b, uint32_t c, uint32_t d)
 {
     return t.counts.steps == 4 && t.days[0] == a && t.days[1] == b && t.days[2] == c && t.days[3] == d;
+}
+
+/* Whether the last day is this one, by the call and in the record. */
+static int last_is(uint32_t wanted)
+{
+    uint32_t day = wanted + 1;
+    return dates_t_last_day(&t, &day) == DATES_DONE && day == wanted && t.counts.last == wanted;
 }
 
 /* Fresh tables of four steps with the rules of case 3. */
@@ -77,7 +86,7 @@ static void worked_cases(void)
     dates_t_add(&t, 0, 1, -2, &value);
     count(dates_t_mark(&t) == DATES_DONE && t.counts.marks == 1 && t.marks[0] == 1, "case 9: Mark");
     count(dates_t_add(&t, 1, 2, -3, &value) == DATES_DONE && days_are(0, 2, 5, 0), "case 9: 1,2,-3");
-    count(dates_t_back(&t) == DATES_DONE && days_are(0, 2, 0, 0) && t.counts.rules == 1 && t.counts.marks == 0, "case 9: Back");
+    count(dates_t_back(&t) == DATES_DONE && days_are(0, 2, 0, 0) && t.counts.rules == 1 && t.counts.marks == 0 && last_is(2), "case 9: Back");
     count(dates_t_back(&t) == DATES_NOMARK, "Back with no mark open");
 
     case_3();
@@ -86,6 +95,101 @@ static void worked_cases(void)
     count(t.counts.watched == 6 && t.wxs[2] == 2 && t.wys[2] == 0 && t.wcs[2] == 4, "case 10: the watched rules");
     count(dates_t_consequences(&t, &held, &excluded) == DATES_DONE && held == 2 && excluded == 2, "case 10: Consequences");
     count(t.always[0] == 0 && t.always[1] == 4 && t.never[0] == 2 && t.never[1] == 5, "case 10: 0 4 and 2 5");
+}
+
+/* Whether so many places of the list for rings have these numbers, and the next one has what was there. */
+static int ring_is(uint32_t length, const uint32_t *wanted, uint32_t wanted_length)
+{
+    return length == wanted_length && memcmp(t.ring, wanted, length * sizeof wanted[0]) == 0 && t.ring[length] == 9;
+}
+
+/* Fills the list for rings with 9. */
+static void fill_ring(void)
+{
+    uint32_t i;
+    for (i = 0; i < DATES_STEPS; i++)
+        t.ring[i] = 9;
+}
+
+/* The rule that is refused over rules held, and its ring, by Trial and by Add. A rule of the step 9 ends the rules held. */
+typedef struct refused_rule {
+    int32_t held[5][3];
+    int32_t rule[3];
+    uint32_t length;
+    uint32_t ring[3];
+} refused_rule;
+
+static void reasons(void)
+{
+    static const refused_rule cases[] = {
+        {{{0, 1, -1}, {1, 2, -1}, {2, 3, -1}, {0, 3, -3}, {9, 9, 9}}, {3, 0, 2}, 2, {4, 3, 0}},
+        {{{0, 1, -2}, {0, 1, -2}, {9, 9, 9}, {9, 9, 9}, {9, 9, 9}}, {1, 0, 1}, 2, {2, 0, 0}},
+        {{{0, 1, -5}, {0, 1, -9}, {9, 9, 9}, {9, 9, 9}, {9, 9, 9}}, {1, 0, 4}, 2, {2, 0, 0}},
+        {{{0, 1, -1}, {0, 2, -1}, {2, 1, -1}, {9, 9, 9}, {9, 9, 9}}, {1, 0, 1}, 3, {3, 1, 2}},
+        {{{0, 1, 0}, {0, 2, -3}, {1, 3, 0}, {2, 3, 0}, {9, 9, 9}}, {3, 0, 2}, 3, {4, 1, 3}},
+    };
+    static uint32_t longest[DATES_STEPS];
+    const uint32_t longer[4] = {4, 0, 1, 2};
+    uint32_t value = 9;
+    uint32_t i, k;
+
+    for (i = 0; i < sizeof cases / sizeof cases[0]; i++) {
+        const refused_rule *the = &cases[i];
+        const uint32_t x = (uint32_t)the->rule[0];
+        const uint32_t y = (uint32_t)the->rule[1];
+        dates_t_open(&t, 4);
+        for (k = 0; the->held[k][0] != 9; k++)
+            dates_t_add(&t, (uint32_t)the->held[k][0], (uint32_t)the->held[k][1], the->held[k][2], &value);
+        fill_ring();
+        count(t.counts.rules == k && dates_t_trial(&t, x, y, the->rule[2], &value) == DATES_CONFLICT && ring_is(value, the->ring, the->length), "the shortest reason, by Trial");
+        fill_ring();
+        count(dates_t_add(&t, x, y, the->rule[2], &value) == DATES_CONFLICT && ring_is(value, the->ring, the->length), "the shortest reason, by Add");
+        if (i == 0)
+            count(dates_t_ring_check(&t, longer, 4, x, y, the->rule[2], &value) == DATES_DONE && value == 1, "Ring check says yes to a longer ring");
+    }
+
+    /* A ring over all steps fills the list. */
+    dates_t_open(&t, DATES_STEPS);
+    longest[0] = DATES_STEPS - 1;
+    for (i = 0; i + 1 < DATES_STEPS; i++) {
+        dates_t_add(&t, i, i + 1, -1, &value);
+        longest[i + 1] = i;
+    }
+    count(dates_t_add(&t, DATES_STEPS - 1, 0, 0, &value) == DATES_CONFLICT && value == DATES_STEPS && memcmp(t.ring, longest, sizeof longest) == 0, "a ring over all steps");
+}
+
+/* The last day through the cases, over what leaves it as it is, and with a wrong one in the record. */
+static void last_days(void)
+{
+    uint32_t value = 9;
+
+    dates_t_open(&t, 4);
+    count(last_is(0), "the last day of case 1");
+    dates_t_add(&t, 0, 1, -2, &value);
+    count(last_is(2), "the last day of case 2");
+    dates_t_add(&t, 1, 2, -3, &value);
+    count(last_is(5), "the last day of case 3");
+    dates_t_add(&t, 2, 0, 4, &value);
+    count(last_is(5), "the last day of case 5, which is a conflict");
+    dates_t_trial(&t, 3, 0, -4, &value);
+    count(t.tried[2] == 9 && last_is(5), "the last day after a Trial that would move it");
+    dates_t_mark(&t);
+    dates_t_add(&t, 3, 0, -4, &value);
+    count(last_is(9), "the last day with that rule");
+    dates_t_back(&t);
+    count(last_is(5), "the last day after Back");
+    t.counts.last = 4;
+    count(dates_t_last_day(&t, &value) == DATES_DAMAGED && value == 0 && dates_t_mark(&t) == DATES_DAMAGED, "a last day that is one too small");
+    t.counts.last = 6;
+    count(dates_t_last_day(&t, &value) == DATES_DAMAGED && dates_t_mark(&t) == DATES_DAMAGED && t.counts.last == 6, "a last day that is one too large");
+    t.counts.last = 5;
+    count(last_is(5), "and is right again");
+
+    dates_t_open(&t, 4);
+    dates_t_add(&t, 2, 0, -7, &value);
+    count(last_is(7), "the last day of case 7");
+    t.counts.last = 8;
+    count(dates_t_open(&t, 4) == DATES_DONE && last_is(0), "Open sets it whatever it was");
 }
 
 static void refusals(void)
@@ -116,26 +220,33 @@ static void refusals(void)
     dates_t_open(&t, DATES_STEPS);
     for (last = 0; last + 1 < DATES_STEPS; last++)
         dates_t_add(&t, last, last + 1, -DATES_LARGEST, &value);
-    count(value == 1 && t.days[DATES_STEPS - 1] == DATES_LATEST, "case 13: the last day of a chain");
+    count(value == 1 && t.days[DATES_STEPS - 1] == DATES_LATEST && last_is(DATES_LATEST), "case 13: the last day of a chain");
 }
 
-/* Open, with one table a place short; which is 0 to 7 in the order in which they are lent, 8 for none. */
-static uint32_t open_short(int which)
+/* Open, or Last day where there is a place for the day, with one table a place short; which is 0 to 7 in the order in which they are lent, 8 for none. */
+static uint32_t with_short(int which, uint32_t *day)
 {
     size_t len[8] = {DATES_RULES, DATES_RULES, DATES_RULES, DATES_STEPS, DATES_MARKS, DATES_WATCHED, DATES_WATCHED, DATES_WATCHED};
     if (which < 8)
         len[which]--;
+    if (day != NULL)
+        return dates_last_day(&t.counts, t.xs, len[0], t.ys, len[1], t.cs, len[2], t.days, len[3], t.marks, len[4], t.wxs, len[5], t.wys, len[6], t.wcs, len[7], day);
     return dates_open(&t.counts, t.xs, len[0], t.ys, len[1], t.cs, len[2], t.days, len[3], t.marks, len[4], t.wxs, len[5], t.wys, len[6], t.wcs, len[7], 7);
 }
 
 static void short_tables(void)
 {
     int which;
+    uint32_t day;
 
     case_3();
-    for (which = 0; which < 8; which++)
-        count(open_short(which) == DATES_SHORT && days_are(0, 2, 5, 0), "Open with a table one place short");
-    count(open_short(8) == DATES_DONE && t.counts.steps == 7, "Open with every table at its bound");
+    for (which = 0; which < 8; which++) {
+        day = 9;
+        count(with_short(which, &day) == DATES_SHORT && day == 0, "Last day with a table one place short");
+        count(with_short(which, NULL) == DATES_SHORT && days_are(0, 2, 5, 0), "Open with a table one place short");
+    }
+    count(with_short(8, &day) == DATES_DONE && day == 5, "Last day with every table at its bound");
+    count(with_short(8, NULL) == DATES_DONE && t.counts.steps == 7, "Open with every table at its bound");
 }
 
 /* How many steps there could be in version 1.0.0. */
@@ -196,7 +307,7 @@ static void scripts(void)
     size_t printed = 0;
     int commands = 0;
 
-    count(dates_t_start(&t) == DATES_DONE && t.counts.steps == DATES_STEPS && t.record.names == 0, "the start of a script");
+    count(dates_t_start(&t) == DATES_DONE && t.counts.steps == DATES_STEPS && t.record.names == 0 && last_is(0), "the start of a script");
     for (at = dates_skip(text, len); at < len; at += dates_skip(text + at, len - at)) {
         if (dates_t_command(&t, text + at, len - at, &read, &written) != DATES_DONE)
             break;
@@ -207,7 +318,7 @@ static void scripts(void)
     }
     count(commands == 11 && at == len, "eleven commands, one at a time");
     count(printed == sizeof answers - 1 && memcmp(out, answers, printed) == 0, "what they print");
-    count(t.record.names == 2 && t.lens[1] == 3 && memcmp(t.names + DATES_NAME_BYTES, "dry", 3) == 0 && t.days[1] == 2, "the record and the days after them");
+    count(t.record.names == 2 && t.lens[1] == 3 && memcmp(t.names + DATES_NAME_BYTES, "dry", 3) == 0 && t.days[1] == 2 && last_is(2), "the record and the days after them");
     count(dates_t_command(&t, text, len, &read, &written) == DATES_MODE && read == 0 && written == 0, "a second set-logic");
 
     memset(out, 0, sizeof out);
@@ -220,6 +331,8 @@ static void scripts(void)
 int main(void)
 {
     worked_cases();
+    reasons();
+    last_days();
     refusals();
     short_tables();
     kept_before();

@@ -1,6 +1,7 @@
 /*
- * How much stack each call takes: every call but the whole script is made once on a stack of its own of 64 KiB, with a page below it that may not be touched, on full
- * tables. It checks that none takes more than README says, and prints how many bytes each used; the last line is `N passed, M failed`.
+ * How much stack each call takes: every call but the whole script is made once on a stack of its own of 96 KiB, with a page below it that may not be touched, on full
+ * tables. It checks that none takes more than README says, and that Ring check takes no more than Mark but for what it is handed; it prints how many bytes each
+ * used. The last line is `N passed, M failed`.
  */
 #define _GNU_SOURCE
 #include "dates.h"
@@ -10,7 +11,7 @@
 #include <sys/mman.h>
 #include <ucontext.h>
 
-enum { STACK = 65536, MOST = 46000, GUARD = 65536, PAINT = 0xA5, LAST = DATES_STEPS - 1 };
+enum { STACK = 98304, MOST = 66000, GUARD = 65536, HANDED = 64, PAINT = 0xA5, LAST = DATES_STEPS - 1 };
 
 static dates_tables t;
 static dates_tables script;
@@ -27,7 +28,13 @@ static void do_add(void) { number = dates_t_add(&t, LAST, 0, 0, &value); }
 static void do_move(void) { number = dates_t_add(&t, 0, 1, -2, &value); }
 static void do_trial(void) { number = dates_t_trial(&t, LAST, 0, 0, &value); }
 static void do_consequences(void) { number = dates_t_consequences(&t, &value, &other); }
-static void do_ring_check(void) { number = dates_t_ring_check(&t, t.ring, DATES_STEPS, LAST, 0, 0, &value); }
+/* The ring of all steps, which Add has left. It is one, so that all of it is read. */
+static void do_ring_check(void)
+{
+    number = dates_t_ring_check(&t, t.ring, DATES_STEPS, LAST, 0, 0, &value);
+    if (value != 1) number = UINT32_MAX;
+}
+static void do_last_day(void) { number = dates_t_last_day(&t, &value); }
 static void do_start(void) { number = dates_t_start(&script); }
 static void do_pop(void) { number = dates_t_command(&script, (const uint8_t *)"(pop 1)", 7, &used_text, &used_out); }
 static void do_command(void) { number = dates_t_command(&script, assertion, sizeof assertion - 1, &used_text, &used_out); }
@@ -71,10 +78,11 @@ int main(void)
         { "Add, conflict", do_add, DATES_CONFLICT }, { "Ring check", do_ring_check, DATES_DONE }, { "Trial", do_trial, DATES_CONFLICT },
         { "Watch", do_watch, DATES_DONE },           { "Mark", do_mark, DATES_DONE },             { "Add, steps move", do_move, DATES_DONE },
         { "Consequences", do_consequences, DATES_DONE }, { "Back", do_back, DATES_DONE },         { "command, assert", do_command, DATES_DONE },
-        { "command, pop", do_pop, DATES_DONE },      { "start", do_start, DATES_DONE },           { "Open", do_open, DATES_DONE },
+        { "Last day", do_last_day, DATES_DONE },     { "command, pop", do_pop, DATES_DONE },      { "start", do_start, DATES_DONE },
+        { "Open", do_open, DATES_DONE },
     };
     int passed = 0, failed = 0;
-    size_t i;
+    size_t i, ring_check = 0, mark = 0;
     uint8_t *memory = (uint8_t *)mmap(NULL, GUARD + STACK, PROT_READ | PROT_WRITE, MAP_PRIVATE | MAP_ANONYMOUS, -1, 0);
     if (memory == MAP_FAILED || mprotect(memory, GUARD, PROT_NONE) != 0) {
         printf("no stack can be made\n0 passed, 1 failed\n");
@@ -85,12 +93,20 @@ int main(void)
         size_t bytes;
         bytes = used(memory + GUARD, calls[i].call);
         printf("%s: %lu bytes of stack\n", calls[i].name, (unsigned long)bytes);
+        if (calls[i].call == do_ring_check) ring_check = bytes;
+        if (calls[i].call == do_mark) mark = bytes;
         if (bytes <= MOST && number == calls[i].gives) {
             passed++;
         } else {
             failed++;
             printf("FAILED: %s gave %u, or took more than %d bytes\n", calls[i].name, (unsigned)number, MOST);
         }
+    }
+    if (mark > 0 && ring_check <= mark + HANDED) {
+        passed++;
+    } else {
+        failed++;
+        printf("FAILED: Ring check takes more than %d bytes more than Mark\n", HANDED);
     }
     printf("%d passed, %d failed\n", passed, failed);
     return failed > 0;

@@ -1,5 +1,5 @@
-//! The story of the tender: a cooperative has planned its hay, a buyer asks for an earlier delivery, and the office sees whether it can be had, and why not.
-//! What it prints is compared with `tender.out`, written by hand.
+//! The story of the tender: a cooperative has planned its hay, a buyer asks for an earlier delivery, and the office sees whether it can be had, and why not, in as few
+//! rules as say it. What it prints is compared with `tender.out`, written by hand.
 
 use planner::{Moved, Planner, Refusal, Ring, Rule};
 
@@ -33,7 +33,7 @@ fn main() -> Result<(), Refusal> {
         let rule = Rule::at_most(days, DELIVERY, TENDER);
         match planner.trial(rule) {
             Ok(trial) => println!("  {}? It fits, and {}.", in_words(rule), how_many(trial.moved)),
-            Err(Refusal::Conflict(ring)) => println!("  {}? It cannot be kept:\n    {}", in_words(rule), why(&ring)),
+            Err(Refusal::Conflict(ring)) => println!("  {}? It cannot be kept, and no fewer rules say why:\n    {}", in_words(rule), why(&ring)),
             Err(other) => return Err(other),
         }
     }
@@ -49,7 +49,7 @@ fn main() -> Result<(), Refusal> {
     match planner.add(earlier) {
         Ok(_) => panic!("the earlier deadline was accepted"),
         Err(Refusal::Conflict(ring)) => {
-            println!("  {}: it cannot be kept:\n    {}", in_words(earlier), why(&ring));
+            println!("  {}: it cannot be kept, and no fewer rules say why:\n    {}", in_words(earlier), why(&ring));
             assert!(planner.ring_check(earlier, ring.numbers())?);
         }
         Err(other) => return Err(other),
@@ -80,7 +80,7 @@ fn in_words(rule: Rule) -> String {
     }
 }
 
-/// Why the first rule of a ring cannot be kept along with the others.
+/// Why the first rule of a ring cannot be kept along with the others. The ring is the shortest there is, so that a member can hear it to its end.
 fn why(ring: &Ring) -> String {
     let rules: Vec<String> = ring.rules().iter().map(|rule| in_words(*rule)).collect();
     let lacking = -ring.sum();

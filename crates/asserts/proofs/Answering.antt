@@ -1,6 +1,6 @@
 -- What trying a rule came to, told of the tables: where it fits it is held, and put on its chain; where it does not the tables are as before.
 use Prim.Native.Nat.{ℕ, _≤_, _<_}
-use mathlib.Core.Path.{_≡_, refl, sym, subst}
+use mathlib.Core.Path.{_≡_, refl, sym, _∙_, ap, subst}
 use mathlib.Core.Bool.{Bool, true, false, true≢false, false≢true}
 use mathlib.Core.List.{List}
 use lib.ListN.{length}
@@ -52,29 +52,29 @@ module _
       (asked .1 .1 .1 .1 .1 .rules-within) (asked .1 .1 .0 .steps-in)
 
   module _
-      (fits : Bool) (moved : ℕ) (xs′ ys′ : List ℕ) (cs′ : List ℤ) (days′ : List ℕ)
-      (tells : Tells e (first (counts .rules)) (counts .rules) (rule x y c) (columns xs ys cs) days fits moved (columns xs′ ys′ cs′) days′) where
-    told : Tells (counts .steps) (first (counts .rules)) (counts .rules) (rule x y c) (columns xs ys cs) days fits moved (columns xs′ ys′ cs′) days′
+      (fits : Bool) (moved last′ : ℕ) (xs′ ys′ : List ℕ) (cs′ : List ℤ) (days′ : List ℕ)
+      (tells : Tells e (first (counts .rules)) (counts .rules) (rule x y c) (columns xs ys cs) days (counts .last) fits moved (columns xs′ ys′ cs′) days′ last′) where
+    told : Tells (counts .steps) (first (counts .rules)) (counts .rules) (rule x y c) (columns xs ys cs) days (counts .last) fits moved (columns xs′ ys′ cs′) days′ last′
     told =
         tells-beyond (counts .steps) e (asked .1 .1 .1 .1 .1 .steps-there) (first (counts .rules)) number (counts .rules) xs ys cs days heads nexts x y c
-        (whole .base .earliest) (whole .free) fits moved (columns xs′ ys′ cs′) days′ tells
+        (whole .base .earliest) (asked .1 .1 .1 .1 .1 .rules-within) (whole .free) (counts .last) fits moved (columns xs′ ys′ cs′) days′ last′ tells
 
-    -- Where it fits, it is held with one more rule counted, whatever the marks are.
-    holds : fits ≡ true → (after : Counts) → after ≡ one-more counts → (marks : List ℕ) → HeldNow (rule x y c) (before marks) (unwatched after xs′ ys′ cs′ days′ marks)
+    -- Where it fits, it is held with one more rule counted and the last day told, whatever the marks are.
+    holds : fits ≡ true → (after : Counts) → after ≡ one-more last′ counts → (marks : List ℕ) → HeldNow (rule x y c) (before marks) (unwatched after xs′ ys′ cs′ days′ marks)
     holds is after counted marks = record {
       fits = more-fits (rules-of (before marks)) (held-in (before marks)) (counts .rules) (rule x y c) (λ h. omega arith) (λ v. pos (at days′ v)) (told .when-fits is .planned .earliest .plan);
-      rule-held = tables-equal _ _ counted (told .when-fits is .written) refl refl refl;
+      rule-held = tables-equal _ _ (counted ∙ ap (λ j. one-more j counts) (told .when-fits is .last-day (asked .0 .1 .sound .last-largest))) (told .when-fits is .written) refl refl refl;
       planned = told .when-fits is .planned;
     }
 
     -- Then it can be put on its chain, and with that it is added.
     pub new-linkable : fits ≡ true → Linkable (counts .rules) xs′ heads nexts
     new-linkable is =
-        linkable (rule x y c) (before (asked .0 .0)) (unwatched (one-more counts) xs′ ys′ cs′ days′ (asked .0 .0)) (holds is (one-more counts) refl (asked .0 .0)) heads nexts (asked .0 .1)
+        linkable (rule x y c) (before (asked .0 .0)) (unwatched (one-more last′ counts) xs′ ys′ cs′ days′ (asked .0 .0)) (holds is (one-more last′ counts) refl (asked .0 .0)) heads nexts (asked .0 .1)
         good (asked .1 .1 .1 .0) (asked .1 .0) (asked .1 .1 .1 .1 .0)
 
     pub one-held :
-        fits ≡ true → (after : Counts) → after ≡ one-more counts → (heads′ nexts′ : List ℕ) → Pushed (counts .rules) xs′ heads nexts heads′ nexts′ →
+        fits ≡ true → (after : Counts) → after ≡ one-more last′ counts → (heads′ nexts′ : List ℕ) → Pushed (counts .rules) xs′ heads nexts heads′ nexts′ →
         ((marks : List ℕ) → AddsOne (rule x y c) (before marks) false (unwatched after xs′ ys′ cs′ days′ marks)) × LentChains (after .steps) (after .rules) xs′ heads′ nexts′
     one-held is after counted heads′ nexts′ pushed = (
       λ marks. record { held-now = λ e. holds is after counted marks; unfit = λ e. absurd (false≢true e); unchanged = λ e. absurd (false≢true e) },

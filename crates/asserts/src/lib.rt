@@ -52,11 +52,11 @@ fn add_one(
 {
     let n = e as usize;
     let m = counts.rules as usize;
-    let fitted = inner_add::fit(n, m, xs, ys, cs, days, heads, nexts, x, y, c);
+    let fitted = inner_add::fit(n, m, xs, ys, cs, days, heads, nexts, x, y, c, counts.last);
     if fitted.fits {
         chains::push(xs, heads, nexts, m);
         return Added {
-            counts: inner_add::one_more(counts),
+            counts: inner_add::one_more(counts, fitted.last),
             clash: false,
         };
     }

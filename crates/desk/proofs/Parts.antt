@@ -10,7 +10,7 @@ use lib.IntN.{ℤ}
 use Rattle.meaning.specs.declared.Counts.{Counts}
 use Rattle.meaning.specs.declared.Reply.{Reply}
 use Rattle.meaning.specs.Bounds.{DONE}
-use Rattle.meaning.specs.Rules.{InSteps, Refutes, rule}
+use Rattle.meaning.specs.Rules.{InSteps, Reason, rule}
 use Rattle.meaning.specs.Tables.{Tables, at}
 use Rattle.meaning.specs.Promise.{Given, given}
 use Rattle.meaning.specs.Calls.{WithLists, trial-meaning, rules-of, held-in, next-in, rules-and, held-and}
@@ -40,7 +40,7 @@ module _
   part-handed =
       record {
         days-of-all = λ e. (is .days-part e .same-start, the-length e, earliest-ext (counts .steps) (rules-and (rule x y c) t) (held-and t) (at one′) (at part) (within e) (the-day e) (kept .when-done e .planned .earliest));
-        the-ring = λ e. (is .ring-part (other e) .same-start, ap length (is .ring-part (other e) .holds) ∙ filled-length (g .one) two two′ (kept .on-conflict e .0 .ring-given), subst (Refutes (rules-of t) (held-in t) (next-in t) (rule x y c)) (sym (is .ring-part (other e) .holds)) (kept .on-conflict e .0 .ring-given .holds));
+        the-ring = λ e. (is .ring-part (other e) .same-start, ap length (is .ring-part (other e) .holds) ∙ filled-length (g .one) two two′ (kept .on-conflict e .0 .ring-given), subst (Reason (rules-of t) (held-in t) (next-in t) (rule x y c)) (sym (is .ring-part (other e) .holds)) (kept .on-conflict e .0 .ring-given .holds));
         nothing = λ u v. (is .ring-part u .same-start, is .ring-part u .holds ∙ ap (λ (z : Given). take (z .one) two′) (kept .when-refused u v .0));
       }
     where

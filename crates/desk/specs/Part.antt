@@ -5,7 +5,7 @@ use mathlib.Core.List.{List, []}
 use lib.ListN.{length, take}
 use Rattle.meaning.specs.declared.Reply.{Reply}
 use Rattle.meaning.specs.Bounds.{DONE, CONFLICT}
-use Rattle.meaning.specs.Rules.{Rule, Earliest, Refutes}
+use Rattle.meaning.specs.Rules.{Rule, Earliest, Reason}
 use Rattle.meaning.specs.Tables.{Tables, at}
 use Rattle.meaning.specs.Promise.{Given}
 use Rattle.meaning.specs.Calls.{rules-of, held-in, next-in, rules-and, held-and}
@@ -22,8 +22,8 @@ pub record TrialPart {P : Type 0} (one-start two-start : P) (one two : List ℕ)
   pub ring-part : (reply .number ≡ DONE → ⊥) → PartOf two-start two (reply .one) start part
 
 -- What a caller of Trial with the rule r then has in the part: the days of all steps, which are the earliest plan with r, at the start of list one; on
--- CONFLICT the ring, and on any other refusal nothing, at the start of list two.
+-- CONFLICT the ring, which is the reason, and on any other refusal nothing, at the start of list two.
 pub record Handed (r : Rule) (t : Tables) (g : Given) {P : Type 0} (one-start two-start start : P) (part : List ℕ) : Type 0 where
   pub days-of-all : g .number ≡ DONE → (start ≡ one-start) × (length part ≡ t .counts .steps) × Earliest (t .counts .steps) (rules-and r t) (held-and t) (at part)
-  pub the-ring : g .number ≡ CONFLICT → (start ≡ two-start) × (length part ≡ g .one) × Refutes (rules-of t) (held-in t) (next-in t) r part
+  pub the-ring : g .number ≡ CONFLICT → (start ≡ two-start) × (length part ≡ g .one) × Reason (rules-of t) (held-in t) (next-in t) r part
   pub nothing : (g .number ≡ DONE → ⊥) → (g .number ≡ CONFLICT → ⊥) → (start ≡ two-start) × (part ≡ [])

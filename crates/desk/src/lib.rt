@@ -1,4 +1,4 @@
-// The eight public calls. Each takes whatever it is lent, has no condition on it, and keeps the promise that its contract states: it tests the
+// The nine public calls. Each takes whatever it is lent, has no condition on it, and keeps the promise that its contract states: it tests the
 // room, then whether the tables are sound, and then does its work.
 ghost use Prim.Native.Nat.{_≤_};
 ghost use lib.ListN.{length};
@@ -7,7 +7,7 @@ ghost use Rattle.lent.specs.Decides.{Decides};
 ghost use Rattle.desk.specs.Entry.{Entered};
 ghost use Rattle.desk.specs.Part.{PartOf, TrialPart};
 ghost use Rattle.lent.specs.Lent.{tables};
-ghost use Rattle.lent.specs.Promises.{Opens, Watches, Adds, Marks, GoesBack, Tries, Splits, ChecksRing};
+ghost use Rattle.lent.specs.Promises.{Opens, Watches, Adds, Marks, GoesBack, Tries, Splits, ChecksRing, TellsLastDay};
 use meaning::Counts;
 use meaning::Reply;
 
@@ -248,7 +248,19 @@ pub fn add(
     if 0 < number {
         return meaning::refused(counts, number);
     }
-    inner_add::add(counts, xs, ys, cs, days, &heads, &nexts, list, x, y, c)
+    inner_add::add(
+        counts,
+        xs,
+        ys,
+        cs,
+        days,
+        &mut heads,
+        &mut nexts,
+        list,
+        x,
+        y,
+        c,
+    )
 }
 
 // Trial: answers as Add would and writes to no table. List one gets the days where the rule fits, list two the ring on CONFLICT.
@@ -289,7 +301,20 @@ pub fn trial(
     if 0 < number {
         return meaning::refused(counts, number);
     }
-    inner_add::trial(counts, xs, ys, cs, days, &heads, &nexts, one, two, x, y, c)
+    inner_add::trial(
+        counts,
+        xs,
+        ys,
+        cs,
+        days,
+        &mut heads,
+        &mut nexts,
+        one,
+        two,
+        x,
+        y,
+        c,
+    )
 }
 
 // Consequences: SHORT, DAMAGED; else list one gets the watched rules that hold in every arrangement, list two those that hold in none.
@@ -399,6 +424,42 @@ pub fn ring_check(
         return meaning::done(counts, 1, 0);
     }
     meaning::done(counts, 0, 0)
+}
+
+// Last day: SHORT, DAMAGED; else the largest day of the plan, which sound tables have in their counts.
+pub fn last_day(
+    counts: Counts,
+    xs: &[u16],
+    ys: &[u16],
+    cs: &[i32],
+    days: &[u32],
+    marks: &[u32],
+    wxs: &[u16],
+    wys: &[u16],
+    wcs: &[i32],
+) -> Reply
+    ensures { λ r. ⌜ TellsLastDay counts (now (xs .entry)) (now (ys .entry)) (now (cs .entry)) (now (days .entry)) (now (marks .entry)) (now (wxs .entry)) (now (wys .entry)) (now (wcs .entry)) r ⌝ }
+{
+    let mut heads = [0u16; meaning::STEPS];
+    let mut nexts = [0u16; meaning::RULES];
+    let number = verdict(
+        true,
+        counts,
+        xs,
+        ys,
+        cs,
+        days,
+        marks,
+        wxs,
+        wys,
+        wcs,
+        &mut heads,
+        &mut nexts,
+    );
+    if 0 < number {
+        return meaning::refused(counts, number);
+    }
+    meaning::done(counts, counts.last, 0)
 }
 
 // The list's first k places; all of it where it has no more.

@@ -1,5 +1,5 @@
--- After any sequence of calls over what C lends the tables are sound, and one question splits the watched rules exactly: every such sequence is one over what is seen of it. A command on a
--- record whose flags do not fit is refused and changes nothing, so it leaves no trace.
+-- After any sequence of calls over what C lends the tables are sound, one question splits the watched rules exactly, and the last day stored is the largest: every such sequence is one over
+-- what is seen of it. A command on a record whose flags do not fit is refused and changes nothing, so it leaves no trace.
 use Prim.Native.Nat.{ℕ, _≤_}
 use native.Mathlib.Decide.{decLe}
 use mathlib.Core.Path.{_≡_, sym, ap, subst}
@@ -7,14 +7,15 @@ use mathlib.Core.List.{List}
 use mathlib.Core.Logic.{inl, inr}
 use lib.ListN.{length}
 use Rattle.meaning.specs.Bounds.{DONE}
-use Rattle.meaning.specs.Tables.{Tables}
-use Rattle.meaning.specs.Promise.{Given, Obeys}
+use Rattle.meaning.specs.Rules.{largest}
+use Rattle.meaning.specs.Tables.{Tables, at}
+use Rattle.meaning.specs.Promise.{Given, gave, Obeys}
 use Rattle.meaning.specs.Calls.{Split}
 use Rattle.meaning.specs.Runs.{Call, Made}
 use Rattle.meaning.proofs.Sequences.{Kept}
 use Rattle.script_meaning.specs.Commands.{start-meaning, command-meaning}
 use Rattle.script_meaning.specs.Mixed.{MixedRun, MixedOf}
-use Rattle.script_meaning.proofs.Mixing.{mixed-kept, mixed-splits}
+use Rattle.script_meaning.proofs.Mixing.{mixed-kept, mixed-splits, mixed-last}
 use Rattle.export_record.specs.declared.Record.{Record}
 use Rattle.export_record.specs.Records.{FlagsFit, LentByC, seen, start-by-c, command-by-c}
 use Rattle.export_record.specs.Mixed.{MixedByC}
@@ -82,3 +83,9 @@ pub mixed-by-c-splits :
     Made (Call.asks-consequences one one′ two two′) (l .tables) g u →
     (g .number ≡ DONE) × Split (record { tables = l .tables; one = one; two = two }) (g .one) (g .two) (record { tables = u; one = one′; two = two′ })
 mixed-by-c-splits l one two one′ two′ g u run = mixed-splits (seen l) one two one′ two′ g u (mixed-seen l run)
+
+-- **After any sequence** the last day stored is the largest day of the plan, and Last day is carried out, gives it and changes nothing.
+pub mixed-by-c-last :
+    (l : LentByC) (g : Given) (u : Tables) → MixedByC l → Made Call.asks-last-day (l .tables) g u →
+    (l .tables .counts .last ≡ largest (l .tables .counts .steps) (at (l .tables .days))) × (g ≡ gave DONE (l .tables .counts .last) 0) × (u ≡ l .tables)
+mixed-by-c-last l g u run = mixed-last (seen l) g u (mixed-seen l run)

@@ -1,7 +1,7 @@
 -- An answer told as numbers: a promise kept with an answer is kept with its number and values, and where a call has no second value, or none, with 0 for it.
 use Prim.Native.Nat.{ℕ}
 use native.Mathlib.Decide.{ℕ-discrete}
-use mathlib.Core.Path.{_≡_, sym, subst, ap}
+use mathlib.Core.Path.{_≡_, refl, sym, subst, ap}
 use Rattle.meaning.specs.Bounds.{DONE, CONFLICT}
 use Rattle.meaning.specs.declared.Counts.{Counts}
 use Rattle.meaning.specs.Promise.{Given, Meaning, Obeys, bare, gave}
@@ -46,23 +46,29 @@ module _ {S : Type 0} (m : Meaning S) (before : S) (g : Given) (after : S) (o : 
   pub stays : {P : Type 0} (part : S → P) → ((a b : ℕ) (s : S) → m .done a b s → part s ≡ part before) → ((a : ℕ) (s : S) → m .conflict a s → part s ≡ part before) → part after ≡ part before
   stays part done conflict = by-number (g .number) (λ e. done _ _ _ (o .when-done e)) (λ e. conflict _ _ (o .on-conflict e .0)) (λ u v. ap part (o .when-refused u v .1))
 
--- A call that leaves the counts as they were keeps its promise with the counts that were lent.
-module _ (s : WithLists) where
-  abbrev recounted : Counts → WithLists
-  recounted k = record { tables = record { counts = k; rules = s .tables .rules; days = s .tables .days; marks = s .tables .marks; watched = s .tables .watched }; one = s .one; two = s .two }
-
-  pub at-counts : (m : Meaning WithLists) (before : WithLists) (g : Given) → Obeys m before g s
-      → ((a b : ℕ) (t : WithLists) → m .done a b t → t .tables ≡ before .tables) → ((a : ℕ) (t : WithLists) → m .conflict a t → t .tables ≡ before .tables) → Obeys m before g (recounted (before .tables .counts))
-  at-counts m before g o done conflict =
+-- A call that leaves the tables as they were keeps its promise with the counts that were lent. `tables` are those among what it left, and `recounted` is all that with other counts.
+module _ {S : Type 0} (tables : S → Tables) (recounted : Counts → S) where
+  pub at-counts : (m : Meaning S) (before : S) (g : Given) (after : S) → Obeys m before g after → recounted (tables after .counts) ≡ after
+      → ((a b : ℕ) (t : S) → m .done a b t → tables t ≡ tables before) → ((a : ℕ) (t : S) → m .conflict a t → tables t ≡ tables before) → Obeys m before g (recounted (tables before .counts))
+  at-counts m before g after o same done conflict =
       subst (λ (k : Counts). Obeys m before g (recounted k))
-      (stays m before g s o (λ t. t .tables .counts) (λ a b t d. ap (λ (u : Tables). u .counts) (done a b t d)) (λ a t d. ap (λ (u : Tables). u .counts) (conflict a t d))) o
+      (stays m before g after o (λ t. tables t .counts) (λ a b t d. ap (λ (u : Tables). u .counts) (done a b t d)) (λ a t d. ap (λ (u : Tables). u .counts) (conflict a t d)))
+      (subst (Obeys m before g) (sym same) o)
 
-module _ (s : WithList) where
-  abbrev recounted-1 : Counts → WithList
-  recounted-1 k = record { tables = record { counts = k; rules = s .tables .rules; days = s .tables .days; marks = s .tables .marks; watched = s .tables .watched }; list = s .list }
+abbrev recount : Tables → Counts → Tables
+recount t k = record { counts = k; rules = t .rules; days = t .days; marks = t .marks; watched = t .watched }
 
-  pub at-counts-1 : (m : Meaning WithList) (before : WithList) (g : Given) → Obeys m before g s
-      → ((a b : ℕ) (t : WithList) → m .done a b t → t .tables ≡ before .tables) → ((a : ℕ) (t : WithList) → m .conflict a t → t .tables ≡ before .tables) → Obeys m before g (recounted-1 (before .tables .counts))
-  at-counts-1 m before g o done conflict =
-      subst (λ (k : Counts). Obeys m before g (recounted-1 k))
-      (stays m before g s o (λ t. t .tables .counts) (λ a b t d. ap (λ (u : Tables). u .counts) (done a b t d)) (λ a t d. ap (λ (u : Tables). u .counts) (conflict a t d))) o
+-- A call that is lent two lists, one that is lent one, and one that is lent none.
+pub at-counts-2 : (s : WithLists) (m : Meaning WithLists) (before : WithLists) (g : Given) → Obeys m before g s
+    → ((a b : ℕ) (t : WithLists) → m .done a b t → t .tables ≡ before .tables) → ((a : ℕ) (t : WithLists) → m .conflict a t → t .tables ≡ before .tables)
+    → Obeys m before g (record { tables = recount (s .tables) (before .tables .counts); one = s .one; two = s .two })
+at-counts-2 s m before g o = at-counts (λ t. t .tables) (λ k. record { tables = recount (s .tables) k; one = s .one; two = s .two }) m before g s o refl
+
+pub at-counts-1 : (s : WithList) (m : Meaning WithList) (before : WithList) (g : Given) → Obeys m before g s
+    → ((a b : ℕ) (t : WithList) → m .done a b t → t .tables ≡ before .tables) → ((a : ℕ) (t : WithList) → m .conflict a t → t .tables ≡ before .tables)
+    → Obeys m before g (record { tables = recount (s .tables) (before .tables .counts); list = s .list })
+at-counts-1 s m before g o = at-counts (λ t. t .tables) (λ k. record { tables = recount (s .tables) k; list = s .list }) m before g s o refl
+
+pub at-counts-0 : (s : Tables) (m : Meaning Tables) (before : Tables) (g : Given) → Obeys m before g s
+    → ((a b : ℕ) (t : Tables) → m .done a b t → t ≡ before) → ((a : ℕ) (t : Tables) → m .conflict a t → t ≡ before) → Obeys m before g (recount s (before .counts))
+at-counts-0 s m before g o = at-counts (λ t. t) (recount s) m before g s o refl

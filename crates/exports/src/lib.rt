@@ -2,7 +2,7 @@
 ghost use mathlib.Core.List.{List};
 ghost use Prim.Native.Nat.{ℕ};
 ghost use Rattle.meaning.specs.Promise.{Obeys, bare, gave};
-ghost use Rattle.lent.specs.Promises.{OpensTo, WatchesTo, AddsTo, MarksTo, GoesBackTo, TriesTo, SplitsTo, ChecksRingTo};
+ghost use Rattle.lent.specs.Promises.{OpensTo, WatchesTo, AddsTo, MarksTo, GoesBackTo, TriesTo, SplitsTo, ChecksRingTo, TellsLastDayTo};
 ghost use Rattle.export_record.specs.Records.{lent-by-c, start-by-c, command-by-c};
 ghost use Rattle.script_meaning.specs.Whole.{RunsScript};
 use export_record::Record;
@@ -244,6 +244,27 @@ pub extern "C" fn dates_ring_check(
         c,
     );
     *verdict = out.one;
+    out.number
+}
+
+// Last day: its number; `day` is the largest day of the plan, and 0 on a refusal.
+#[no_mangle]
+pub extern "C" fn dates_last_day(
+    counts: &Counts,
+    xs: &[u16],
+    ys: &[u16],
+    cs: &[i32],
+    days: &[u32],
+    marks: &[u32],
+    wxs: &[u16],
+    wys: &[u16],
+    wcs: &[i32],
+    day: &mut u32,
+) -> u32
+    ensures { λ r. ⌜ TellsLastDayTo (now (counts .entry)) (now (xs .entry)) (now (ys .entry)) (now (cs .entry)) (now (days .entry)) (now (marks .entry)) (now (wxs .entry)) (now (wys .entry)) (now (wcs .entry)) (gave r (now (day .exit)) 0) (now (counts .entry)) ⌝ }
+{
+    let out = desk::last_day(*counts, xs, ys, cs, days, marks, wxs, wys, wcs);
+    *day = out.one;
     out.number
 }
 

@@ -3,19 +3,40 @@ use Prim.Native.Nat.{ℕ, zero, suc, _+_, _≤_, _<_}
 use native.Mathlib.Omega.{arith}
 use native.Mathlib.Decide.{decLt, decLe}
 use mathlib.Core.Path.{_≡_, refl, sym, _∙_, subst}
-use mathlib.Core.Bool.{Bool, true, false}
+use mathlib.Core.Bool.{Bool, true, false, cond}
+use lib.Dec.{ltb}
 use mathlib.Core.List.{List}
 use lib.IntN.{ℤ, pos}
-use borrow.Author.Tests.{eq-eqb}
-use Rattle.meaning.specs.Rules.{Rule, InSteps, InBounds, Earliest, Plan, more, plus, rule}
+use borrow.Author.Tests.{eq-eqb, lt-ltb, le-ltb}
+use Rattle.meaning.specs.Rules.{Rule, Keeps, InSteps, InBounds, Earliest, Plan, largest, more, plus, rule}
 use Rattle.meaning.specs.Tables.{Columns, rule-at, at}
 use Rattle.meaning.specs.Promise as promise
+use Rattle.meaning.proofs.LastDay.{largest-beyond}
 use Rattle.meaning.proofs.More.{arrangement-old}
 use Rattle.lent.specs.Lent.{columns}
 use Rattle.spread.specs.Ground.{rules}
 use Rattle.inner_add.specs.Planning.{Base}
 use Rattle.inner_add.specs.Lending.{Holdable}
 use Rattle.inner_add.specs.Fit.{Taken, Tells}
+
+-- The days of the steps below e, and 0 from e on.
+cut : ℕ → (ℕ → ℕ) → ℕ → ℕ
+cut e p v = cond (ltb v e) (p v) 0
+
+cut-below : (e : ℕ) (p : ℕ → ℕ) (v : ℕ) → v < e → cut e p v ≡ p v
+unfolding cut
+cut-below e p v below = rw (lt-ltb v e below) refl
+
+cut-past : (e : ℕ) (p : ℕ → ℕ) (v : ℕ) → e ≤ v → cut e p v ≡ 0
+unfolding cut
+cut-past e p v past = rw (le-ltb v e past) refl
+
+-- Where all rules speak of steps below e alone, the steps from e on have day 0.
+day-0-beyond : (n e : ℕ) (R : ℕ → Rule) (H : ℕ → Type 0) (p : ℕ → ℕ) → Earliest n R H p → ((i : ℕ) → H i → InSteps e (R i)) → (v : ℕ) → e ≤ v → v < n → p v ≡ 0
+day-0-beyond n e R H p earliest within v past below = omega (arith, earliest .no-later (cut e p) plan v below, cut-past e p v past)
+  where
+    plan : Plan R H (cut e p)
+    plan i held = rw (cut-below e p (R i .first) (within i held .first-in), cut-below e p (R i .second) (within i held .second-in)) (earliest .plan i held)
 
 -- Steps that keep their days do not count as moved.
 moved-beyond : (n e : ℕ) (a b : List ℕ) → e ≤ n → ((v : ℕ) → e ≤ v → at b v ≡ at a v) → promise.moved e a b ≡ promise.moved n a b
@@ -70,11 +91,11 @@ module _ (n e : ℕ) (fewer : e ≤ n) (H : ℕ → Type 0) (order : ℕ → ℕ
 
   -- What is told on e steps holds on n.
   pub tells-beyond :
-      Earliest n (rules xs ys cs) H (at days) → (H k → ⊥) → (fits : Bool) (moved : ℕ) (after : Columns) (days′ : List ℕ) →
-      Tells e H k (rule x y c) (columns xs ys cs) days fits moved after days′ → Tells n H k (rule x y c) (columns xs ys cs) days fits moved after days′
-  tells-beyond was free fits moved after days′ t = record { when-fits = λ is. beyond (t .when-fits is); when-not = t .when-not }
+      Earliest n (rules xs ys cs) H (at days) → ((i : ℕ) → H i → InSteps e (rules xs ys cs i)) → (H k → ⊥) → (last : ℕ) (fits : Bool) (moved : ℕ) (after : Columns) (days′ : List ℕ) (last′ : ℕ) →
+      Tells e H k (rule x y c) (columns xs ys cs) days last fits moved after days′ last′ → Tells n H k (rule x y c) (columns xs ys cs) days last fits moved after days′ last′
+  tells-beyond was within free last fits moved after days′ last′ t = record { when-fits = λ is. beyond (t .when-fits is); when-not = t .when-not }
     where
-      beyond : Taken e H k (rule x y c) (columns xs ys cs) days moved after days′ → Taken n H k (rule x y c) (columns xs ys cs) days moved after days′
+      beyond : Taken e H k (rule x y c) (columns xs ys cs) days last moved after days′ last′ → Taken n H k (rule x y c) (columns xs ys cs) days last moved after days′ last′
       beyond taken = record {
         written = taken .written;
         planned = record {
@@ -82,8 +103,12 @@ module _ (n e : ℕ) (fewer : e ≤ n) (H : ℕ → Type 0) (order : ℕ → ℕ
           past = record { same-length = taken .planned .past .same-length; kept = λ i h. taken .planned .past .kept i (omega (arith, fewer)) };
         };
         count-moved = taken .count-moved ∙ moved-beyond n e days days′ fewer (taken .planned .past .kept);
+        last-day = λ known. taken .last-day (known ∙ largest-beyond e n (at days) fewer zeros) ∙ sym (largest-beyond e n (at days′) fewer (λ v past below. taken .planned .past .kept v past ∙ zeros v past below));
       }
         where
+          zeros : (v : ℕ) → e ≤ v → v < n → at days v ≡ 0
+          zeros = day-0-beyond n e (rules xs ys cs) H (at days) was within
+
           no-later : (q : ℕ → ℕ) → Plan (more (rules xs ys cs) k (rule x y c)) (plus H k) q → (v : ℕ) → v < n → at days′ v ≤ q v
           no-later q p v h = tell (decLt v e)
             where

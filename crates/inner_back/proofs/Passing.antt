@@ -1,37 +1,15 @@
 -- What each loop over the steps keeps, from the first step and one step further.
-use Prim.Native.Nat.{ℕ, _+_, _-_, _^_, _≤_, _<_}
+use Prim.Native.Nat.{ℕ, _+_, _-_, _≤_, _<_}
 use native.Mathlib.Omega.{arith}
 use native.Mathlib.Decide.{ℕ-discrete}
 use mathlib.Core.Path.{_≡_, _∙_, ap}
-use mathlib.Core.Logic.{_⊎_, inl, inr}
 use mathlib.Core.List.{List}
 use lib.ListN.{length, set, length-set}
 use Rattle.meaning.specs.Tables.{at}
 use Rattle.meaning.proofs.Lists.{past-refl}
 use Rattle.waiting.specs.Waiting.{Put}
 use Rattle.waiting.proofs.Places.{put-set}
-use Rattle.inner_back.specs.Replan.{LatestDay, Reaches, Brought}
-
--- Of no days none is after 0.
-pub latest-none : (days : List ℕ) → LatestDay 0 days 0
-latest-none days = record { not-after = λ v v-in. absurd (omega arith); narrow = omega arith }
-
--- One day more: it is the latest where it is after those passed.
-pub latest-more :
-    {days : List ℕ} {v latest latest′ : ℕ} → LatestDay v days latest → at days v < 2 ^ 32 →
-    ((latest < at days v) × (latest′ ≡ at days v)) ⊎ ((at days v ≤ latest) × (latest′ ≡ latest)) → LatestDay (v + 1) days latest′
-latest-more {days} {v} {latest} {latest′} passed narrow came =
-    record { not-after = λ w w-in. not-after w w-in (ℕ-discrete w v); narrow = both came .2 }
-  where
-    both :
-        ((latest < at days v) × (latest′ ≡ at days v)) ⊎ ((at days v ≤ latest) × (latest′ ≡ latest)) →
-        (latest ≤ latest′) × (at days v ≤ latest′) × (latest′ < 2 ^ 32)
-    both (inl h) = omega (arith, h)
-    both (inr h) = omega (arith, h, passed .narrow)
-
-    not-after : (w : ℕ) → w < v + 1 → Dec (w ≡ v) → at days w ≤ latest′
-    not-after w w-in (yes e) = omega (arith, ap (at days) e, both came)
-    not-after w w-in (no e) = omega (arith, passed .not-after w (omega arith), both came)
+use Rattle.inner_back.specs.Replan.{Reaches, Brought}
 
 -- One step more has the gain that brings its day to k.
 pub reaches-more :

@@ -31,11 +31,6 @@ pub record PlanRoom (n : ℕ) (gains by : List ℕ) : Type 0 where
   pub gains-room : n ≤ length gains
   pub by-room : n ≤ length by
 
--- None of the first n days is after r, and r fits a u32.
-pub record LatestDay (n : ℕ) (days : List ℕ) (r : ℕ) : Type 0 where
-  pub not-after : (v : ℕ) → v < n → at days v ≤ r
-  pub narrow : r < 2 ^ 32
-
 -- None of the first n days is after k, and each step has a place for its gain.
 pub record Reachable (n k : ℕ) (days gains : List ℕ) : Type 0 where
   pub days-room : n ≤ length days

@@ -2,8 +2,10 @@
 // the rules that stay, but may be later than those rules ask: so each step is asked to reach the latest day, the gains for that are spread over the rules
 // that stay, and all days are brought back by the latest day. What a spread gives is the earliest plan from the asked days on, so what is left is the
 // earliest plan.
-ghost use Prim.Native.Nat.{ℕ, _≤_, _<_};
+ghost use Prim.Native.Nat.{ℕ, _^_, _≤_, _<_};
 ghost use lib.ListN.{length};
+ghost use mathlib.Core.Path.{_≡_};
+ghost use Rattle.meaning.specs.Rules.{largest};
 ghost use Rattle.meaning.specs.Tables.{at};
 ghost use Rattle.meaning.specs.Promise.{Planned};
 ghost use Rattle.lent.specs.Lent.{tables};
@@ -11,7 +13,7 @@ ghost use Rattle.lent.specs.Promises.{Border, GoesBack};
 ghost use Rattle.lent.specs.Lent.{first};
 ghost use Rattle.chains.specs.Chains.{LentChains};
 ghost use Rattle.spread.specs.Ground.{rules};
-ghost use Rattle.inner_back.specs.Replan.{Plannable, Droppable, PlanRoom, LatestDay, Reachable, Reaches, Bringable, Brought};
+ghost use Rattle.inner_back.specs.Replan.{Plannable, Droppable, PlanRoom, Reachable, Reaches, Bringable, Brought};
 use meaning::Counts;
 use meaning::Reply;
 
@@ -43,10 +45,24 @@ pub fn back(
     let steps = counts.steps as usize;
     let rules = counts.rules as usize;
     drop_rules(mark as usize, rules, steps, xs, heads, nexts);
-    keep_first(steps, rules, mark as usize, xs, ys, cs, days, heads, nexts);
+    let last = keep_first(
+        steps,
+        rules,
+        mark as usize,
+        xs,
+        ys,
+        cs,
+        days,
+        heads,
+        nexts,
+        counts.last,
+    );
     let left = counts.marks - 1;
     meaning::done(
-        meaning::marks_now(meaning::rules_now(counts, mark), left),
+        meaning::last_now(
+            meaning::marks_now(meaning::rules_now(counts, mark), left),
+            last,
+        ),
         0,
         0,
     )
@@ -68,8 +84,8 @@ pub fn drop_rules(k: usize, m: usize, n: usize, xs: &[u16], heads: &mut [u16], n
     }
 }
 
-// Brings the days of n steps, which are the earliest plan of m rules, to the earliest plan of the first k of them, whose chains are lent. Where k is m
-// nothing changes.
+// Brings the days of n steps, which are the earliest plan of m rules and have that last day, to the earliest plan of the first k rules, whose chains are lent.
+// Gives back the last day then. Where k is m nothing changes.
 pub fn keep_first(
     n: usize,
     m: usize,
@@ -80,18 +96,22 @@ pub fn keep_first(
     days: &mut [u32],
     heads: &[u16],
     nexts: &[u16],
-)
+    last: u32,
+) -> u32
     requires { ⌜ Droppable n (first m) (first k) (now xs) (now ys) (now cs) (now days) ⌝ }
     requires { ⌜ LentChains n k (now xs) (now heads) (now nexts) ⌝ }
+    requires { ⌜ last ≡ largest n (at (now days)) ⌝ }
     ensures { λ _. ⌜ Planned n (rules (now (xs .entry)) (now (ys .entry)) (now (cs .entry))) (first k) (now (days .entry)) (now (days .exit)) ⌝ }
+    ensures { λ r. ⌜ r ≡ largest n (at (now (days .exit))) ⌝ }
 {
     if k == m {
-        return;
+        return last;
     }
-    plan(n, k, xs, ys, cs, days, heads, nexts);
+    plan(n, k, xs, ys, cs, days, heads, nexts, last)
 }
 
-// Brings the days of n steps, which keep each of m rules, to the earliest plan of those rules, whose chains are lent.
+// Brings the days of n steps, which keep each of m rules and have that last day, to the earliest plan of those rules, whose chains are lent. Gives back the last
+// day then.
 fn plan(
     n: usize,
     m: usize,
@@ -101,14 +121,29 @@ fn plan(
     days: &mut [u32],
     heads: &[u16],
     nexts: &[u16],
-)
+    last: u32,
+) -> u32
     requires { ⌜ Plannable n (first m) (now xs) (now ys) (now cs) (now days) ⌝ }
     requires { ⌜ LentChains n m (now xs) (now heads) (now nexts) ⌝ }
+    requires { ⌜ last ≡ largest n (at (now days)) ⌝ }
     ensures { λ _. ⌜ Planned n (rules (now (xs .entry)) (now (ys .entry)) (now (cs .entry))) (first m) (now (days .entry)) (now (days .exit)) ⌝ }
+    ensures { λ r. ⌜ r ≡ largest n (at (now (days .exit))) ⌝ }
 {
     let mut gains = [0u64; meaning::STEPS];
     let mut by = [0u16; meaning::STEPS];
-    plan_with(n, m, xs, ys, cs, days, heads, nexts, &mut gains, &mut by);
+    plan_with(
+        n,
+        m,
+        xs,
+        ys,
+        cs,
+        days,
+        heads,
+        nexts,
+        last as u64,
+        &mut gains,
+        &mut by,
+    )
 }
 
 // The same, where the lists for the gains and the rules they come by are lent too.
@@ -121,33 +156,20 @@ fn plan_with(
     days: &mut [u32],
     heads: &[u16],
     nexts: &[u16],
+    last: u64,
     gains: &mut [u64],
     by: &mut [u16],
-)
+) -> u32
     requires { ⌜ Plannable n (first m) (now xs) (now ys) (now cs) (now days) ⌝ }
     requires { ⌜ LentChains n m (now xs) (now heads) (now nexts) ⌝ }
+    requires { ⌜ (last ≡ largest n (at (now days))) × (last < 2 ^ 32) ⌝ }
     requires { ⌜ PlanRoom n (now gains) (now by) ⌝ }
     ensures { λ _. ⌜ Planned n (rules (now (xs .entry)) (now (ys .entry)) (now (cs .entry))) (first m) (now (days .entry)) (now (days .exit)) ⌝ }
+    ensures { λ r. ⌜ r ≡ largest n (at (now (days .exit))) ⌝ }
 {
-    let latest = latest_day(n, days);
-    ask(n, latest, days, gains);
+    ask(n, last, days, gains);
     spread::spread(n, m, xs, ys, cs, days, heads, nexts, n, gains, by);
-    bring(n, latest, gains, days);
-}
-
-// The latest of the first n days, and 0 where n is 0.
-fn latest_day(n: usize, days: &[u32]) -> u64
-    requires { ⌜ n ≤ length (now days) ⌝ }
-    ensures { λ r. ⌜ LatestDay n (now (days .entry)) r ⌝ }
-{
-    let mut latest = 0;
-    for v in 0..n {
-        let day = lent::day_at(days, v);
-        if latest < day {
-            latest = day;
-        }
-    }
-    latest
+    bring(n, last, gains, days)
 }
 
 // Gives each of the first n steps the gain that brings its day to k.
@@ -160,13 +182,20 @@ fn ask(n: usize, k: u64, days: &[u32], gains: &mut [u64])
     }
 }
 
-// Brings each of the first n days up by its gain and back by k.
-fn bring(n: usize, k: u64, gains: &[u64], days: &mut [u32])
+// Brings each of the first n days up by its gain and back by k, and gives back the last of them then.
+fn bring(n: usize, k: u64, gains: &[u64], days: &mut [u32]) -> u32
     requires { ⌜ Bringable n k (now gains) (now days) ⌝ }
     ensures { λ _. ⌜ Brought n k (now (gains .entry)) (now (days .entry)) (now (days .exit)) ⌝ }
+    ensures { λ r. ⌜ r ≡ largest n (at (now (days .exit))) ⌝ }
 {
+    let mut latest = 0;
     for v in 0..n {
         let gain = gains[v];
-        days[v] = (lent::day_at(days, v) + gain - k) as u32;
+        let day = (lent::day_at(days, v) + gain - k) as u32;
+        days[v] = day;
+        if latest < day {
+            latest = day;
+        }
     }
+    latest
 }

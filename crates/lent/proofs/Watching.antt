@@ -53,6 +53,7 @@ watching-border b fine = record {
     marks-never-fall = b .sound .marks-never-fall;
     marks-held = b .sound .marks-held;
     days-earliest = b .sound .days-earliest;
+    last-largest = b .sound .last-largest;
   };
 }
 

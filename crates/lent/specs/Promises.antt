@@ -1,4 +1,4 @@
--- The promises of the eight calls over the lists that are lent, each stated once: inner calls, public calls and exports cite them.
+-- The promises of the nine calls over the lists that are lent, each stated once: inner calls, public calls and exports cite them.
 -- In each, the first lists are as they were lent, in the order counts, rules, days, marks, watched rules, other lists; then what was asked;
 -- then what is given back, the counts and the lists that the call may write as it left them.
 -- Each stands first over what is given back and the counts, as calls over a lent record and exports have them, and then over a reply.
@@ -10,7 +10,7 @@ use Rattle.meaning.specs.declared.Reply.{Reply}
 use Rattle.meaning.specs.Rules.{rule}
 use Rattle.meaning.specs.Tables.{Tables, Room, Sound}
 use Rattle.meaning.specs.Promise.{Given, Obeys, given}
-use Rattle.meaning.specs.Calls.{with-list, with-lists, open-meaning, watch-meaning, add-meaning, mark-meaning, back-meaning, trial-meaning, consequences-meaning, ring-check-meaning}
+use Rattle.meaning.specs.Calls.{with-list, with-lists, open-meaning, watch-meaning, add-meaning, mark-meaning, back-meaning, trial-meaning, consequences-meaning, ring-check-meaning, last-day-meaning}
 use Rattle.lent.specs.Lent.{tables}
 
 -- The tables have room and are sound: what the inner calls may rely on.
@@ -74,3 +74,9 @@ module _ (counts : Counts) (xs ys : List ℕ) (cs : List ℤ) (days marks wxs wy
 
   abbrev pub ChecksRing : List ℕ → ℕ → ℕ → ℤ → Reply → Type 0
   ChecksRing list x y c r = ChecksRingTo list x y c (given r) (r .counts)
+
+  abbrev pub TellsLastDayTo : Given → Counts → Type 0
+  TellsLastDayTo g counts′ = Obeys (last-day-meaning lent) lent g (tables counts′ xs ys cs days marks wxs wys wcs)
+
+  abbrev pub TellsLastDay : Reply → Type 0
+  TellsLastDay r = TellsLastDayTo (given r) (r .counts)

@@ -1,11 +1,11 @@
 // Reading the lent tables, and the exact test of one rule. An amount c is read as c + BIAS, which is never below 0, so that
 // every sum and every comparison of days and amounts is one of u64.
 ghost use mathlib.Core.Path.{_≡_};
-ghost use Prim.Native.Nat.{_<_};
+ghost use Prim.Native.Nat.{_≤_, _<_};
 ghost use lib.ListN.{length, getD};
 ghost use lib.IntN.{pos};
-ghost use Rattle.meaning.specs.Rules.{InAmount, InBounds};
-ghost use Rattle.meaning.specs.Tables.{rule-at};
+ghost use Rattle.meaning.specs.Rules.{InAmount, InBounds, largest};
+ghost use Rattle.meaning.specs.Tables.{rule-at, at};
 ghost use Rattle.lent.specs.Decides.{Decides};
 ghost use Rattle.lent.specs.Lent.{columns, Biased, KeptAt, Placed, Limited, Dated, Limit, Spare};
 
@@ -28,6 +28,21 @@ pub fn day_at(list: &[u32], i: usize) -> u64
     ensures { λ r. ⌜ r ≡ getD (now (list .entry)) i 0 ⌝ }
 {
     list[i] as u64
+}
+
+// The last day: the largest of the first n days, and 0 where n is 0.
+pub fn last_day(n: usize, days: &[u32]) -> u32
+    requires { ⌜ n ≤ length (now days) ⌝ }
+    ensures { λ r. ⌜ r ≡ largest n (at (now (days .entry))) ⌝ }
+{
+    let mut latest = 0;
+    for v in 0..n {
+        let day = days[v];
+        if latest < day {
+            latest = day;
+        }
+    }
+    latest
 }
 
 // The amount c as c + BIAS.

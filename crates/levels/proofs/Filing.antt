@@ -8,37 +8,44 @@ use lib.ListN.{length, set, length-set}
 use lib.Seq.{getD-set-same, getD-set-other}
 use Rattle.meaning.specs.Bounds.{STEPS}
 use Rattle.meaning.specs.Tables.{at}
-use Rattle.levels.specs.Levels.{ROWS, ROW, row-of, RowNamed, Copied, Filed}
+use Rattle.levels.specs.Levels.{ROWS, ROW, LAST, row-of, RowNamed, Copied, Filed}
 
--- The days are copied to the row, and then the mark is named after them.
+-- The days are copied to the row, then the mark is named after them, and then comes their last day.
 pub filed-by :
-    {n row : ℕ} (k : ℕ) {days kept kept′ : List ℕ} → n ≤ STEPS → row-of k + STEPS < length kept → row ≡ row-of k → Copied n days 0 kept row kept′ →
-    Filed n days k kept (set kept′ (row + STEPS) (k + 1))
-filed-by {n} {row} k {days} {kept} {kept′} few room is-row copy = record {
-  same-length = length-set kept′ (row + STEPS) (k + 1) ∙ copy .same-length;
-  filed = λ v v-in. from-row v ∙ other (row + v) (λ e. omega (arith, e)) ∙ copy .copied v v-in ∙ ap (at days) (from-0 v);
-  names = from-row STEPS ∙ getD-set-same kept′ (row + STEPS) (k + 1) 0 (omega (arith, room, is-row, copy .same-length));
-  below = λ i i-in. other i (λ e. omega (arith, e, is-row)) ∙ copy .below i (omega (arith, is-row));
-  above = λ i i-in. other i (λ e. omega (arith, e, is-row)) ∙ copy .above i (omega (arith, is-row));
+    {n row : ℕ} (last k : ℕ) {days kept kept′ : List ℕ} → n ≤ STEPS → row-of k + LAST < length kept → row ≡ row-of k → Copied n days 0 kept row kept′ →
+    Filed n days last k kept (set (set kept′ (row + STEPS) (k + 1)) (row + LAST) last)
+filed-by {n} {row} last k {days} {kept} {kept′} few room is-row copy = record {
+  same-length = length-set named (row + LAST) last ∙ same-length;
+  filed = λ v v-in. from-row v ∙ other (row + v) (λ e. omega (arith, e)) (λ e. omega (arith, e)) ∙ copy .copied v v-in ∙ ap (at days) (from-0 v);
+  names = from-row STEPS ∙ getD-set-other named (row + LAST) (row + STEPS) last 0 (λ e. omega (arith, e)) ∙ getD-set-same kept′ (row + STEPS) (k + 1) 0 (omega (arith, room, is-row, copy .same-length));
+  dated = from-row LAST ∙ getD-set-same named (row + LAST) last 0 (omega (arith, room, is-row, same-length));
+  below = λ i i-in. other i (λ e. omega (arith, e, is-row)) (λ e. omega (arith, e, is-row)) ∙ copy .below i (omega (arith, is-row));
+  above = λ i i-in. other i (λ e. omega (arith, e, is-row)) (λ e. omega (arith, e, is-row)) ∙ copy .above i (omega (arith, is-row));
 }
   where
     named : List ℕ
     named = set kept′ (row + STEPS) (k + 1)
 
-    other : (i : ℕ) → (i ≡ row + STEPS → ⊥) → at named i ≡ at kept′ i
-    other i far = getD-set-other kept′ (row + STEPS) i (k + 1) 0 far
+    filed : List ℕ
+    filed = set named (row + LAST) last
 
-    from-row : (v : ℕ) → at named (row-of k + v) ≡ at named (row + v)
-    from-row v = ap (λ (x : ℕ). at named (x + v)) (sym is-row)
+    same-length : length named ≡ length kept
+    same-length = length-set kept′ (row + STEPS) (k + 1) ∙ copy .same-length
+
+    other : (i : ℕ) → (i ≡ row + LAST → ⊥) → (i ≡ row + STEPS → ⊥) → at filed i ≡ at kept′ i
+    other i far near = getD-set-other named (row + LAST) i last 0 far ∙ getD-set-other kept′ (row + STEPS) i (k + 1) 0 near
+
+    from-row : (v : ℕ) → at filed (row-of k + v) ≡ at filed (row + v)
+    from-row v = ap (λ (x : ℕ). at filed (x + v)) (sym is-row)
 
     from-0 : (v : ℕ) → 0 + v ≡ v
     from-0 v = omega arith
 
 -- Rows of different numbers have no place in common.
-row-below : (a b v : ℕ) → v ≤ STEPS → a < b → ROW * a + v < ROW * b
+row-below : (a b v : ℕ) → v ≤ LAST → a < b → ROW * a + v < ROW * b
 row-below a b v v-in lower = omega arith
 
-row-above : (a b v : ℕ) → b < a → ROW * b + STEPS < ROW * a + v
+row-above : (a b v : ℕ) → b < a → ROW * b + LAST < ROW * a + v
 row-above a b v higher = omega arith
 
 next-same : (j k : ℕ) → j + 1 ≡ k + 1 → j ≡ k
@@ -47,9 +54,9 @@ next-same j k e = omega arith
 not-lower : (a b : ℕ) → (a ≡ b → ⊥) → (a < b → ⊥) → b < a
 not-lower a b apart lower = omega arith
 
-module _ {n k : ℕ} {days kept kept′ : List ℕ} (f : Filed n days k kept kept′) where
+module _ {n last k : ℕ} {days kept kept′ : List ℕ} (f : Filed n days last k kept kept′) where
   -- Another row is as before.
-  other-row : (j v : ℕ) → v ≤ STEPS → (j % ROWS ≡ k % ROWS → ⊥) → at kept′ (row-of j + v) ≡ at kept (row-of j + v)
+  other-row : (j v : ℕ) → v ≤ LAST → (j % ROWS ≡ k % ROWS → ⊥) → at kept′ (row-of j + v) ≡ at kept (row-of j + v)
   other-row j v v-in apart = told (decLt (j % ROWS) (k % ROWS))
     where
       told : Dec (j % ROWS < k % ROWS) → at kept′ (row-of j + v) ≡ at kept (row-of j + v)
@@ -68,6 +75,9 @@ module _ {n k : ℕ} {days kept kept′ : List ℕ} (f : Filed n days k kept kep
       named = sym (other-row j STEPS (omega arith) rows-apart) ∙ held .named;
     }
 
-    -- Its days are as before.
+    -- Its days are as before, and so is their last.
     pub days-before : (v : ℕ) → v < STEPS → at kept′ (row-of j + v) ≡ at kept (row-of j + v)
     days-before v v-in = other-row j v (omega arith) rows-apart
+
+    pub last-before : at kept′ (row-of j + LAST) ≡ at kept (row-of j + LAST)
+    last-before = other-row j LAST (omega arith) rows-apart

@@ -5,8 +5,8 @@ use mathlib.Core.Path.{_≡_, refl, sym, _∙_, ap, subst}
 use mathlib.Core.List.{List}
 use lib.ListN.{set}
 use Rattle.meaning.specs.Bounds.{MARKS, DONE}
-use Rattle.meaning.specs.Rules.{Rule, Earliest}
-use Rattle.meaning.specs.Tables.{Tables, at, Sound, with-rule, with-mark, with-days, marks-now, rules-now}
+use Rattle.meaning.specs.Rules.{Rule, Earliest, largest}
+use Rattle.meaning.specs.Tables.{Tables, at, Sound, with-rule, with-mark, with-days, marks-now, rules-now, last-now}
 use Rattle.meaning.specs.Promise.{Given, Planned}
 use Rattle.meaning.specs.Calls.{rules-of, mark-meaning, back-meaning}
 use Rattle.meaning.specs.Runs.{Call}
@@ -101,16 +101,17 @@ fewer-border {k} {t} b fewer = record {
     marks-never-fall = λ i j i-first j-in. s .marks-never-fall i j i-first (omega arith);
     marks-held = λ i i-in. s .marks-held i (omega arith);
     days-earliest = s .days-earliest;
+    last-largest = s .last-largest;
   };
 }
   where
     s : Sound t
     s = b .sound
 
--- The tables cut back to the mark at place k, with other days.
-abbrev cut : ℕ → List ℕ → Tables → Tables
-cut k days t = record {
-  counts = marks-now k (rules-now (at (t .marks) k) (t .counts));
+-- The tables cut back to the mark at place k, with other days and the last of them.
+abbrev cut : ℕ → List ℕ → ℕ → Tables → Tables
+cut k days last t = record {
+  counts = last-now last (marks-now k (rules-now (at (t .marks) k) (t .counts)));
   rules = t .rules;
   days = days;
   marks = t .marks;
@@ -119,11 +120,11 @@ cut k days t = record {
 
 -- Where some marks are dropped, the tables are cut back to the oldest of them.
 pub popped-cut :
-    (n k : ℕ) {t : Tables} {days : List ℕ} → 1 ≤ n → n ≤ t .counts .marks → k ≡ t .counts .marks - n →
-    Planned (t .counts .steps) (rules-of t) (λ i. i < at (t .marks) k) (t .days) days → Popped n t (cut (t .counts .marks - n) days t)
-popped-cut zero k some few oldest planned = absurd (omega arith)
-popped-cut (suc n) k {t} {days} some few oldest planned = record {
-  dropped = ap (λ (j : ℕ). cut j days t) newest;
+    (n k : ℕ) {t : Tables} {days : List ℕ} {last : ℕ} → 1 ≤ n → n ≤ t .counts .marks → k ≡ t .counts .marks - n →
+    Planned (t .counts .steps) (rules-of t) (λ i. i < at (t .marks) k) (t .days) days → last ≡ largest (t .counts .steps) (at days) → Popped n t (cut (t .counts .marks - n) days last t)
+popped-cut zero k some few oldest planned latest = absurd (omega arith)
+popped-cut (suc n) k {t} {days} {last} some few oldest planned latest = record {
+  dropped = ap (λ (j : ℕ). cut j days last t) newest ∙ ap (λ (d : ℕ). cut (t .counts .marks - n - 1) days d t) latest;
   planned = subst (λ (j : ℕ). Planned (t .counts .steps) (rules-of t) (λ i. i < at (t .marks) j) (t .days) days) (oldest ∙ newest) planned;
 }
   where
@@ -143,7 +144,10 @@ popped-same n {t} {u} {w} a b = a .dropped ∙ ap (λ (days : List ℕ). with-da
 pub popped-none : (n : ℕ) {t : Tables} → n ≡ 0 → Sound t → Popped n t t
 popped-none n {t} none sound =
     subst (λ (m : ℕ). Popped m t t) (sym none)
-    (record { dropped = refl; planned = record { earliest = sound .days-earliest; past = past-refl (t .counts .steps) (t .days) } })
+    (record { dropped = λ i. with-last (sound .last-largest i); planned = record { earliest = sound .days-earliest; past = past-refl (t .counts .steps) (t .days) } })
+  where
+    with-last : ℕ → Tables
+    with-last last = record { counts = last-now last (t .counts); rules = t .rules; days = t .days; marks = t .marks; watched = t .watched }
 
 pub popped-0 : {t u : Tables} → Popped 0 t u → Sound t → u ≡ t
 popped-0 p sound = popped-same 0 p (popped-none 0 refl sound)
@@ -173,9 +177,12 @@ module _ {steps marks-open : ℕ} {kept : List ℕ} where
       ((k i : ℕ) → k < marks-open → i < at marks k → R i ≡ R′ i) →
       KeptDays R steps marks-open marks kept → KeptDays R′ steps marks-open marks′ kept
   kept-same {R} {R′} {marks} {marks′} same-marks same-rules k = record {
-    kept-earliest = λ j j-in held.
-        subst (λ (m : ℕ). Earliest steps R′ (λ i. i < m) (λ v. at kept (row-of j + v))) (same-marks j j-in)
-        (earliest-same {H = λ i. i < at marks j} {G = λ i. i < at marks j} (λ i i-in. i-in) (λ i i-in. i-in) (λ i i-in. same-rules j i j-in i-in) (k .kept-earliest j j-in held));
+    kept-earliest = λ j j-in held. record {
+      earliest =
+          subst (λ (m : ℕ). Earliest steps R′ (λ i. i < m) (λ v. at kept (row-of j + v))) (same-marks j j-in)
+          (earliest-same {H = λ i. i < at marks j} {G = λ i. i < at marks j} (λ i i-in. i-in) (λ i i-in. i-in) (λ i i-in. same-rules j i j-in i-in) (k .kept-earliest j j-in held .earliest));
+      last-day = k .kept-earliest j j-in held .last-day;
+    };
   }
 
 -- A rule that is written after those held changes no days kept.

@@ -5,7 +5,7 @@ use mathlib.Core.List.{List}
 use lib.ListN.{length, set}
 use Rattle.meaning.specs.declared.Counts.{Counts}
 use Rattle.meaning.specs.Bounds.{STEPS}
-use Rattle.meaning.specs.Rules.{Rule, Earliest}
+use Rattle.meaning.specs.Rules.{Rule, Earliest, largest}
 use Rattle.meaning.specs.Tables.{Columns, Tables, rule-at, at, Sound, with-mark, without-mark, with-days, marks-now}
 use Rattle.meaning.specs.Promise.{Planned}
 use Rattle.meaning.specs.Calls.{rules-of, held-in}
@@ -47,9 +47,12 @@ pub record Popped (n : ℕ) (before after : Tables) : Type 0 where
 abbrev pub ROWS : ℕ
 ROWS = 4
 
--- A row has STEPS days and one place more, which names the mark whose days they are.
+-- A row has STEPS days and two places more: the first names the mark whose days they are, the second, at place LAST of the row, has the last of these days.
 abbrev pub ROW : ℕ
-ROW = STEPS + 1
+ROW = STEPS + 2
+
+abbrev pub LAST : ℕ
+LAST = STEPS + 1
 
 -- Where the row of the mark at place k begins. The mark that is ROWS places later has the same row.
 abbrev pub row-of : ℕ → ℕ
@@ -57,18 +60,23 @@ row-of k = ROW * (k % ROWS)
 
 -- The row of the mark at place k is within a table with so many places.
 abbrev pub HasRow : (k room : ℕ) → Type 0
-HasRow k room = row-of k + STEPS < room
+HasRow k room = row-of k + LAST < room
 
 -- The mark at place k has a row, and the row names it: after the days stands k + 1, so that 0 names no mark.
 pub record RowNamed (k : ℕ) (kept : List ℕ) : Type 0 where
   pub has-row : HasRow k (length kept)
   pub named : at kept (row-of k + STEPS) ≡ k + 1
 
--- Where its row names the mark at place k, the days in the row are the earliest plan of the first m rules.
-abbrev pub KeptFor : (R : ℕ → Rule) (steps m k : ℕ) (kept : List ℕ) → Type 0
-KeptFor R steps m k kept = RowNamed k kept → Earliest steps R (λ i. i < m) (λ v. at kept (row-of k + v))
+-- The days in the row of the mark at place k are the earliest plan of the first m rules, and the row has the last of them.
+pub record RowPlan (R : ℕ → Rule) (steps m k : ℕ) (kept : List ℕ) : Type 0 where
+  pub earliest : Earliest steps R (λ i. i < m) (λ v. at kept (row-of k + v))
+  pub last-day : at kept (row-of k + LAST) ≡ largest steps (λ v. at kept (row-of k + v))
 
--- Where the row of an open mark names it, the days in the row are the earliest plan of the rules held when the mark was set. A row that names no open mark tells nothing.
+-- They are where the row names the mark.
+abbrev pub KeptFor : (R : ℕ → Rule) (steps m k : ℕ) (kept : List ℕ) → Type 0
+KeptFor R steps m k kept = RowNamed k kept → RowPlan R steps m k kept
+
+-- Where the row of an open mark names it, the row has the earliest plan of the rules held when the mark was set. A row that names no open mark tells nothing.
 pub record KeptDays (R : ℕ → Rule) (steps open-marks : ℕ) (marks kept : List ℕ) : Type 0 where
   pub kept-earliest : (k : ℕ) → k < open-marks → KeptFor R steps (at marks k) k kept
 
@@ -85,10 +93,11 @@ pub record Copied (n : ℕ) (from : List ℕ) (a : ℕ) (to : List ℕ) (b : ℕ
   pub below : (i : ℕ) → i < b → at to′ i ≡ at to i
   pub above : (i : ℕ) → b + n ≤ i → at to′ i ≡ at to i
 
--- n days were written to the row of the mark at place k, and the row names that mark; what is outside the row is as before.
-pub record Filed (n : ℕ) (days : List ℕ) (k : ℕ) (kept kept′ : List ℕ) : Type 0 where
+-- n days were written to the row of the mark at place k, with their last day, and the row names that mark; what is outside the row is as before.
+pub record Filed (n : ℕ) (days : List ℕ) (last k : ℕ) (kept kept′ : List ℕ) : Type 0 where
   pub same-length : length kept′ ≡ length kept
   pub filed : (v : ℕ) → v < n → at kept′ (row-of k + v) ≡ at days v
   pub names : at kept′ (row-of k + STEPS) ≡ k + 1
+  pub dated : at kept′ (row-of k + LAST) ≡ last
   pub below : (i : ℕ) → i < row-of k → at kept′ i ≡ at kept i
-  pub above : (i : ℕ) → row-of k + STEPS < i → at kept′ i ≡ at kept i
+  pub above : (i : ℕ) → row-of k + LAST < i → at kept′ i ≡ at kept i

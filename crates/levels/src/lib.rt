@@ -4,7 +4,8 @@ ghost use mathlib.Core.Path.{_≡_};
 ghost use Prim.Native.Nat.{_+_, _-_, _*_, _≤_, _<_};
 ghost use lib.ListN.{length};
 ghost use Rattle.meaning.specs.Bounds.{STEPS, MARKS};
-ghost use Rattle.meaning.specs.Tables.{rule-at};
+ghost use Rattle.meaning.specs.Rules.{largest};
+ghost use Rattle.meaning.specs.Tables.{rule-at, at};
 ghost use Rattle.meaning.specs.Promise.{Planned};
 ghost use Rattle.lent.specs.Lent.{columns, first};
 ghost use Rattle.lent.specs.Idle.{unwatched};
@@ -13,14 +14,17 @@ ghost use Rattle.lent.specs.Decides.{Decides};
 ghost use Rattle.spread.specs.Ground.{rules};
 ghost use Rattle.chains.specs.Chains.{LentChains};
 ghost use Rattle.inner_back.specs.Replan.{Droppable};
-ghost use Rattle.levels.specs.Levels.{marked, more-marks, row-of, Popped, HasRow, RowNamed, KeptFor, KeptDays, KeepsDays, Copied, Filed};
+ghost use Rattle.levels.specs.Levels.{marked, more-marks, row-of, LAST, Popped, HasRow, RowNamed, KeptFor, KeptDays, KeepsDays, Copied, Filed};
 use meaning::Counts;
 
 // So many rows of kept days are used in turn.
 pub const ROWS: usize = 4;
 
-// A row has STEPS days and one place more, for the mark whose days they are: k + 1 names mark k, and 0 none.
-pub const ROW: usize = meaning::STEPS + 1;
+// A row has STEPS days and two places more: one for the mark whose days they are, where k + 1 names mark k and 0 none, and one for the last of the days.
+pub const ROW: usize = meaning::STEPS + 2;
+
+// The place in a row of the last of its days.
+const LAST: usize = meaning::STEPS + 1;
 
 // The length of the table of kept days beside fresh tables.
 pub const KEPT: usize = ROWS * ROW;
@@ -36,7 +40,7 @@ fn row_of(k: usize) -> usize
 fn has_row(k: usize, room: usize) -> bool
     ensures { λ r. ⌜ Decides r (HasRow k room) ⌝ }
 {
-    row_of(k) + meaning::STEPS < room
+    row_of(k) + LAST < room
 }
 
 // Whether the days of mark k are kept: it has a row, which names it.
@@ -61,17 +65,18 @@ fn copy_days(n: usize, from: &[u32], a: usize, to: &mut [u32], b: usize)
     }
 }
 
-// Keeps n days in the row of mark k, and names the mark there.
-fn keep_days(n: usize, days: &[u32], kept: &mut [u32], k: usize)
+// Keeps n days and the last of them in the row of mark k, and names the mark there.
+fn keep_days(n: usize, days: &[u32], last: u32, kept: &mut [u32], k: usize)
     requires { ⌜ n ≤ STEPS ⌝ }
     requires { ⌜ STEPS ≤ length (now days) ⌝ }
     requires { ⌜ k < MARKS ⌝ }
-    requires { ⌜ row-of k + STEPS < length (now kept) ⌝ }
-    ensures { λ _. ⌜ Filed n (now (days .entry)) k (now (kept .entry)) (now (kept .exit)) ⌝ }
+    requires { ⌜ row-of k + LAST < length (now kept) ⌝ }
+    ensures { λ _. ⌜ Filed n (now (days .entry)) last k (now (kept .entry)) (now (kept .exit)) ⌝ }
 {
     let row = row_of(k);
     copy_days(n, days, 0, kept, row);
     kept[row + meaning::STEPS] = (k + 1) as u32;
+    kept[row + LAST] = last;
 }
 
 // Sets n marks. The days of those that have a row are kept there.
@@ -89,7 +94,7 @@ pub fn push(counts: Counts, days: &[u32], marks: &mut [u32], kept: &mut [u32], n
     for k in first..first + n {
         marks[k] = counts.rules;
         if has_row(k, kept.len()) {
-            keep_days(steps, days, kept, k);
+            keep_days(steps, days, counts.last, kept, k);
         }
     }
     meaning::marks_now(counts, (first + n) as u32)
@@ -125,7 +130,7 @@ pub fn pop(
     let steps = counts.steps as usize;
     let rules = counts.rules as usize;
     inner_back::drop_rules(m as usize, rules, steps, xs, heads, nexts);
-    days_at(
+    let last = days_at(
         steps,
         rules,
         m as usize,
@@ -137,12 +142,16 @@ pub fn pop(
         nexts,
         kept,
         k,
+        counts.last,
     );
-    meaning::marks_now(meaning::rules_now(counts, m), k as u32)
+    meaning::last_now(
+        meaning::marks_now(meaning::rules_now(counts, m), k as u32),
+        last,
+    )
 }
 
-// Brings the days of n steps, which are the earliest plan of m rules, to the earliest plan of the first l of them, those held when mark k was set, whose chains
-// are lent. Where the days of the mark are kept, they are copied.
+// Brings the days of n steps, which are the earliest plan of m rules and have that last day, to the earliest plan of the first l rules, those held when mark k was
+// set, whose chains are lent. Gives back the last day then. Where the days of the mark are kept, they are copied.
 fn days_at(
     n: usize,
     m: usize,
@@ -155,16 +164,20 @@ fn days_at(
     nexts: &[u16],
     kept: &[u32],
     k: usize,
-)
+    last: u32,
+) -> u32
     requires { ⌜ Droppable n (first m) (first l) (now xs) (now ys) (now cs) (now days) ⌝ }
     requires { ⌜ LentChains n l (now xs) (now heads) (now nexts) ⌝ }
     requires { ⌜ k < MARKS ⌝ }
     requires { ⌜ KeptFor (rules (now xs) (now ys) (now cs)) n l k (now kept) ⌝ }
+    requires { ⌜ last ≡ largest n (at (now days)) ⌝ }
     ensures { λ _. ⌜ Planned n (rules (now (xs .entry)) (now (ys .entry)) (now (cs .entry))) (first l) (now (days .entry)) (now (days .exit)) ⌝ }
+    ensures { λ r. ⌜ r ≡ largest n (at (now (days .exit))) ⌝ }
 {
     if holds(k, kept) {
-        copy_days(n, kept, row_of(k), days, 0);
-        return;
+        let row = row_of(k);
+        copy_days(n, kept, row, days, 0);
+        return kept[row + LAST];
     }
-    inner_back::keep_first(n, m, l, xs, ys, cs, days, heads, nexts);
+    inner_back::keep_first(n, m, l, xs, ys, cs, days, heads, nexts, last)
 }

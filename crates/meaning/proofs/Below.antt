@@ -1,5 +1,5 @@
 -- What can be told, and looking through the numbers below n, from the last down: one that has what is sought, whether all have it, and the largest value.
-use Prim.Native.Nat.{ℕ, zero, suc, _≤_, _<_, max}
+use Prim.Native.Nat.{ℕ, zero, suc, _≤_, _<_}
 use native.Mathlib.Omega.{arith}
 use native.Mathlib.Decide.{ℕ-discrete}
 use mathlib.Core.Path.{_≡_, ap, subst}
@@ -58,18 +58,3 @@ all-below? P tell n = found (some-below? (λ v. P v → ⊥) (λ v. not? (tell v
         so : (v : ℕ) → v < n → Dec (P v) → P v
         so v below (yes h) = h
         so v below (no not-so) = absurd (none (v, below, not-so))
-
--- The largest value below n, and 0 where there is none.
-unfoldable pub largest : (ℕ → ℕ) → ℕ → ℕ
-largest f zero = 0
-largest f (suc n) = max (largest f n) (f n)
-
--- No value below n is larger.
-pub largest-over : (f : ℕ → ℕ) (n v : ℕ) → v < n → f v ≤ largest f n
-unfolding largest
-largest-over f zero v below = absurd (omega arith)
-largest-over f (suc n) v below = place (ℕ-discrete v n) (largest-over f n v)
-  where
-    place : Dec (v ≡ n) → (v < n → f v ≤ largest f n) → f v ≤ max (largest f n) (f n)
-    place (yes e) before = omega (arith, ap f e)
-    place (no other) before = omega (arith, before (omega arith))

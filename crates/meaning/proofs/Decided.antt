@@ -9,7 +9,7 @@ use lib.IntN.{ℤ, pos, negℤ}
 use lib.ListN.{length}
 use Rattle.meaning.specs.declared.Counts.{Counts}
 use Rattle.meaning.specs.Bounds.{STEPS, RULES, MARKS, WATCHED, LARGEST}
-use Rattle.meaning.specs.Rules.{Rule, Keeps, InSteps, InAmount, InBounds, Earliest, Leads, All, Different, total, more, Refutes}
+use Rattle.meaning.specs.Rules.{Rule, Keeps, InSteps, InAmount, InBounds, Earliest, Leads, All, Different, total, more, Refutes, largest}
 use Rattle.meaning.specs.Tables.{Tables, Columns, rule-at, at, ColumnsRoom, Room, InCounts, Sound}
 use Rattle.meaning.proofs.Below.{both?, not?, leads?, in-words?, all-below?}
 use Rattle.meaning.proofs.Whole.{le?, lt?, keeps?}
@@ -91,9 +91,10 @@ sound? t = tell (both? (in-counts? (t .counts)) (both? (good? (t .counts .rules)
     tell (no bad) = no (λ s. bad (s .counts-in, (s .rules-good, (s .watched-good, (s .marks-never-fall, s .marks-held)))))
     tell (yes h) =
         in-words?
-        (λ e. record { counts-in = h .0; rules-good = h .1 .0; watched-good = h .1 .1 .0; marks-never-fall = h .1 .1 .1 .0; marks-held = h .1 .1 .1 .1; days-earliest = e })
-        (λ s. s .days-earliest)
-        (earliest? (t .counts .steps) (t .counts .rules) (rule-at (t .rules)) (λ i. i < t .counts .rules) (λ i. decLt i (t .counts .rules)) (λ i below. below) (λ i below. h .1 .0 i below .steps-in) (at (t .days)))
+        (λ e. record { counts-in = h .0; rules-good = h .1 .0; watched-good = h .1 .1 .0; marks-never-fall = h .1 .1 .1 .0; marks-held = h .1 .1 .1 .1; days-earliest = e .0; last-largest = omega (arith, e .1) })
+        (λ s. (s .days-earliest, omega (arith, s .last-largest)))
+        (both? (earliest? (t .counts .steps) (t .counts .rules) (rule-at (t .rules)) (λ i. i < t .counts .rules) (λ i. decLt i (t .counts .rules)) (λ i below. below) (λ i below. h .1 .0 i below .steps-in) (at (t .days)))
+        (ℕ-discrete (t .counts .last) (largest (t .counts .steps) (at (t .days)))))
 
 -- ---- rings
 

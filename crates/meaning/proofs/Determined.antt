@@ -1,19 +1,20 @@
--- Any two outcomes that a promise allows on the same input are equal, the choice among several rings excepted.
-use Prim.Native.Nat.{ℕ, _≤_, _<_}
+-- Any two outcomes that a promise allows on the same input are equal: the number is that of the first need not met, and what a call leaves when it is carried
+-- out, on conflict and refused is fixed each time.
+use Prim.Native.Nat.{ℕ}
 use native.Mathlib.Omega.{arith}
 use native.Mathlib.Decide.{ℕ-discrete}
 use mathlib.Core.Path.{_≡_, refl, sym, _∙_, ap, subst}
 use mathlib.Core.List.{List}
 use mathlib.Core.Logic.{_⊎_, inl, inr}
-use lib.ListN.{length}
-use Rattle.meaning.specs.Bounds.{DONE, CONFLICT, STEPS}
+use Rattle.meaning.specs.Bounds.{DONE, CONFLICT}
 use Rattle.meaning.specs.Rules.{Rule, Always, Never}
-use Rattle.meaning.specs.Tables.{Tables, rule-at, at, opened, with-rule, without-mark, with-days}
-use Rattle.meaning.specs.Promise.{Given, bare, Meaning, Obeys, Past, Filled, Planned, moved}
-use Rattle.meaning.specs.Calls.{WithList, WithLists, rules-of, held-in, Opened, Watched, Added, AddConflict, Marked, WentBack, Tried, TrialConflict, Split, RingChecked, open-meaning, watch-meaning, add-meaning, mark-meaning, back-meaning, trial-meaning, consequences-meaning, ring-check-meaning}
+use Rattle.meaning.specs.Tables.{Tables, rule-at, opened, with-rule, without-mark, with-days}
+use Rattle.meaning.specs.Promise.{Given, bare, Meaning, Obeys, Planned, moved}
+use Rattle.meaning.specs.Calls.{WithList, WithLists, rules-of, held-in, next-in, RingIn, Opened, Watched, Added, AddConflict, Marked, WentBack, Tried, TrialConflict, Split, RingChecked, open-meaning, watch-meaning, add-meaning, mark-meaning, back-meaning, trial-meaning, consequences-meaning, ring-check-meaning, last-day-meaning}
 use Rattle.meaning.proofs.Theory.{earliest-unique}
 use Rattle.meaning.proofs.Needs.{first-same}
 use Rattle.meaning.proofs.Lists.{past-same, filled-same, exactly-same}
+use Rattle.meaning.proofs.Shortest.{reason-unique}
 
 -- Two outcomes of a call are the same.
 pub record Same {S : Type 0} (g h : Given) (a b : S) : Type 0 where
@@ -23,6 +24,10 @@ pub record Same {S : Type 0} (g h : Given) (a b : S) : Type 0 where
 -- What a call leaves when it is carried out is fixed.
 abbrev pub Fixed : {S : Type 0} → Meaning S → Type 0
 Fixed {S} m = (a b c d : ℕ) (after other : S) → m .done a b after → m .done c d other → (a ≡ c) × (b ≡ d) × (after ≡ other)
+
+-- So is what it leaves on conflict.
+abbrev pub FixedOnConflict : {S : Type 0} → Meaning S → Type 0
+FixedOnConflict {S} m = (a c : ℕ) (after other : S) → m .conflict a after → m .conflict c other → (a ≡ c) × (after ≡ other)
 
 -- Number and values make what is given.
 pub given-eq : (g h : Given) → g .number ≡ h .number → g .one ≡ h .one → g .two ≡ h .two → g ≡ h
@@ -49,6 +54,18 @@ module _ {S : Type 0} (m : Meaning S) (before : S) (g h : Given) (after other : 
 
           ry : (h ≡ bare (h .number)) × (other ≡ before)
           ry = y .when-refused (λ z. e (numbers-same ∙ z)) (λ z. nc (numbers-same ∙ z))
+
+  -- Where what is left on conflict is fixed too, all is equal.
+  pub same-whole : Fixed m → FixedOnConflict m → Same g h after other
+  same-whole fixed on-conflict = tell (ℕ-discrete (g .number) CONFLICT)
+    where
+      tell : Dec (g .number ≡ CONFLICT) → Same g h after other
+      tell (no e) = same-unless-conflict fixed e
+      tell (yes e) =
+          let cx = x .on-conflict e in
+          let cy = y .on-conflict (sym numbers-same ∙ e) in
+          let (one, left) = on-conflict (g .one) (h .one) after other (cx .0) (cy .0) in
+          record { answers = given-eq g h numbers-same one (cx .1 ∙ sym (cy .1)); left = left }
 
   -- A call that knows no conflict is determined whole.
   pub determined : Fixed m → ((a : ℕ) (s : S) → m .conflict a s → ⊥) → Same g h after other
@@ -128,7 +145,10 @@ ring-check-fixed r s a b c d u w x y = (go (x .verdict) (y .verdict), x .no-seco
     go (inr p) (inl q) = absurd (p .1 (q .1))
     go (inr p) (inr q) = p .0 ∙ sym (q .0)
 
--- The six calls that know no conflict.
+last-day-fixed : (t : Tables) → Fixed (last-day-meaning t)
+last-day-fixed t a b c d u w x y = (x .day ∙ sym (y .day), x .no-second ∙ sym (y .no-second), x .all-stays ∙ sym (y .all-stays))
+
+-- The seven calls that know no conflict.
 pub open-determined : (n : ℕ) (t : Tables) (g h : Given) (u w : Tables) → Obeys (open-meaning n t) t g u → Obeys (open-meaning n t) t h w → Same g h u w
 open-determined n t g h u w x y = determined (open-meaning n t) t g h u w x y (open-fixed n t) (λ a s z. z)
 
@@ -147,78 +167,27 @@ consequences-determined s g h u w x y = determined (consequences-meaning s) s g 
 pub ring-check-determined : (r : Rule) (s : WithList) (g h : Given) (u w : WithList) → Obeys (ring-check-meaning r s) s g u → Obeys (ring-check-meaning r s) s h w → Same g h u w
 ring-check-determined r s g h u w x y = determined (ring-check-meaning r s) s g h u w x y (ring-check-fixed r s) (λ a v z. z)
 
--- ---- the calls that know a conflict: all is equal but the choice of the ring
+pub last-day-determined : (t : Tables) (g h : Given) (u w : Tables) → Obeys (last-day-meaning t) t g u → Obeys (last-day-meaning t) t h w → Same g h u w
+last-day-determined t g h u w x y = determined (last-day-meaning t) t g h u w x y (last-day-fixed t) (λ a s z. z)
 
--- Two lists with a ring each, written from the same list: equally long, and past both rings the same.
-pub record SamePastRings (k j : ℕ) (a b : List ℕ) : Type 0 where
-  pub same-length : length a ≡ length b
-  pub past-both : (i : ℕ) → k ≤ i → j ≤ i → at a i ≡ at b i
+-- ---- the calls that know a conflict
 
-rings-past : {P : List ℕ → Type 0} (k j : ℕ) (before a b : List ℕ) → Filled k P before a → Filled j P before b → SamePastRings k j a b
-rings-past k j before a b x y =
-    record {
-      same-length = x .past .same-length ∙ sym (y .past .same-length);
-      past-both = λ i hk hj. x .past .kept i hk ∙ sym (y .past .kept i hj);
-    }
+-- Two lists that hold the ring of a conflict, written from the same list, are equal, and so are the two lengths: there is one reason.
+rings-same : (r : Rule) (t : Tables) (k j : ℕ) (before a b : List ℕ) → RingIn r t k before a → RingIn r t j before b → (k ≡ j) × (a ≡ b)
+rings-same r t = filled-same (reason-unique (rules-of t) (held-in t) (next-in t) r)
 
--- Add: the same number; the same all through unless it is CONFLICT; and on CONFLICT the same but for the ring and its length.
-pub record AddSame (g h : Given) (a b : WithList) : Type 0 where
-  pub same-number : g .number ≡ h .number
-  pub unless-conflict : (g .number ≡ CONFLICT → ⊥) → Same g h a b
-  pub tables-same : a .tables ≡ b .tables
-  pub second-same : g .two ≡ h .two
-  pub but-for-the-ring : g .number ≡ CONFLICT → SamePastRings (g .one) (h .one) (a .list) (b .list)
+add-conflict-fixed : (r : Rule) (s : WithList) → FixedOnConflict (add-meaning r s)
+add-conflict-fixed r s a c u w x y =
+    let (long, list) = rings-same r (s .tables) a c (s .list) (u .list) (w .list) (x .ring-given) (y .ring-given) in
+    (long, λ i. record { tables = (x .tables-stay ∙ sym (y .tables-stay)) i; list = list i })
 
-pub add-determined : (r : Rule) (s : WithList) (g h : Given) (u w : WithList) → Obeys (add-meaning r s) s g u → Obeys (add-meaning r s) s h w → AddSame g h u w
-add-determined r s g h u w x y =
-    record {
-      same-number = same;
-      unless-conflict = other;
-      tables-same = tell (ℕ-discrete (g .number) CONFLICT) .0;
-      second-same = tell (ℕ-discrete (g .number) CONFLICT) .1;
-      but-for-the-ring = λ e. rings-past (g .one) (h .one) (s .list) (u .list) (w .list) (x .on-conflict e .0 .ring-given) (y .on-conflict (sym same ∙ e) .0 .ring-given);
-    }
-  where
-    same : g .number ≡ h .number
-    same = numbers-same (add-meaning r s) s g h u w x y
+trial-conflict-fixed : (r : Rule) (s : WithLists) → FixedOnConflict (trial-meaning r s)
+trial-conflict-fixed r s a c u w x y =
+    let (long, two) = rings-same r (s .tables) a c (s .two) (u .two) (w .two) (x .ring-given) (y .ring-given) in
+    (long, λ i. record { tables = (x .tables-stay ∙ sym (y .tables-stay)) i; one = (x .one-stays ∙ sym (y .one-stays)) i; two = two i })
 
-    other : (g .number ≡ CONFLICT → ⊥) → Same g h u w
-    other = same-unless-conflict (add-meaning r s) s g h u w x y (add-fixed r s)
+pub add-determined : (r : Rule) (s : WithList) (g h : Given) (u w : WithList) → Obeys (add-meaning r s) s g u → Obeys (add-meaning r s) s h w → Same g h u w
+add-determined r s g h u w x y = same-whole (add-meaning r s) s g h u w x y (add-fixed r s) (add-conflict-fixed r s)
 
-    tell : Dec (g .number ≡ CONFLICT) → (u .tables ≡ w .tables) × (g .two ≡ h .two)
-    tell (no e) = (ap (λ a. a .tables) (other e .left), ap (λ a. a .two) (other e .answers))
-    tell (yes e) = (x .on-conflict e .0 .tables-stay ∙ sym (y .on-conflict (sym same ∙ e) .0 .tables-stay), x .on-conflict e .1 ∙ sym (y .on-conflict (sym same ∙ e) .1))
-
--- Trial likewise; the list of days is the same too.
-pub record TrialSame (g h : Given) (a b : WithLists) : Type 0 where
-  pub same-number : g .number ≡ h .number
-  pub unless-conflict : (g .number ≡ CONFLICT → ⊥) → Same g h a b
-  pub tables-same : a .tables ≡ b .tables
-  pub days-same : a .one ≡ b .one
-  pub second-same : g .two ≡ h .two
-  pub but-for-the-ring : g .number ≡ CONFLICT → SamePastRings (g .one) (h .one) (a .two) (b .two)
-
-pub trial-determined : (r : Rule) (s : WithLists) (g h : Given) (u w : WithLists) → Obeys (trial-meaning r s) s g u → Obeys (trial-meaning r s) s h w → TrialSame g h u w
-trial-determined r s g h u w x y =
-    record {
-      same-number = same;
-      unless-conflict = other;
-      tables-same = tell (ℕ-discrete (g .number) CONFLICT) .0;
-      days-same = tell (ℕ-discrete (g .number) CONFLICT) .1;
-      second-same = tell (ℕ-discrete (g .number) CONFLICT) .2;
-      but-for-the-ring = λ e. rings-past (g .one) (h .one) (s .two) (u .two) (w .two) (x .on-conflict e .0 .ring-given) (y .on-conflict (sym same ∙ e) .0 .ring-given);
-    }
-  where
-    same : g .number ≡ h .number
-    same = numbers-same (trial-meaning r s) s g h u w x y
-
-    other : (g .number ≡ CONFLICT → ⊥) → Same g h u w
-    other = same-unless-conflict (trial-meaning r s) s g h u w x y (trial-fixed r s)
-
-    tell : Dec (g .number ≡ CONFLICT) → (u .tables ≡ w .tables) × (u .one ≡ w .one) × (g .two ≡ h .two)
-    tell (no e) = (ap (λ a. a .tables) (other e .left), ap (λ a. a .one) (other e .left), ap (λ a. a .two) (other e .answers))
-    tell (yes e) = (
-      x .on-conflict e .0 .tables-stay ∙ sym (y .on-conflict (sym same ∙ e) .0 .tables-stay),
-      x .on-conflict e .0 .one-stays ∙ sym (y .on-conflict (sym same ∙ e) .0 .one-stays),
-      x .on-conflict e .1 ∙ sym (y .on-conflict (sym same ∙ e) .1),
-    )
+pub trial-determined : (r : Rule) (s : WithLists) (g h : Given) (u w : WithLists) → Obeys (trial-meaning r s) s g u → Obeys (trial-meaning r s) s h w → Same g h u w
+trial-determined r s g h u w x y = same-whole (trial-meaning r s) s g h u w x y (trial-fixed r s) (trial-conflict-fixed r s)

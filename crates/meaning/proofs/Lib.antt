@@ -1,5 +1,6 @@
 -- What follows from the meaning alone.
 pub mod Below
+pub mod LastDay
 pub mod Whole
 pub mod More
 pub mod Counting
@@ -10,14 +11,17 @@ pub mod Lowering
 pub mod DayBound
 pub mod Needs
 pub mod Lists
-pub mod Determined
 pub mod Put
 pub mod Sequences
+pub mod Screens
 pub mod Tests
 pub mod Rings
 pub mod Reason
 pub mod Decided
+pub mod Shortest
+pub mod Determined
 pub mod Possible
 pub mod AsAdd
 pub mod Starred
+pub mod Clerks
 pub mod ShutOut

@@ -11,7 +11,7 @@ use Rattle.meaning.specs.Bounds.{DONE, CONFLICT}
 use Rattle.meaning.specs.Rules.{Rule}
 use Rattle.meaning.specs.Tables.{Tables}
 use Rattle.meaning.specs.Promise.{bare, Need, First, Meaning, Obeys}
-use Rattle.meaning.specs.Calls.{WithList, WithLists, open-meaning, watch-meaning, add-meaning, mark-meaning, back-meaning, trial-meaning, consequences-meaning, ring-check-meaning}
+use Rattle.meaning.specs.Calls.{WithList, WithLists, open-meaning, watch-meaning, add-meaning, mark-meaning, back-meaning, trial-meaning, consequences-meaning, ring-check-meaning, last-day-meaning}
 
 -- ---- the number is fixed
 
@@ -124,6 +124,9 @@ consequences-rises s = tt
 
 pub ring-check-rises : (r : Rule) (s : WithList) → T (rises DONE (ring-check-meaning r s .asks))
 ring-check-rises r s = tt
+
+pub last-day-rises : (t : Tables) → T (rises DONE (last-day-meaning t .asks))
+last-day-rises t = tt
 
 -- ---- from a need to the answer
 

@@ -1,5 +1,5 @@
 -- No promise is empty: every input has an outcome that its call's promise allows. What the call needs is told need by need; the first that is not met
--- is refused by its number, and where all are met the earliest plan, the ring or the lists are found.
+-- is refused by its number, and where all are met the earliest plan, the reason or the lists are found.
 use Prim.Native.Nat.{ℕ, _-_, _≤_, _<_}
 use native.Mathlib.Omega.{arith}
 use native.Mathlib.Decide.{decLe, decLt}
@@ -11,10 +11,10 @@ use lib.Dec.{T, eqb, eqb-refl, T-not}
 use lib.IntN.{pos}
 use lib.ListN.{length}
 use Rattle.meaning.specs.Bounds.{STEPS, RULES, MARKS, WATCHED, DONE, SHORT, DAMAGED, STEP, AMOUNT, FULL, CONFLICT, NOMARK}
-use Rattle.meaning.specs.Rules.{Rule, InSteps, InAmount, negation, Different, Earliest, Always, Never, Fits, Refutes}
+use Rattle.meaning.specs.Rules.{Rule, InSteps, InAmount, negation, Different, Earliest, Always, Never, Fits, Refutes, Reason, largest}
 use Rattle.meaning.specs.Tables.{Tables, rule-at, at, Room, Sound, opened, with-watched, with-rule, with-mark, newest-mark, without-mark, with-days}
 use Rattle.meaning.specs.Promise.{Given, bare, Meaning, Need, needs, First, Obeys, Past, Planned, moved, Rising, Exactly}
-use Rattle.meaning.specs.Calls.{WithList, WithLists, rules-of, held-in, next-in, rules-and, held-and, RingIn, WatchedThat, IsRingFor, rule-needs, open-meaning, watch-meaning, add-needs, add-meaning, mark-meaning, back-meaning, trial-meaning, consequences-meaning, ring-check-meaning, Asked}
+use Rattle.meaning.specs.Calls.{WithList, WithLists, rules-of, held-in, next-in, rules-and, held-and, RingIn, WatchedThat, IsRingFor, rule-needs, open-meaning, watch-meaning, add-needs, add-meaning, mark-meaning, back-meaning, trial-meaning, consequences-meaning, ring-check-meaning, last-day-meaning, Asked}
 use Rattle.meaning.proofs.More.{more-all}
 use Rattle.meaning.proofs.Theory.{all-implies, earliest-ext, ring-excludes, more-fits, always-is, never-is}
 use Rattle.meaning.proofs.Counting.{different-short, ring-length}
@@ -24,6 +24,7 @@ use Rattle.meaning.proofs.Tests.{both}
 use Rattle.meaning.proofs.Circle.{earliest-exists}
 use Rattle.meaning.proofs.Reason.{fits?, conflict-or-plan}
 use Rattle.meaning.proofs.Decided.{in-steps?, in-amount?, room?, sound?, refutes?}
+use Rattle.meaning.proofs.Shortest.{reason-of}
 use Rattle.meaning.proofs.Lists.{exactly-some, over, over-filled, over-past, over-front, values, values-length, values-at}
 
 -- Some outcome with the number k keeps the promise.
@@ -135,14 +136,14 @@ module _ (r : Rule) (t : Tables) (a : Asked r t) where
   pub first-conflict : {P : Type 0} (l : List ℕ) → P → Refutes (rules-of t) (held-in t) (next-in t) r l → First (add-needs r t P) CONFLICT
   first-conflict l p ring = inr (p, inr (a .sound, inr (a .steps-in, inr (a .amount-in, inr (a .not-full, inl (refl, ring-excludes (rules-of t) (held-in t) (next-in t) r l ring))))))
 
-  ring-in : (l before : List ℕ) → STEPS ≤ length before → Refutes (rules-of t) (held-in t) (next-in t) r l → RingIn r t (length l) before (over l before)
-  ring-in l before long ring =
+  ring-in : (l before : List ℕ) → STEPS ≤ length before → Reason (rules-of t) (held-in t) (next-in t) r l → RingIn r t (length l) before (over l before)
+  ring-in l before long reason =
       over-filled
-      {P = Refutes (rules-of t) (held-in t) (next-in t) r}
+      {P = Reason (rules-of t) (held-in t) (next-in t) r}
       l
       before
-      (omega (arith, long, a .sound .counts-in .steps-in, ring-length (t .counts .steps) (rules-of t) (held-in t) (next-in t) r l (λ i h. a .sound .rules-good i h .steps-in) (a .steps-in) ring))
-      ring
+      (omega (arith, long, a .sound .counts-in .steps-in, ring-length (t .counts .steps) (rules-of t) (held-in t) (next-in t) r l (λ i h. a .sound .rules-good i h .steps-in) (a .steps-in) (reason .refutes)))
+      reason
 
   -- On sound tables a rule that can be asked for fits, with an earliest plan of all rules, or has a refuting ring.
   pub plan-or-ring : ((p : ℕ → ℕ) × Earliest (t .counts .steps) (rules-and r t) (held-and t) p) ⊎ ((l : List ℕ) × Refutes (rules-of t) (held-in t) (next-in t) r l)
@@ -162,7 +163,11 @@ module _ (r : Rule) (t : Tables) (a : Asked r t) where
       r
       (a .steps-in)
 
--- Add, where the earliest plan with the rule is known, and where a ring is known.
+  -- Where a ring refutes the rule there is a reason.
+  pub ring-reason : (l : List ℕ) × Refutes (rules-of t) (held-in t) (next-in t) r l → (l : List ℕ) × Reason (rules-of t) (held-in t) (next-in t) r l
+  ring-reason (l, refutes) = reason-of (t .counts .rules) (rules-of t) (held-in t) (λ i. decLt i (t .counts .rules)) (λ i held. held) (next-in t) r l refutes
+
+-- Add, where the earliest plan with the rule is known, and where the reason is known.
 pub add-met : (r : Rule) (t : Tables) (l : List ℕ) → Asked r t → STEPS ≤ length l → (p : ℕ → ℕ) → Earliest (t .counts .steps) (rules-and r t) (held-and t) p → Allowed (add-meaning r (record { tables = t; list = l })) (record { tables = t; list = l }) DONE
 add-met r t l a long p e =
     allowed-done
@@ -180,14 +185,14 @@ add-met r t l a long p e =
     days : List ℕ
     days = written (t .counts .steps) p (t .days)
 
-pub add-conflict-met : (r : Rule) (t : Tables) (l ring : List ℕ) → Asked r t → STEPS ≤ length l → Refutes (rules-of t) (held-in t) (next-in t) r ring → Allowed (add-meaning r (record { tables = t; list = l })) (record { tables = t; list = l }) CONFLICT
+pub add-conflict-met : (r : Rule) (t : Tables) (l ring : List ℕ) → Asked r t → STEPS ≤ length l → Reason (rules-of t) (held-in t) (next-in t) r ring → Allowed (add-meaning r (record { tables = t; list = l })) (record { tables = t; list = l }) CONFLICT
 add-conflict-met r t l ring a long h =
     allowed-conflict
     (add-meaning r s)
     s
     (length ring)
     (record { tables = t; list = over ring l })
-    (first-conflict r t a ring (a .room, long) h)
+    (first-conflict r t a ring (a .room, long) (h .refutes))
     (record { tables-stay = refl; ring-given = ring-in r t a ring l long h })
   where
     s : WithList
@@ -211,14 +216,14 @@ trial-met r t l m a long-one long-two p e =
     days : List ℕ
     days = written (t .counts .steps) p l
 
-pub trial-conflict-met : (r : Rule) (t : Tables) (l m ring : List ℕ) → Asked r t → STEPS ≤ length l → STEPS ≤ length m → Refutes (rules-of t) (held-in t) (next-in t) r ring → Allowed (trial-meaning r (record { tables = t; one = l; two = m })) (record { tables = t; one = l; two = m }) CONFLICT
+pub trial-conflict-met : (r : Rule) (t : Tables) (l m ring : List ℕ) → Asked r t → STEPS ≤ length l → STEPS ≤ length m → Reason (rules-of t) (held-in t) (next-in t) r ring → Allowed (trial-meaning r (record { tables = t; one = l; two = m })) (record { tables = t; one = l; two = m }) CONFLICT
 trial-conflict-met r t l m ring a long-one long-two h =
     allowed-conflict
     (trial-meaning r s)
     s
     (length ring)
     (record { tables = t; one = l; two = over ring m })
-    (first-conflict r t a ring (a .room, long-one, long-two) h)
+    (first-conflict r t a ring (a .room, long-one, long-two) (h .refutes))
     (record { tables-stay = refl; one-stays = refl; ring-given = ring-in r t a ring m long-two h })
   where
     s : WithLists
@@ -261,6 +266,10 @@ ring-check-met r t l room sound st am known = tell known
     tell : Dec (IsRingFor r s) → Allowed (ring-check-meaning r s) s DONE
     tell (yes h) = allowed-done (ring-check-meaning r s) s 1 0 s (room, (sound, (st, (am, tt)))) (record { verdict = inl (refl, h); no-second = refl; all-stays = refl })
     tell (no h) = allowed-done (ring-check-meaning r s) s 0 0 s (room, (sound, (st, (am, tt)))) (record { verdict = inr (refl, h); no-second = refl; all-stays = refl })
+
+-- Last day.
+pub last-day-met : (t : Tables) → Room t → Sound t → Allowed (last-day-meaning t) t DONE
+last-day-met t room sound = allowed-done (last-day-meaning t) t (largest (t .counts .steps) (at (t .days))) 0 t (room, (sound, tt)) (record { day = refl; no-second = refl; all-stays = refl })
 
 -- ---- every input has an outcome
 
@@ -364,7 +373,7 @@ add-possible r s =
         → ((p : ℕ → ℕ) × Earliest (t .counts .steps) (rules-and r t) (held-and t) p) ⊎ ((x : List ℕ) × Refutes (rules-of t) (held-in t) (next-in t) r x)
         → Outcome (add-meaning r s) s
     answered a long (inl (p, earliest)) = allowed-outcome (add-met r t l a long p earliest)
-    answered a long (inr (x, refutes)) = allowed-outcome (add-conflict-met r t l x a long refutes)
+    answered a long (inr ring) = let (x, reason) = ring-reason r t a ring in allowed-outcome (add-conflict-met r t l x a long reason)
 
 pub trial-possible : (r : Rule) (s : WithLists) → Outcome (trial-meaning r s) s
 trial-possible r s =
@@ -388,7 +397,7 @@ trial-possible r s =
         → ((p : ℕ → ℕ) × Earliest (t .counts .steps) (rules-and r t) (held-and t) p) ⊎ ((x : List ℕ) × Refutes (rules-of t) (held-in t) (next-in t) r x)
         → Outcome (trial-meaning r s) s
     answered a long-one long-two (inl (p, earliest)) = allowed-outcome (trial-met r t l m a long-one long-two p earliest)
-    answered a long-one long-two (inr (x, refutes)) = allowed-outcome (trial-conflict-met r t l m x a long-one long-two refutes)
+    answered a long-one long-two (inr ring) = let (x, reason) = ring-reason r t a ring in allowed-outcome (trial-conflict-met r t l m x a long-one long-two reason)
 
 -- On sound tables it can be told of every rule whether it holds in every arrangement, and whether in none.
 module _ (t : Tables) (sound : Sound t) (r : Rule) where
@@ -428,3 +437,6 @@ ring-check-possible r s =
 
     m : Meaning WithList
     m = ring-check-meaning r s
+
+pub last-day-possible : (t : Tables) → Outcome (last-day-meaning t) t
+last-day-possible t = look-at-tables (last-day-meaning t) t t (Room t) [] (λ g f. f) (room? t) λ room sound last. allowed-outcome (last-day-met t room sound)

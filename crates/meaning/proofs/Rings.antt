@@ -1,18 +1,18 @@
--- Rings: what is said of one is said over any family with the same rules; a test that a list is one, and a search that it is the only one.
+-- Rings: what is said of one is said over any family with the same rules; a test that a list is one, and a search that it is the reason.
 use Prim.Native.Nat.{ℕ, zero, suc, _≤_, _<_}
 use native.Mathlib.Omega.{arith}
 use mathlib.Core.Path.{_≡_, refl, sym, _∙_, ap, subst}
 use mathlib.Core.List.{List, [], _∷_, map}
-use mathlib.Core.Bool.{Bool, true, false, not, _&&_, cond}
+use mathlib.Core.Bool.{Bool, true, false, not, _&&_, _||_, cond}
 use mathlib.Core.Logic.{_⊎_, inl, inr}
 use lib.Dec.{T, ltb, eqb, ltb→lt, eqb→eq, eqb-refl, not-T, T-not}
 use lib.IntN.{ℤ, pos, _+ℤ_}
 use lib.Signed.{_<ℤ_, ltZ}
 use lib.ListN.{length}
-use Rattle.meaning.specs.Rules.{Rule, InSteps, Leads, All, Different, total, Ring, Negative, more, plus, Refutes, RefutesBy}
+use Rattle.meaning.specs.Rules.{Rule, InSteps, Leads, All, Different, total, Ring, Negative, more, plus, Refutes, RefutesBy, Before, Reason}
 use Rattle.meaning.proofs.Theory.{all-implies}
 use Rattle.meaning.proofs.Counting.{ring-length}
-use Rattle.meaning.proofs.Tests.{both, implies, apply, all-below, all-below→}
+use Rattle.meaning.proofs.Tests.{both, either, implies, apply, all-below, all-below→}
 
 -- ---- another family with the same rules
 
@@ -127,7 +127,7 @@ ring-test→ R m r l h = (refl, record { ring = record { leads-back = leads-test
     bad : T (different-test (map (λ i. F i .first) (m ∷ l))) × T (ltZ (total F (m ∷ l)) (pos 0))
     bad = both (different-test (map (λ i. F i .first) (m ∷ l))) (ltZ (total F (m ∷ l)) (pos 0)) (parts .1)
 
--- ---- the only ring
+-- ---- the reason
 
 -- Every list of at most k numbers below m that leads from a to b passes the test P.
 abbrev walks-pass : (ℕ → Rule) → ℕ → ℕ → (List ℕ → Bool) → ℕ → ℕ → Bool
@@ -167,13 +167,52 @@ same-test→ [] (b ∷ m) h = absurd h
 same-test→ (a ∷ l) [] h = absurd h
 same-test→ (a ∷ l) (b ∷ m) h = λ i. eqb→eq a b (both (eqb a b) (same-test l m) h .0) i ∷ same-test→ l m (both (eqb a b) (same-test l m) h .1) i
 
--- Of the lists of at most n numbers below m that lead from r's second step back to its first, only l makes a bad ring with m.
-abbrev pub only-test : (ℕ → Rule) → ℕ → Rule → ℕ → List ℕ → Bool
-only-test R m r n l = walks-pass (more R m r) m n (λ x. implies (bad-test (more R m r) (m ∷ x)) (same-test x l)) (more R m r m .second) (more R m r m .first)
+abbrev before-test : List ℕ → List ℕ → Bool
+before-test [] m = false
+before-test (a ∷ l) [] = false
+before-test (a ∷ l) (b ∷ m) = ltb a b || (eqb a b && before-test l m)
 
-pub only-test→ : (R : ℕ → Rule) (m : ℕ) (r : Rule) (n : ℕ) (l : List ℕ) → ((i : ℕ) → i < m → InSteps n (R i)) → InSteps n r → T (only-test R m r n l) → (x : List ℕ) → Refutes R (λ i. i < m) m r x → x ≡ m ∷ l
-only-test→ R m r n l held new h [] ring = absurd ring
-only-test→ R m r n l held new h (j ∷ x) ring = λ i. ring .0 i ∷ same-test→ x l same i
+before-test→ : (l m : List ℕ) → T (before-test l m) → Before l m
+before-test→ [] m h = absurd h
+before-test→ (a ∷ l) [] h = absurd h
+before-test→ (a ∷ l) (b ∷ m) h = tell (either (ltb a b) (eqb a b && before-test l m) h) (before-test→ l m)
+  where
+    tell : T (ltb a b) ⊎ T (eqb a b && before-test l m) → (T (before-test l m) → Before l m) → Before (a ∷ l) (b ∷ m)
+    tell (inl t) rest = inl (omega (arith, ltb→lt a b t))
+    tell (inr t) rest = let p = both (eqb a b) (before-test l m) t in inr (eqb→eq a b (p .0), rest (p .1))
+
+-- The list x is l, or it is longer, or it is as long and l is before it.
+abbrev NoBetter : List ℕ → List ℕ → Type 0
+NoBetter l x = (x ≡ l) ⊎ ((length l < length x) ⊎ ((length l ≡ length x) × Before l x))
+
+abbrev no-better : List ℕ → List ℕ → Bool
+no-better l x = same-test x l || (ltb (length l) (length x) || (eqb (length l) (length x) && before-test l x))
+
+no-better→ : (l x : List ℕ) → T (no-better l x) → NoBetter l x
+no-better→ l x h = tell (either (same-test x l) (longer || (as-long && before-test l x)) h)
+  where
+    longer : Bool
+    longer = ltb (length l) (length x)
+
+    as-long : Bool
+    as-long = eqb (length l) (length x)
+
+    size : T longer ⊎ T (as-long && before-test l x) → NoBetter l x
+    size (inl t) = inr (inl (ltb→lt (length l) (length x) t))
+    size (inr t) = let p = both as-long (before-test l x) t in inr (inr (eqb→eq (length l) (length x) (p .0), before-test→ l x (p .1)))
+
+    tell : T (same-test x l) ⊎ T (longer || (as-long && before-test l x)) → NoBetter l x
+    tell (inl t) = inl (same-test→ x l t)
+    tell (inr t) = size (either longer (as-long && before-test l x) t)
+
+-- Of the lists of at most n numbers below m that lead from r's second step back to its first, none that makes a bad ring with m is better than l.
+abbrev best-test : (ℕ → Rule) → ℕ → Rule → ℕ → List ℕ → Bool
+best-test R m r n l = walks-pass (more R m r) m n (λ x. implies (bad-test (more R m r) (m ∷ x)) (no-better l x)) (more R m r m .second) (more R m r m .first)
+
+best-test→ :
+    (R : ℕ → Rule) (m : ℕ) (r : Rule) (n : ℕ) (l : List ℕ) → ((i : ℕ) → i < m → InSteps n (R i)) → InSteps n r → T (best-test R m r n l) → (j : ℕ) (x : List ℕ) → Refutes R (λ i. i < m) m r (j ∷ x) → NoBetter l x
+best-test→ R m r n l held new h j x ring =
+    no-better→ l x (apply (bad-test F (m ∷ x)) (no-better l x) (walks-pass→ F m n (λ y. implies (bad-test F (m ∷ y)) (no-better l y)) (F m .second) (F m .first) h x (by .ring .leads-back .1) (by .rest-held) short) bad)
   where
     F : ℕ → Rule
     F = more R m r
@@ -187,5 +226,31 @@ only-test→ R m r n l held new h (j ∷ x) ring = λ i. ring .0 i ∷ same-test
     bad : T (bad-test F (m ∷ x))
     bad = join (different-test (map (λ i. F i .first) (m ∷ x))) (ltZ (total F (m ∷ x)) (pos 0)) (→different-test (map (λ i. F i .first) (m ∷ x)) (by .ring .no-step-twice)) (by .negative .lt)
 
-    same : T (same-test x l)
-    same = apply (bad-test F (m ∷ x)) (same-test x l) (walks-pass→ F m n (λ y. implies (bad-test F (m ∷ y)) (same-test y l)) (F m .second) (F m .first) h x (by .ring .leads-back .1) (by .rest-held) short) bad
+-- m and then l are the reason why r is refused, over n steps, where the numbers below m are held.
+abbrev pub reason-test : (ℕ → Rule) → ℕ → Rule → ℕ → List ℕ → Bool
+reason-test R m r n l = ring-test R m r l && best-test R m r n l
+
+pub reason-test→ :
+    (R : ℕ → Rule) (m : ℕ) (r : Rule) (n : ℕ) (l : List ℕ) → ((i : ℕ) → i < m → InSteps n (R i)) → InSteps n r → T (reason-test R m r n l) → Reason R (λ i. i < m) m r (m ∷ l)
+reason-test→ R m r n l held new h = record { refutes = ring-test→ R m r l (parts .0); fewest = λ x ring. omega (arith, fewest x ring); others-after = others-after }
+  where
+    parts : T (ring-test R m r l) × T (best-test R m r n l)
+    parts = both (ring-test R m r l) (best-test R m r n l) h
+
+    no-shorter : (x : List ℕ) → NoBetter l x → length l ≤ length x
+    no-shorter x (inl same) = omega (arith, ap length same)
+    no-shorter x (inr (inl longer)) = omega (arith, longer)
+    no-shorter x (inr (inr as-long)) = omega (arith, as-long .0)
+
+    fewest : (x : List ℕ) → Refutes R (λ i. i < m) m r x → suc (length l) ≤ length x
+    fewest [] ring = absurd ring
+    fewest (j ∷ x) ring = omega (arith, no-shorter x (best-test→ R m r n l held new (parts .1) j x ring))
+
+    after : (j : ℕ) (x : List ℕ) → j ≡ m → length x ≡ length l → NoBetter l x → (j ∷ x ≡ m ∷ l) ⊎ Before (m ∷ l) (j ∷ x)
+    after j x e long (inl same) = inl (λ i. e i ∷ same i)
+    after j x e long (inr (inl longer)) = absurd (omega (arith, longer))
+    after j x e long (inr (inr as-long)) = inr (inr (sym e, as-long .1))
+
+    others-after : (x : List ℕ) → Refutes R (λ i. i < m) m r x → length x ≡ suc (length l) → (x ≡ m ∷ l) ⊎ Before (m ∷ l) x
+    others-after [] ring long = absurd ring
+    others-after (j ∷ x) ring long = after j x (ring .0) (omega (arith, long)) (best-test→ R m r n l held new (parts .1) j x ring)

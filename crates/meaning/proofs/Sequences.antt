@@ -1,4 +1,4 @@
--- Sequences of calls: the tables stay sound, Consequences answers the exact split, and Back restores what was held at the mark.
+-- Sequences of calls: the tables stay sound, Consequences answers the exact split, the last day stored is the largest, and Back restores what was held at the mark.
 use Prim.Native.Nat.{ℕ, zero, suc, _+_, _-_, _≤_, _<_}
 use native.Mathlib.Omega.{arith}
 use native.Mathlib.Decide.{ℕ-discrete, decLt}
@@ -9,14 +9,16 @@ use lib.IntN.{pos}
 use lib.ListN.{length, length-set}
 use lib.Seq.{getD-set-same, getD-set-other}
 use Rattle.meaning.specs.Bounds.{STEPS, RULES, MARKS, WATCHED, DONE, CONFLICT}
-use Rattle.meaning.specs.Rules.{Rule, InBounds, InSteps, InAmount, Earliest, Plan, more, plus}
+use Rattle.meaning.specs.Rules.{Rule, InBounds, InSteps, InAmount, Earliest, Plan, largest, more, plus}
 use Rattle.meaning.specs.Tables.{Tables, Columns, rule-at, put, at, held, next, ColumnsRoom, Room, InCounts, Sound, opened, with-watched, with-rule, with-mark, newest-mark, without-mark, with-days}
-use Rattle.meaning.specs.Promise.{Given, Meaning, First, Obeys, Past, Planned}
-use Rattle.meaning.specs.Calls.{WithList, WithLists, rules-of, held-in, rules-and, held-and, Opened, Watched, Added, Marked, WentBack, Split, open-meaning, watch-meaning, add-meaning, mark-meaning, back-meaning, trial-meaning, consequences-meaning, ring-check-meaning}
+use Rattle.meaning.specs.Promise.{Given, gave, Meaning, First, Obeys, Past, Planned}
+use Rattle.meaning.specs.Calls.{WithList, WithLists, rules-of, held-in, rules-and, held-and, Opened, Watched, Added, Marked, WentBack, Split, LastDayTold, open-meaning, watch-meaning, add-meaning, mark-meaning, back-meaning, trial-meaning, consequences-meaning, ring-check-meaning, last-day-meaning}
 use Rattle.meaning.specs.Runs.{Call, Made, Run, KeepsMark}
 use Rattle.meaning.proofs.Theory.{earliest-unique, earliest-same}
 use Rattle.meaning.proofs.Needs.{AllMet, done-met, all-met, first-same}
 use Rattle.meaning.proofs.Needs as needs
+use Rattle.meaning.proofs.LastDay.{largest-same}
+use Rattle.meaning.proofs.Determined.{given-eq}
 use Rattle.meaning.proofs.Put.{put-new, put-old, put-more, put-room}
 
 -- The tables are sound and have room.
@@ -49,6 +51,7 @@ opened-kept n t u a b room lo hi x = subst Kept (sym (x .emptied)) kept
                 marks-never-fall = λ i j h g. absurd (omega arith);
                 marks-held = λ i h. absurd (omega arith);
                 days-earliest = zeros;
+                last-largest = omega arith;
               };
           room =
               record {
@@ -78,6 +81,7 @@ watched-kept r t k st am full =
             marks-never-fall = s .marks-never-fall;
             marks-held = s .marks-held;
             days-earliest = s .days-earliest;
+            last-largest = s .last-largest;
           };
       room =
           record {
@@ -123,6 +127,7 @@ added-kept r t u k st am full is p = subst Kept (sym is) kept
                 marks-never-fall = s .marks-never-fall;
                 marks-held = λ i h. omega (arith, s .marks-held i h);
                 days-earliest = planned-put r t (at (u .days)) (k .room) full (p .earliest);
+                last-largest = omega arith;
               };
           room =
               record {
@@ -144,6 +149,7 @@ marked-kept t k full =
             marks-never-fall = λ i j h g. rise i j h g (ℕ-discrete j m) (ℕ-discrete i m);
             marks-held = λ i h. bound i h (ℕ-discrete i m);
             days-earliest = s .days-earliest;
+            last-largest = s .last-largest;
           };
       room =
           record {
@@ -198,6 +204,7 @@ back-kept t u k some is p = subst Kept (sym is) kept
                 marks-never-fall = λ i j h g. s .marks-never-fall i j h (omega arith);
                 marks-held = λ i h. omega (arith, fewer, s .marks-never-fall i (t .counts .marks - 1) (omega arith) (omega arith));
                 days-earliest = p .earliest;
+                last-largest = omega arith;
               };
           room =
               record {
@@ -306,6 +313,8 @@ through P (Call.checks-ring r l l′) t u g x s =
   where
     b : WithList
     b = record { tables = t; list = l }
+through P Call.asks-last-day t u g x s =
+    by-outcome (last-day-meaning t) t u g x (P u) (λ e. stays P t u (s .at-rest) (x .when-done e .all-stays)) (λ e. absurd (x .on-conflict e .0)) (stays P t u (s .at-rest))
 
 -- Every call, refused ones included, leaves sound tables with room where it found them so.
 pub call-keeps : (c : Call) (t u : Tables) (g : Given) → Made c t g u → Kept t → Kept u
@@ -336,7 +345,23 @@ run-kept t (Run.then s k c g u x) = call-keeps c s u g x (run-kept s k)
 
 -- ---- demand 3: one question splits the watched rules exactly
 
--- After any sequence, with lists long enough, Consequences is carried out and what it gives is exactly the split.
+-- On sound tables with room, with lists long enough, Consequences is carried out and what it gives is exactly the split.
+pub kept-splits :
+    (t : Tables) (l m l′ m′ : List ℕ) (g : Given) (u : Tables)
+    → Kept t
+    → t .counts .watched ≤ length l
+    → t .counts .watched ≤ length m
+    → Made (Call.asks-consequences l l′ m m′) t g u
+    → (g .number ≡ DONE) × Split (record { tables = t; one = l; two = m }) (g .one) (g .two) (record { tables = u; one = l′; two = m′ })
+kept-splits t l m l′ m′ g u k long-one long-two x = (done, x .when-done done)
+  where
+    b : WithLists
+    b = record { tables = t; one = l; two = m }
+
+    done : g .number ≡ DONE
+    done = first-same (consequences-meaning b .asks) (g .number) DONE (x .first-unmet) (all-met (consequences-meaning b .asks) ((k .room, long-one, long-two), (k .sound, tt)))
+
+-- So after any sequence.
 pub run-splits :
     (t : Tables) (l m l′ m′ : List ℕ) (g : Given) (u : Tables)
     → Run t
@@ -344,16 +369,31 @@ pub run-splits :
     → t .counts .watched ≤ length m
     → Made (Call.asks-consequences l l′ m m′) t g u
     → (g .number ≡ DONE) × Split (record { tables = t; one = l; two = m }) (g .one) (g .two) (record { tables = u; one = l′; two = m′ })
-run-splits t l m l′ m′ g u run long-one long-two x = (done, x .when-done done)
+run-splits t l m l′ m′ g u run = kept-splits t l m l′ m′ g u (run-kept t run)
+
+-- ---- the last day
+
+-- On sound tables with room the last day stored is the largest day of the plan, and Last day is carried out, gives it and changes nothing.
+pub kept-last :
+    (t : Tables) (g : Given) (u : Tables)
+    → Kept t
+    → Made Call.asks-last-day t g u
+    → (t .counts .last ≡ largest (t .counts .steps) (at (t .days))) × (g ≡ gave DONE (t .counts .last) 0) × (u ≡ t)
+kept-last t g u k x = (k .sound .last-largest, given-eq g (gave DONE (t .counts .last) 0) done (told .day ∙ sym (k .sound .last-largest)) (told .no-second), told .all-stays)
   where
-    b : WithLists
-    b = record { tables = t; one = l; two = m }
-
-    k : Kept t
-    k = run-kept t run
-
     done : g .number ≡ DONE
-    done = first-same (consequences-meaning b .asks) (g .number) DONE (x .first-unmet) (all-met (consequences-meaning b .asks) ((k .room, long-one, long-two), (k .sound, tt)))
+    done = first-same (last-day-meaning t .asks) (g .number) DONE (x .first-unmet) (all-met (last-day-meaning t .asks) (k .room, (k .sound, tt)))
+
+    told : LastDayTold t (g .one) (g .two) u
+    told = x .when-done done
+
+-- So after any sequence.
+pub run-last :
+    (t : Tables) (g : Given) (u : Tables)
+    → Run t
+    → Made Call.asks-last-day t g u
+    → (t .counts .last ≡ largest (t .counts .steps) (at (t .days))) × (g ≡ gave DONE (t .counts .last) 0) × (u ≡ t)
+run-last t g u run = kept-last t g u (run-kept t run)
 
 -- ---- Back restores
 
@@ -366,7 +406,7 @@ pub record Under (s t : Tables) : Type 0 where
   pub older-marks : (i : ℕ) → i < s .counts .marks → at (t .marks) i ≡ at (s .marks) i
   pub older-rules : (i : ℕ) → i < s .counts .rules → rule-at (t .rules) i ≡ rule-at (s .rules) i
 
--- Rules, steps, marks and days are those of s.
+-- Rules, steps, marks and days are those of s, and so is the last day.
 pub record Restored (s u : Tables) : Type 0 where
   pub steps : u .counts .steps ≡ s .counts .steps
   pub rules : u .counts .rules ≡ s .counts .rules
@@ -374,6 +414,7 @@ pub record Restored (s u : Tables) : Type 0 where
   pub each-rule : (i : ℕ) → i < s .counts .rules → rule-at (u .rules) i ≡ rule-at (s .rules) i
   pub each-mark : (i : ℕ) → i < s .counts .marks → at (u .marks) i ≡ at (s .marks) i
   pub each-day : (v : ℕ) → v < s .counts .steps → at (u .days) v ≡ at (s .days) v
+  pub last : u .counts .last ≡ s .counts .last
 
 under-mark : (s : Tables) → Kept s → s .counts .marks < MARKS → Under s (with-mark s)
 under-mark s k full =
@@ -450,8 +491,8 @@ pub under-calls : (s u : Tables) (t : Tables) → Under s u → KeepsMark (s .co
 under-calls s u t w KeepsMark.no-call = w
 under-calls s u t w (KeepsMark.one-more v ks c g t′ x h) = under-call s c v t′ g x h (under-calls s u v w ks)
 
--- An accepted Mark at sound tables s, then any calls that leave that mark open, then the accepted Back that drops it: rules, steps, marks
--- and days are those of s, and the watched list is as it was just before.
+-- An accepted Mark at sound tables s, then any calls that leave that mark open, then the accepted Back that drops it: rules, steps, marks,
+-- days and the last day are those of s, and the watched list is as it was just before.
 pub back-restores :
     (s : Tables)
     → Kept s
@@ -490,6 +531,9 @@ back-restores s k g marked x done t ks last h u y back =
         (λ i l. w .older-rules i l)
         (subst (λ n. Earliest n (rules-of t) (held-in (without-mark t)) (at (u .days))) (w .same-steps) (y .when-done back .planned .earliest))
 
+    each-day : (v : ℕ) → v < s .counts .steps → at (u .days) v ≡ at (s .days) v
+    each-day = earliest-unique same (k .sound .days-earliest)
+
     restored : Restored s (with-days (u .days) (without-mark t))
     restored =
         record {
@@ -498,5 +542,9 @@ back-restores s k g marked x done t ks last h u y back =
           marks = omega arith;
           each-rule = w .older-rules;
           each-mark = w .older-marks;
-          each-day = earliest-unique same (k .sound .days-earliest);
+          each-day = each-day;
+          last =
+              ap (λ n. largest n (at (u .days))) (w .same-steps)
+              ∙ largest-same (s .counts .steps) (at (u .days)) (at (s .days)) each-day
+              ∙ sym (k .sound .last-largest);
         }

@@ -4,10 +4,10 @@ use native.Mathlib.Omega.{arith}
 use mathlib.Core.Path.{_≡_}
 use mathlib.Core.Logic.{_↔_}
 use lib.IntN.{ℤ, pos, _+ℤ_}
-use Rattle.meaning.specs.Rules.{Rule, InSteps, Arrangement, Plan}
+use Rattle.meaning.specs.Rules.{Rule, InSteps, Arrangement, Plan, largest}
 use Rattle.meaning.specs.Reckoning.{up, dn}
 use Rattle.meaning.proofs.Whole.{→eq, add-is, keeps→, →plan}
-use Rattle.meaning.proofs.Below.{largest, largest-over}
+use Rattle.meaning.proofs.LastDay.{largest-over}
 
 -- A plan that is the arrangement d, shifted, on the steps below n.
 pub record Shifted (n : ℕ) (R : ℕ → Rule) (H : ℕ → Type 0) (d : ℕ → ℤ) : Type 0 where
@@ -18,7 +18,7 @@ pub record Shifted (n : ℕ) (R : ℕ → Rule) (H : ℕ → Type 0) (d : ℕ �
 
 -- How far the lowest day below n lies below 0.
 depth : (ℕ → ℤ) → ℕ → ℕ
-depth d n = largest (λ v. dn (d v)) n
+depth d n = largest n (λ v. dn (d v))
 
 -- The day of v, raised by so much.
 raised : (ℕ → ℤ) → ℕ → ℕ → ℕ
@@ -27,7 +27,7 @@ raised d n v = up (d v) + depth d n - dn (d v)
 -- The raised day, with no subtraction.
 raised-is : (d : ℕ → ℤ) (n v : ℕ) → v < n → raised d n v + dn (d v) ≡ up (d v) + depth d n
 unfolding raised depth
-raised-is d n v below = omega (arith, largest-over (λ w. dn (d w)) n v below)
+raised-is d n v below = omega (arith, largest-over n (λ w. dn (d w)) v below)
 
 -- An arrangement of rules over n steps, shifted, is a plan.
 pub shifted : (n : ℕ) (R : ℕ → Rule) (H : ℕ → Type 0) → ((i : ℕ) → H i → InSteps n (R i)) → (d : ℕ → ℤ) → Arrangement R H d → Shifted n R H d

@@ -13,7 +13,7 @@ use lib.Signed.{_<ℤ_}
 use lib.ListN.{length, replicate, take, length-replicate}
 use Rattle.meaning.specs.Bounds.{STEPS, RULES, MARKS, WATCHED, DONE, FULL, CONFLICT}
 use Rattle.meaning.specs.declared.Counts.{Counts}
-use Rattle.meaning.specs.Rules.{Rule, Keeps, Plan, Earliest, Leads, All, Different, total, more, Tight}
+use Rattle.meaning.specs.Rules.{Rule, Keeps, Plan, Earliest, largest, Leads, All, Different, total, more, Tight}
 use Rattle.meaning.specs.Tables.{Tables, Columns, rule-at, at, ColumnsRoom, Room, with-days, steps-alone}
 use Rattle.meaning.specs.Promise.{Given, bare, Meaning, Obeys, Past, In, Exactly}
 use Rattle.meaning.specs.Calls.{WithList, WithLists, rules-of, held-in, next-in, rules-and, held-and, add-meaning, back-meaning, consequences-meaning}
@@ -28,6 +28,7 @@ use Rattle.meaning.proofs.Lists.{past-back, over, over-take, exactly-so
 use lib.Dec.{T, eqb}
 use borrow.Author.Tests.{eq-eqb, ne-eqb}
 use Rattle.meaning.proofs.Possible.{Outcome, written, written-at, written-past, add-possible, back-possible, consequences-possible}
+use Rattle.meaning.proofs.LastDay.{largest-same}
 use Rattle.meaning.proofs.Tests.{both, nth, Below, plan-test→}
 use Rattle.meaning.proofs.Starred.{Shown, Shows, next-shown, row-test, rows-test, fresh-shown, row-holds, fresh-holds}
 
@@ -241,7 +242,7 @@ number-done e = ap (λ (h : Given). h .number) e
 
 -- ---- the engines that the paper names
 
--- Tables that differ in the days of the first n steps alone.
+-- Tables that differ in the days of the first n steps alone, and in the last day, which follows from these.
 abbrev pub SameButDays : ℕ → Tables → Tables → Type 0
 SameButDays n t u = (with-days [] t ≡ with-days [] u) × Past n (u .days) (t .days)
 
@@ -455,11 +456,19 @@ coasts-afterwards = record {
         later : Done 1 0 (c (record { tables = u .tables; one = places (w .tables); two = places (w .tables) }) .answer)
         later = subst (λ (k : ℕ). Done 1 0 (c (record { tables = u .tables; one = replicate k 0; two = replicate k 0 }) .answer)) watched-same (must-split c keeps-c (next-shown m press) u (0 ∷ []) [] tt .0)
 
+-- The last day of what is shown.
+last-shown : (m : Shown) (w : Reached m) → w .tables .counts .last ≡ largest (length (m .days)) (at (m .days))
+last-shown m w =
+    w .shows .kept .sound .last-largest
+    ∙ ap (λ n. largest n (at (w .tables .days))) (w .shows .steps)
+    ∙ largest-same (length (m .days)) (at (w .tables .days)) (at (m .days)) (λ v below. w .shows .each-day v (omega (arith, w .shows .steps)))
+
 -- One that invents its count of moved steps: the count hangs on the rule and the counts of the tables alone.
 abbrev pub InventsCount : AddEngine → Type 0
 InventsCount e = (count : Rule → Counts → ℕ) × ((r : Rule) (s : WithList) → e r s .answer .number ≡ DONE → e r s .answer .one ≡ count r (s .tables .counts))
 
 pub invents-its-count : Excluded AddKeeps InventsCount (λ x y. (r : Rule) (s : WithList) → But DONE CountDiffers (x r s) (y r s))
+unfolding largest
 invents-its-count = record {
   never = never;
   right = right-add;
@@ -475,12 +484,18 @@ invents-its-count = record {
     r : Rule
     r = rule 0 1 (minus 2)
 
-    -- Cutting and drying is held already; and another rule is held instead.
+    -- Cutting and drying is held already; and another rule is held instead, with the same last day.
     held : Reached (shown-after (fresh-shown four) (dry ∷ []))
     held = after (dry ∷ []) tt
 
-    not-held : Reached (shown-after (fresh-shown four) (Row.add (rule 3 3 (pos 0)) 0 four ∷ []))
-    not-held = after (Row.add (rule 3 3 (pos 0)) 0 four ∷ []) tt
+    cart : Row
+    cart = Row.add (rule 0 3 (minus 2)) 1 (0 ∷ 0 ∷ 0 ∷ 2 ∷ [])
+
+    not-held : Reached (shown-after (fresh-shown four) (cart ∷ []))
+    not-held = after (cart ∷ []) tt
+
+    same-last : held .tables .counts .last ≡ not-held .tables .counts .last
+    same-last = last-shown (shown-after (fresh-shown four) (dry ∷ [])) held ∙ sym (last-shown (shown-after (fresh-shown four) (cart ∷ [])) not-held)
 
     same-counts : held .tables .counts ≡ not-held .tables .counts
     same-counts i =
@@ -489,12 +504,13 @@ invents-its-count = record {
           rules = (held .shows .rules ∙ sym (not-held .shows .rules)) i;
           marks = (held .shows .marks ∙ sym (not-held .shows .marks)) i;
           watched = (held .shows .watched ∙ sym (not-held .shows .watched)) i;
+          last = same-last i;
         }
 
     never : (e : AddEngine) → AddKeeps e → InventsCount e → ⊥
     never e keeps (count, same) =
         let none = must-add e keeps (shown-after (fresh-shown four) (dry ∷ [])) held r 0 (0 ∷ 2 ∷ 0 ∷ 0 ∷ []) tt in
-        let some = must-add e keeps (shown-after (fresh-shown four) (Row.add (rule 3 3 (pos 0)) 0 four ∷ [])) not-held r 1 (0 ∷ 2 ∷ 0 ∷ 0 ∷ []) tt in
+        let some = must-add e keeps (shown-after (fresh-shown four) (cart ∷ [])) not-held r 1 (0 ∷ 2 ∷ 0 ∷ 2 ∷ []) tt in
         omega (
           arith,
           same r (lent held) (number-done (none .0)),
@@ -592,7 +608,7 @@ ReportsWalk e =
 pub reports-a-walk : Excluded AddKeeps ReportsWalk (λ x y. (r : Rule) (s : WithList) → But CONFLICT RingDiffers (x r s) (y r s))
 reports-a-walk = record {
   never = λ e keeps (r, s, conflict, leads, twice).
-      twice (refutes-different (rules-of (s .tables)) (held-in (s .tables)) (next-in (s .tables)) r (take (e r s .answer .one) (e r s .after .list)) (keeps r s .on-conflict conflict .0 .ring-given .holds));
+      twice (refutes-different (rules-of (s .tables)) (held-in (s .tables)) (next-in (s .tables)) r (take (e r s .answer .one) (e r s .after .list)) (keeps r s .on-conflict conflict .0 .ring-given .holds .refutes));
   right = right-add;
   right-keeps = right-add-keeps;
   wrong = λ r s. spoiled CONFLICT (walks s) (right-add r s);

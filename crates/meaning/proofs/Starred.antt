@@ -1,4 +1,4 @@
--- The starred cases hold: a test that the checker computes over the whole table, and one law that turns a passed test into the claim.
+-- The starred cases hold, and those of the reason: a test that the checker computes over the whole table, and one law that turns a passed test into the claim.
 use Prim.Native.Nat.{ℕ, zero, suc, _+_, _-_, _≤_, _<_}
 use native.Mathlib.Omega.{arith}
 use native.Mathlib.Decide.{ℕ-discrete, decLt}
@@ -12,16 +12,17 @@ use lib.Signed.{leZ}
 use lib.ListN.{length, getD, take, length-append, length-take, List·getD-append}
 use lib.Seq.{getD-set-same, getD-set-other, getD-append-seam, getD-take, length-take-le}
 use Rattle.meaning.specs.Bounds.{STEPS, RULES, MARKS, WATCHED, DONE, CONFLICT}
-use Rattle.meaning.specs.Rules.{Rule, Keeps, All, InSteps, InBounds, negation, Arrangement, Earliest, Always, Never, Fits, total, more, plus, Refutes}
+use Rattle.meaning.specs.Rules.{Rule, Keeps, All, InSteps, InBounds, negation, Arrangement, Earliest, Always, Never, Fits, total, more, plus, Reason}
 use Rattle.meaning.specs.Tables.{Tables, Columns, rule-at, put, at, ColumnsRoom, Room, Sound, opened, with-watched, with-rule, with-mark, newest-mark, without-mark, with-days}
 use Rattle.meaning.specs.Promise.{Given, First, Exactly, moved}
 use Rattle.meaning.specs.Calls.{WithList, WithLists, rules-of, held-in, next-in, rules-and, held-and, Opened, Added, WatchedThat, open-meaning, watch-meaning, add-meaning, mark-meaning, back-meaning, consequences-meaning, Asked}
 use Rattle.meaning.specs.Runs.{Call, Made, Run}
-use Rattle.meaning.specs.Cases.{Row, Case, Days, Done, Possible, Says, Claim, Proved, starred}
+use Rattle.meaning.specs.Cases.{Row, Case, Days, Done, Possible, Says, Claim, Proved, starred, reasons}
 use Rattle.meaning.proofs.Whole.{le→, →eq}
 use Rattle.meaning.proofs.Theory.{rule-eq, all-implies, arrangement-same, earliest-same, earliest-unique, not-both, never-is-always-not}
 use Rattle.meaning.proofs.Needs.{AllMet, first-same, all-met}
 use Rattle.meaning.proofs.More.{more-new, more-old}
+use Rattle.meaning.proofs.Shortest.{reason-unique, reason-same}
 use Rattle.meaning.proofs.Determined.{given-eq}
 use Rattle.meaning.proofs.Lists.{exactly-same, filled-length, moved-same}
 use Rattle.meaning.proofs.Put.{put-new, put-old}
@@ -29,7 +30,7 @@ use Rattle.meaning.proofs.Sequences.{Kept, call-keeps, run-kept}
 use Rattle.meaning.proofs.Possible as can
 use Rattle.meaning.proofs.Possible.{Allowed}
 use Rattle.meaning.proofs.Tests.{both, either, nth, Below, every, every-at, in-bounds, in-bounds→, earliest-test, earliest-test→, all-below, all-below→, always-test, walk-test→, fits-test, fits-test→, passing, passing-exactly}
-use Rattle.meaning.proofs.Rings.{more-same, total-same, refutes-same, same-test→, same-test, ring-test, ring-test→, only-test, only-test→}
+use Rattle.meaning.proofs.Rings.{more-same, total-same, same-test→, same-test, reason-test, reason-test→}
 
 -- ---- what the tables show
 
@@ -93,7 +94,7 @@ row-test m (Row.add r k days) =
     (asked-test m r && (eqb (length days) (length (m .days)) && earliest-test (length (m .days)) (m .rules ++ (r ∷ [])) days)) && eqb k (moved (length (m .days)) (m .days) days)
 row-test m (Row.refuse r ring sum) =
     (asked-test m r && (same-test ring (length (m .rules) ∷ rest-of ring) && int-same (total (more (nth (m .rules)) (length (m .rules)) r) ring) sum))
-    && (ring-test (nth (m .rules)) (length (m .rules)) r (rest-of ring) && only-test (nth (m .rules)) (length (m .rules)) r (length (m .days)) (rest-of ring))
+    && reason-test (nth (m .rules)) (length (m .rules)) r (length (m .days)) (rest-of ring)
 row-test m Row.mark = ltb (length (m .marks)) MARKS
 row-test m (Row.back k days) =
     (leb 1 (length (m .marks)) && eqb k (at (m .marks) (length (m .marks) - 1)))
@@ -196,12 +197,9 @@ module _ (t : Tables) (m : Shown) (w : Shows t m) where
       same i (inl e) = nth-new (m .rules) r i (e ∙ w .rules) ∙ sym (ap (rules-and r t) e ∙ more-new (rules-of t) (next-in t) r)
       same i (inr g) = nth-old (m .rules) r i (omega (arith, w .rules, g)) ∙ sym (w .each-rule i g) ∙ sym (more-old (rules-of t) (next-in t) r i (λ e. omega (arith, g, e)))
 
-  -- Rings of the list are rings of the tables, and the other way round.
-  to-tables : (r : Rule) (l : List ℕ) → Refutes (nth (m .rules)) (Below (m .rules)) (length (m .rules)) r l → Refutes (rules-of t) (held-in t) (next-in t) r l
-  to-tables r l h = refutes-same (nth (m .rules)) (rules-of t) (held-in t) (next-in t) r (λ i g. sym (w .each-rule i g)) l (subst (λ k. Refutes (nth (m .rules)) (λ i. i < k) k r l) (sym (w .rules)) h)
-
-  from-tables : (r : Rule) (l : List ℕ) → Refutes (rules-of t) (held-in t) (next-in t) r l → Refutes (nth (m .rules)) (Below (m .rules)) (length (m .rules)) r l
-  from-tables r l h = subst (λ k. Refutes (nth (m .rules)) (λ i. i < k) k r l) (w .rules) (refutes-same (rules-of t) (nth (m .rules)) (held-in t) (next-in t) r (λ i g. w .each-rule i g) l h)
+  -- The reason over the list is the reason over the tables.
+  to-tables : (r : Rule) (l : List ℕ) → Reason (nth (m .rules)) (Below (m .rules)) (length (m .rules)) r l → Reason (rules-of t) (held-in t) (next-in t) r l
+  to-tables r l h = reason-same (nth (m .rules)) (rules-of t) (held-in t) (next-in t) r (λ i g. sym (w .each-rule i g)) l (subst (λ k. Reason (nth (m .rules)) (λ i. i < k) k r l) (sym (w .rules)) h)
 
 -- ---- Add, accepted
 
@@ -295,8 +293,8 @@ refuse-holds t m w r ring sum X h go l long = (whatever, possible)
     rest : List ℕ
     rest = rest-of ring
 
-    parts : T (asked-test m r && (same-test ring (k ∷ rest) && int-same (total (more R k r) ring) sum)) × T (ring-test R k r rest && only-test R k r (length (m .days)) rest)
-    parts = both (asked-test m r && (same-test ring (k ∷ rest) && int-same (total (more R k r) ring) sum)) (ring-test R k r rest && only-test R k r (length (m .days)) rest) h
+    parts : T (asked-test m r && (same-test ring (k ∷ rest) && int-same (total (more R k r) ring) sum)) × T (reason-test R k r (length (m .days)) rest)
+    parts = both (asked-test m r && (same-test ring (k ∷ rest) && int-same (total (more R k r) ring) sum)) (reason-test R k r (length (m .days)) rest) h
 
     asks : T (asked-test m r) × T (same-test ring (k ∷ rest) && int-same (total (more R k r) ring) sum)
     asks = both (asked-test m r) (same-test ring (k ∷ rest) && int-same (total (more R k r) ring) sum) (parts .0)
@@ -304,26 +302,26 @@ refuse-holds t m w r ring sum X h go l long = (whatever, possible)
     form : T (same-test ring (k ∷ rest)) × T (int-same (total (more R k r) ring) sum)
     form = both (same-test ring (k ∷ rest)) (int-same (total (more R k r) ring) sum) (asks .1)
 
-    rings : T (ring-test R k r rest) × T (only-test R k r (length (m .days)) rest)
-    rings = both (ring-test R k r rest) (only-test R k r (length (m .days)) rest) (parts .1)
-
     ok : Asked r t
     ok = asked t m w r (asks .0)
 
     split-ring : ring ≡ k ∷ rest
     split-ring = same-test→ ring (k ∷ rest) (form .0)
 
-    found : Refutes R (Below (m .rules)) k r ring
-    found = subst (Refutes R (Below (m .rules)) k r) (sym split-ring) (ring-test→ R k r rest (rings .0))
-
     in-list : (i : ℕ) → i < k → InSteps (length (m .days)) (R i)
     in-list i g = subst (λ z. InSteps z (R i)) (w .steps) (subst (InSteps (t .counts .steps)) (w .each-rule i (omega (arith, w .rules, g))) (ok .sound .rules-good i (omega (arith, w .rules, g)) .steps-in))
+
+    found : Reason R (Below (m .rules)) k r (k ∷ rest)
+    found = reason-test→ R k r (length (m .days)) rest in-list (subst (λ z. InSteps z r) (w .steps) (ok .steps-in)) (parts .1)
+
+    reason : Reason (rules-of t) (held-in t) (next-in t) r ring
+    reason = to-tables t m w r ring (subst (Reason R (Below (m .rules)) k r) (sym split-ring) found)
 
     b : WithList
     b = record { tables = t; list = l }
 
     all : Allowed (add-meaning r b) b CONFLICT
-    all = can.add-conflict-met r t l ring ok long (to-tables t m w r ring found)
+    all = can.add-conflict-met r t l ring ok long reason
 
     possible : (l′ : List ℕ) × Possible (Call.adds r l l′) t
     possible = (all .after .list, record { answer = all .answer; tables = all .after .tables; made = all .keeps })
@@ -336,22 +334,16 @@ refuse-holds t m w r ring sum X h go l long = (whatever, possible)
         same-at i g = more-same (rules-of t) R (held-in t) (next-in t) r (λ j p. w .each-rule j p) i g ∙ ap (λ z. more R z r i) (w .rules)
 
         members : All (λ i. rules-and r t i ≡ more R k r i) ring
-        members = subst (All (λ i. rules-and r t i ≡ more R k r i)) (sym split-ring) (same-at k (inl (sym (w .rules))), all-implies (λ i g. same-at i (inr (omega (arith, w .rules, g)))) rest (ring-test→ R k r rest (rings .0) .1 .rest-held))
+        members = subst (All (λ i. rules-and r t i ≡ more R k r i)) (sym split-ring) (same-at k (inl (sym (w .rules))), all-implies (λ i g. same-at i (inr (omega (arith, w .rules, g)))) rest (found .refutes .1 .rest-held))
 
     whatever :
         (g : Given) (u : Tables) (l′ : List ℕ)
         → Made (Call.adds r l l′) t g u
         → (g .number ≡ CONFLICT) × (take (g .one) l′ ≡ ring) × (total (rules-and r t) ring ≡ sum) × X u
-    whatever g u l′ x = (conflict, only, same-sum, go u (subst (λ z. Shows z m) (sym (x .on-conflict conflict .0 .tables-stay)) w))
+    whatever g u l′ x = (conflict, reason-unique (rules-of t) (held-in t) (next-in t) r (take (g .one) l′) ring (x .on-conflict conflict .0 .ring-given .holds) reason, same-sum, go u (subst (λ z. Shows z m) (sym (x .on-conflict conflict .0 .tables-stay)) w))
       where
         conflict : g .number ≡ CONFLICT
         conflict = first-same (add-meaning r b .asks) (g .number) CONFLICT (x .first-unmet) (subst (First (add-meaning r b .asks)) (all .number-is) (all .keeps .first-unmet))
-
-        only : take (g .one) l′ ≡ ring
-        only =
-            only-test→ R k r (length (m .days)) rest in-list (subst (λ z. InSteps z r) (w .steps) (ok .steps-in)) (rings .1) (take (g .one) l′)
-            (from-tables t m w r (take (g .one) l′) (x .on-conflict conflict .0 .ring-given .holds))
-            ∙ sym split-ring
 
 -- ---- Mark, Watch and Back
 
@@ -752,3 +744,7 @@ cases-hold (c ∷ l) h = let p = both (case-test c) (cases-test l) h in (case-ho
 -- The starred cases, all of them.
 pub starred-proved : AllProved starred
 starred-proved = cases-hold starred passed
+
+-- The cases of the reason.
+pub reasons-proved : AllProved reasons
+reasons-proved = cases-hold reasons tt

@@ -1,11 +1,11 @@
--- The eight calls: what each needs, in order, and what it gives and leaves.
+-- The nine calls: what each needs, in order, and what it gives and leaves.
 use Prim.Native.Nat.{ℕ, _≤_, _<_}
 use mathlib.Core.Path.{_≡_}
 use mathlib.Core.List.{List, [], _∷_}
 use mathlib.Core.Logic.{_⊎_}
 use lib.ListN.{length}
 use Rattle.meaning.specs.Bounds.{STEPS, RULES, MARKS, WATCHED, SHORT, DAMAGED, STEP, AMOUNT, FULL, CONFLICT, NOMARK}
-use Rattle.meaning.specs.Rules.{Rule, InSteps, InAmount, Fits, Always, Never, Refutes, more, plus}
+use Rattle.meaning.specs.Rules.{Rule, InSteps, InAmount, Fits, Always, Never, Refutes, Reason, largest, more, plus}
 use Rattle.meaning.specs.Tables.{Tables, rule-at, at, held, next, Room, Sound, opened, with-watched, with-rule, with-mark, without-mark, with-days}
 use Rattle.meaning.specs.Promise.{Meaning, Need, needs, no-conflict, Past, Filled, Planned, moved, Exactly}
 
@@ -87,9 +87,9 @@ pub record Asked (r : Rule) (t : Tables) : Type 0 where
   pub amount-in : InAmount (r .amount)
   pub not-full : t .counts .rules < RULES
 
--- The ring of a conflict, in the list lent for it.
+-- The ring of a conflict, the reason why the rule is refused, in the list lent for it.
 abbrev pub RingIn : Rule → Tables → ℕ → List ℕ → List ℕ → Type 0
-RingIn r t k before after = Filled k (Refutes (rules-of t) (held-in t) (next-in t) r) before after
+RingIn r t k before after = Filled k (Reason (rules-of t) (held-in t) (next-in t) r) before after
 
 -- **Add**, accepted: the rule is held, the days are the earliest plan, and the count is that of the steps that moved.
 pub record Added (r : Rule) (before : WithList) (a b : ℕ) (after : WithList) : Type 0 where
@@ -190,5 +190,18 @@ abbrev pub ring-check-meaning : Rule → WithList → Meaning WithList
 ring-check-meaning r before = record {
   asks = needs SHORT (Room (before .tables)) ∷ needs DAMAGED (Sound (before .tables)) ∷ rule-needs (before .tables .counts .steps) r [];
   done = RingChecked r before;
+  conflict = no-conflict;
+}
+
+-- **Last day**: the largest day of the plan over all steps. Nothing is written.
+pub record LastDayTold (before : Tables) (a b : ℕ) (after : Tables) : Type 0 where
+  pub day : a ≡ largest (before .counts .steps) (at (before .days))
+  pub no-second : b ≡ 0
+  pub all-stays : after ≡ before
+
+abbrev pub last-day-meaning : Tables → Meaning Tables
+last-day-meaning before = record {
+  asks = needs SHORT (Room before) ∷ needs DAMAGED (Sound before) ∷ [];
+  done = LastDayTold before;
   conflict = no-conflict;
 }

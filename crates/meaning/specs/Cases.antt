@@ -1,4 +1,4 @@
--- The worked cases that are to be proved: one table, and what it claims.
+-- The worked cases that are to be proved: a table of the paper's starred ones, one of those of the reason, and what each claims.
 use Prim.Native.Nat.{ℕ, _≤_, _<_}
 use mathlib.Core.Path.{_≡_}
 use mathlib.Core.List.{List, [], _∷_}
@@ -26,7 +26,7 @@ pub data Row : Type 0 where
   -- No call: the one rule is the negation of the other, and back again.
   negate : Rule → Rule → Row
 
--- A case: its number in the paper, the days right after Open (as many as there are steps), and its rows.
+-- A case: its number, the paper's where it is starred, the days right after Open (as many as there are steps), and its rows.
 pub record Case : Type 0 where
   pub number : ℕ
   pub fresh : List ℕ
@@ -167,3 +167,49 @@ starred =
     ∷ case-10
     ∷ case-11
     ∷ []
+
+-- The cases of the reason, numbered by themselves. 1: two rules for four. 2 and 3: of rules between the same steps the lower number, also where the other has
+-- the more negative ring.
+abbrev reason-1 : Case
+reason-1 =
+    case 1
+    (Row.add (rule 0 1 (minus 1)) 1 (0 ∷ 1 ∷ 0 ∷ 0 ∷ [])
+    ∷ Row.add (rule 1 2 (minus 1)) 1 (0 ∷ 1 ∷ 2 ∷ 0 ∷ [])
+    ∷ Row.add (rule 2 3 (minus 1)) 1 (0 ∷ 1 ∷ 2 ∷ 3 ∷ [])
+    ∷ Row.add (rule 0 3 (minus 3)) 0 (0 ∷ 1 ∷ 2 ∷ 3 ∷ [])
+    ∷ Row.refuse (rule 3 0 (pos 2)) (4 ∷ 3 ∷ []) (minus 1)
+    ∷ [])
+
+abbrev reason-2 : Case
+reason-2 = case 2 (adds-2 ∷ Row.add (rule 0 1 (minus 2)) 0 (0 ∷ 2 ∷ 0 ∷ 0 ∷ []) ∷ Row.refuse (rule 1 0 (pos 1)) (2 ∷ 0 ∷ []) (minus 1) ∷ [])
+
+abbrev reason-3 : Case
+reason-3 =
+    case 3
+    (Row.add (rule 0 1 (minus 5)) 1 (0 ∷ 5 ∷ 0 ∷ 0 ∷ [])
+    ∷ Row.add (rule 0 1 (minus 9)) 1 (0 ∷ 9 ∷ 0 ∷ 0 ∷ [])
+    ∷ Row.refuse (rule 1 0 (pos 4)) (2 ∷ 0 ∷ []) (minus 1)
+    ∷ [])
+
+-- 4: the shorter ring adds up to 0. 5: the lowest first number leads to no ring.
+abbrev reason-4 : Case
+reason-4 =
+    case 4
+    (Row.add (rule 0 1 (minus 1)) 1 (0 ∷ 1 ∷ 0 ∷ 0 ∷ [])
+    ∷ Row.add (rule 0 2 (minus 1)) 1 (0 ∷ 1 ∷ 1 ∷ 0 ∷ [])
+    ∷ Row.add (rule 2 1 (minus 1)) 1 (0 ∷ 2 ∷ 1 ∷ 0 ∷ [])
+    ∷ Row.refuse (rule 1 0 (pos 1)) (3 ∷ 1 ∷ 2 ∷ []) (minus 1)
+    ∷ [])
+
+abbrev reason-5 : Case
+reason-5 =
+    case 5
+    (Row.add (rule 0 1 (pos 0)) 0 fresh
+    ∷ Row.add (rule 0 2 (minus 3)) 1 (0 ∷ 0 ∷ 3 ∷ 0 ∷ [])
+    ∷ Row.add (rule 1 3 (pos 0)) 0 (0 ∷ 0 ∷ 3 ∷ 0 ∷ [])
+    ∷ Row.add (rule 2 3 (pos 0)) 1 (0 ∷ 0 ∷ 3 ∷ 3 ∷ [])
+    ∷ Row.refuse (rule 3 0 (pos 2)) (4 ∷ 1 ∷ 3 ∷ []) (minus 1)
+    ∷ [])
+
+abbrev pub reasons : List Case
+reasons = reason-1 ∷ reason-2 ∷ reason-3 ∷ reason-4 ∷ reason-5 ∷ []

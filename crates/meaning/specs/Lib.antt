@@ -5,5 +5,6 @@ pub mod Tables
 pub mod Promise
 pub mod Calls
 pub mod Runs
+pub mod Screen
 pub mod Cases
 pub mod Reckoning

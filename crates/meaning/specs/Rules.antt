@@ -1,12 +1,13 @@
 -- Rules, arrangements, plans and rings: the theory, which knows no tables.
 -- Rules come as a family: `R i` is the rule under the number i, and `H i` says that number i is held.
-use Prim.Native.Nat.{ℕ, _≤_, _<_}
+use Prim.Native.Nat.{ℕ, zero, suc, _≤_, _<_, max}
 use mathlib.Core.Path.{_≡_}
 use mathlib.Core.List.{List, [], _∷_, map}
 use mathlib.Core.Bool.{cond}
 use mathlib.Core.Logic.{_⊎_}
 use lib.Dec.{eqb}
 use lib.IntN.{ℤ, pos, negℤ, _+ℤ_, _-ℤ_}
+use lib.ListN.{length}
 use lib.Signed.{_≤ℤ_, _<ℤ_}
 use Rattle.meaning.specs.Bounds.{LARGEST}
 
@@ -55,6 +56,11 @@ Plan R H p = Arrangement R H (λ v. pos (p v))
 pub record Earliest (n : ℕ) (R : ℕ → Rule) (H : ℕ → Type 0) (p : ℕ → ℕ) : Type 0 where
   pub plan : Plan R H p
   pub no-later : (q : ℕ → ℕ) → Plan R H q → (v : ℕ) → v < n → p v ≤ q v
+
+-- The last day: the largest of the days p of the steps below n, 0 where n is 0.
+unfoldable pub largest : ℕ → (ℕ → ℕ) → ℕ
+largest zero p = 0
+largest (suc n) p = max (largest n p) (p n)
 
 -- The rule holds in every arrangement of the rules held.
 abbrev pub Always : (ℕ → Rule) → (ℕ → Type 0) → Rule → Type 0
@@ -117,6 +123,18 @@ pub record RefutesBy (R : ℕ → Rule) (H : ℕ → Type 0) (k : ℕ) (r : Rule
 abbrev pub Refutes : (ℕ → Rule) → (ℕ → Type 0) → ℕ → Rule → List ℕ → Type 0
 Refutes R H k r [] = ⊥
 Refutes R H k r (j ∷ l) = (j ≡ k) × RefutesBy R H k r l
+
+-- At the first place where the two lists differ l has the smaller number.
+abbrev pub Before : List ℕ → List ℕ → Type 0
+Before [] m = ⊥
+Before (a ∷ l) [] = ⊥
+Before (a ∷ l) (b ∷ m) = (a < b) ⊎ ((a ≡ b) × Before l m)
+
+-- The reason why the rule r is refused: a list that refutes it, none that does is shorter, and every other one of its length is after it.
+pub record Reason (R : ℕ → Rule) (H : ℕ → Type 0) (k : ℕ) (r : Rule) (l : List ℕ) : Type 0 where
+  pub refutes : Refutes R H k r l
+  pub fewest : (o : List ℕ) → Refutes R H k r o → length l ≤ length o
+  pub others-after : (o : List ℕ) → Refutes R H k r o → length o ≡ length l → (o ≡ l) ⊎ Before l o
 
 -- A rule is tight when the days leave it nothing to spare.
 abbrev pub Tight : (ℕ → ℕ) → Rule → Type 0

@@ -6,7 +6,7 @@ use Rattle.meaning.specs.Bounds.{DONE}
 use Rattle.meaning.specs.Rules.{Rule}
 use Rattle.meaning.specs.Tables.{Tables}
 use Rattle.meaning.specs.Promise.{Given, Obeys}
-use Rattle.meaning.specs.Calls.{with-list, with-lists, open-meaning, watch-meaning, add-meaning, mark-meaning, back-meaning, trial-meaning, consequences-meaning, ring-check-meaning}
+use Rattle.meaning.specs.Calls.{with-list, with-lists, open-meaning, watch-meaning, add-meaning, mark-meaning, back-meaning, trial-meaning, consequences-meaning, ring-check-meaning, last-day-meaning}
 
 -- A call as it was made: what it was asked, with each list lent as it was before and after.
 pub data Call : Type 0 where
@@ -18,6 +18,7 @@ pub data Call : Type 0 where
   tries : Rule → (days days′ ring ring′ : List ℕ) → Call
   asks-consequences : (one one′ two two′ : List ℕ) → Call
   checks-ring : Rule → (list list′ : List ℕ) → Call
+  asks-last-day : Call
 
 -- The call was made on tables t, gave g and left tables u, and kept its promise.
 abbrev pub Made : Call → Tables → Given → Tables → Type 0
@@ -29,6 +30,7 @@ Made goes-back t g u = Obeys (back-meaning t) t g u
 Made (tries r l l′ m m′) t g u = Obeys (trial-meaning r (with-lists t l m)) (with-lists t l m) g (with-lists u l′ m′)
 Made (asks-consequences l l′ m m′) t g u = Obeys (consequences-meaning (with-lists t l m)) (with-lists t l m) g (with-lists u l′ m′)
 Made (checks-ring r l l′) t g u = Obeys (ring-check-meaning r (with-list t l)) (with-list t l) g (with-list u l′)
+Made asks-last-day t g u = Obeys (last-day-meaning t) t g u
 
 -- The tables come from a sequence of calls: an accepted Open on any tables, then any calls, refused ones included.
 pub data Run : Tables → Type 0 where

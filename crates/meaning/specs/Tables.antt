@@ -5,7 +5,8 @@ use lib.ListN.{length, getD, set}
 use lib.IntN.{ℤ, pos}
 use Rattle.meaning.specs.declared.Counts.{Counts}
 use Rattle.meaning.specs.Bounds.{STEPS, RULES, MARKS, WATCHED}
-use Rattle.meaning.specs.Rules.{Rule, InBounds, Earliest}
+use mathlib.Core.Path.{_≡_}
+use Rattle.meaning.specs.Rules.{Rule, InBounds, Earliest, largest}
 
 -- A table of rules, as three columns.
 pub record Columns : Type 0 where
@@ -63,7 +64,7 @@ pub record InCounts (c : Counts) : Type 0 where
   pub watched-in : c .watched ≤ WATCHED
 
 -- The tables are sound: the counts are within bounds, every held and watched rule is within bounds, marks never fall and none exceeds
--- the rule count, and the days equal the earliest plan of the rules held. Cells past the counts may hold anything.
+-- the rule count, the days equal the earliest plan of the rules held, and the last day is the largest of them. Cells past the counts may hold anything.
 pub record Sound (t : Tables) : Type 0 where
   pub counts-in : InCounts (t .counts)
   pub rules-good : (i : ℕ) → held t i → InBounds (t .counts .steps) (rule-at (t .rules) i)
@@ -71,20 +72,25 @@ pub record Sound (t : Tables) : Type 0 where
   pub marks-never-fall : (i j : ℕ) → i ≤ j → j < t .counts .marks → at (t .marks) i ≤ at (t .marks) j
   pub marks-held : (i : ℕ) → i < t .counts .marks → at (t .marks) i ≤ t .counts .rules
   pub days-earliest : Earliest (t .counts .steps) (rule-at (t .rules)) (held t) (at (t .days))
+  pub last-largest : t .counts .last ≡ largest (t .counts .steps) (at (t .days))
 
--- The counts of n steps, and of nothing else.
+-- The counts of n steps, and of nothing else; all days are 0.
 abbrev pub steps-alone : ℕ → Counts
-steps-alone n = record { steps = n; rules = 0; marks = 0; watched = 0 }
+steps-alone n = record { steps = n; rules = 0; marks = 0; watched = 0; last = 0 }
 
 -- The counts with k rules held, with k marks open, with k rules watched.
 abbrev pub rules-now : ℕ → Counts → Counts
-rules-now k c = record { steps = c .steps; rules = k; marks = c .marks; watched = c .watched }
+rules-now k c = record { steps = c .steps; rules = k; marks = c .marks; watched = c .watched; last = c .last }
 
 abbrev pub marks-now : ℕ → Counts → Counts
-marks-now k c = record { steps = c .steps; rules = c .rules; marks = k; watched = c .watched }
+marks-now k c = record { steps = c .steps; rules = c .rules; marks = k; watched = c .watched; last = c .last }
 
 abbrev pub watched-now : ℕ → Counts → Counts
-watched-now k c = record { steps = c .steps; rules = c .rules; marks = c .marks; watched = k }
+watched-now k c = record { steps = c .steps; rules = c .rules; marks = c .marks; watched = k; last = c .last }
+
+-- The counts with the last day k.
+abbrev pub last-now : ℕ → Counts → Counts
+last-now k c = record { steps = c .steps; rules = c .rules; marks = c .marks; watched = c .watched; last = k }
 
 -- The tables of n steps with no rule, mark or watched rule. The days are not yet set.
 abbrev pub opened : ℕ → Tables → Tables
@@ -134,6 +140,12 @@ without-mark t = record {
   watched = t .watched;
 }
 
--- The tables with other days.
+-- The tables with other days, and the last day that they give.
 abbrev pub with-days : List ℕ → Tables → Tables
-with-days days t = record { counts = t .counts; rules = t .rules; days = days; marks = t .marks; watched = t .watched }
+with-days days t = record {
+  counts = last-now (largest (t .counts .steps) (at days)) (t .counts);
+  rules = t .rules;
+  days = days;
+  marks = t .marks;
+  watched = t .watched;
+}

@@ -1,7 +1,7 @@
 // The types that every call's contract shares, and the bounds as the code has them. What they mean stands in specs/.
 ghost use mathlib.Core.Path.{_≡_};
 ghost use Rattle.meaning.specs.Bounds.{DONE, CONFLICT};
-ghost use Rattle.meaning.specs.Tables.{steps-alone, rules-now, marks-now, watched-now};
+ghost use Rattle.meaning.specs.Tables.{steps-alone, rules-now, marks-now, watched-now, last-now};
 ghost use Rattle.meaning.specs.Promise.{reply};
 
 // There are 1 to STEPS steps.
@@ -59,16 +59,17 @@ pub const NAME: u32 = 10;
 
 pub const SIZE: u32 = 11;
 
-// How many of each thing the tables hold. The caller lends it; a call brings it up to date. C callers lend it too, so its fields lie in this order.
+// How many of each thing the tables hold, and the last day of the plan. The caller lends it; a call brings it up to date. C callers lend it too, so its fields lie in this order.
 #[repr(C)]
 pub struct Counts {
     pub steps: u32,
     pub rules: u32,
     pub marks: u32,
     pub watched: u32,
+    pub last: u32,
 }
 
-// The counts of tables with so many steps, and no rules, marks or watched rules.
+// The counts of tables with so many steps, and no rules, marks or watched rules; every day is 0.
 pub fn steps_alone(steps: u32) -> Counts
     ensures { λ r. ⌜ r ≡ steps-alone steps ⌝ }
 {
@@ -77,6 +78,7 @@ pub fn steps_alone(steps: u32) -> Counts
         rules: 0,
         marks: 0,
         watched: 0,
+        last: 0,
     }
 }
 
@@ -89,6 +91,7 @@ pub fn rules_now(counts: Counts, rules: u32) -> Counts
         rules: rules,
         marks: counts.marks,
         watched: counts.watched,
+        last: counts.last,
     }
 }
 
@@ -101,6 +104,7 @@ pub fn marks_now(counts: Counts, marks: u32) -> Counts
         rules: counts.rules,
         marks: marks,
         watched: counts.watched,
+        last: counts.last,
     }
 }
 
@@ -113,6 +117,20 @@ pub fn watched_now(counts: Counts, watched: u32) -> Counts
         rules: counts.rules,
         marks: counts.marks,
         watched: watched,
+        last: counts.last,
+    }
+}
+
+// The counts with that last day.
+pub fn last_now(counts: Counts, last: u32) -> Counts
+    ensures { λ r. ⌜ r ≡ last-now last counts ⌝ }
+{
+    Counts {
+        steps: counts.steps,
+        rules: counts.rules,
+        marks: counts.marks,
+        watched: counts.watched,
+        last: last,
     }
 }
 

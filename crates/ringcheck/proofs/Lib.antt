@@ -1,4 +1,7 @@
 -- What the ring check's proofs share.
 pub mod Closing
-pub mod Starting
 pub mod Walk
+pub mod Flags
+pub mod Windows
+pub mod Reading
+pub mod Starting

@@ -2,11 +2,15 @@
 ghost use Prim.Native.Nat.{ℕ, _≤_, _<_};
 ghost use mathlib.Core.Path.{_≡_};
 ghost use lib.ListN.{length, drop};
-ghost use Rattle.meaning.specs.Rules.{Refutes};
+ghost use Rattle.meaning.specs.Bounds.{STEPS};
+ghost use Rattle.meaning.specs.Rules.{All, Different, Refutes};
 ghost use Rattle.meaning.specs.Tables.{rule-at, at};
 ghost use Rattle.lent.specs.Decides.{Decides};
 ghost use Rattle.lent.specs.Lent.{columns, first, BIAS};
-ghost use Rattle.ringcheck.specs.Closing.{Closes, GoesOn, Walkable, Checkable};
+ghost use Rattle.ringcheck.specs.Closing.{Closes, GoesOn, Walkable, FlagIn, OnceIn, first-steps, Readable, Checkable};
+
+// A window has so many steps: a flag for each of them is one bit of a u64.
+const WINDOW: usize = 64;
 
 // The number at place k of the list.
 fn entry_at(list: &[u32], k: usize) -> usize
@@ -16,22 +20,19 @@ fn entry_at(list: &[u32], k: usize) -> usize
     lent::day_at(list, k) as usize
 }
 
-// Whether number i is below m, its rule's first step is the step reached, and that step was not met before.
-fn goes_on(m: usize, xs: &[u16], met: &[u8], reached: usize, i: usize) -> bool
-    requires { ⌜ ((i : ℕ) → i < m → i < length (now xs)) × (reached < length (now met)) ⌝ }
-    ensures { λ r. ⌜ Decides r (GoesOn (at (now (xs .entry))) (first m) (now (met .entry)) reached i) ⌝ }
+// Whether number i is below m and its rule's first step is the step reached.
+fn goes_on(m: usize, xs: &[u16], reached: usize, i: usize) -> bool
+    requires { ⌜ ((i : ℕ) → i < m → i < length (now xs)) ⌝ }
+    ensures { λ r. ⌜ Decides r (GoesOn (at (now (xs .entry))) (first m) reached i) ⌝ }
 {
     if m <= i {
         return false;
     }
-    if lent::number_at(xs, i) != reached {
-        return false;
-    }
-    met[reached] == 0
+    lent::number_at(xs, i) == reached
 }
 
-// Whether the numbers of the list after its first are below m and their rules close a ring at step x from step y, where the first
-// number's amount is given as amount + lent::BIAS. The steps met by then are flagged in met, which is used up.
+// Whether the numbers of the list after its first are below m and their rules lead from step y back to step x with a negative sum, where the first
+// number's amount is given as amount + lent::BIAS.
 fn closes(
     m: usize,
     xs: &[u16],
@@ -41,25 +42,76 @@ fn closes(
     y: usize,
     amount: u64,
     list: &[u32],
-    met: &mut [u8],
 ) -> bool
-    requires { ⌜ Walkable (first m) (now xs) (now ys) (now cs) y amount (now list) (now met) ⌝ }
-    ensures { λ r. ⌜ Decides r (Closes (rule-at (columns (now (xs .entry)) (now (ys .entry)) (now (cs .entry)))) (first m) x (now (met .entry)) y amount BIAS (drop 1 (now (list .entry)))) ⌝ }
+    requires { ⌜ Walkable (first m) (now xs) (now ys) (now cs) amount (now list) ⌝ }
+    ensures { λ r. ⌜ Decides r (Closes (rule-at (columns (now (xs .entry)) (now (ys .entry)) (now (cs .entry)))) (first m) x y amount BIAS (drop 1 (now (list .entry)))) ⌝ }
 {
     let mut reached = y;
     let mut sum = amount;
     let mut k: usize = 1;
     while k < list.len() {
         let i = entry_at(list, k);
-        if !goes_on(m, xs, met, reached, i) {
+        if !goes_on(m, xs, reached, i) {
             return false;
         }
-        met[reached] = 1;
         sum += lent::amount_at(cs, i);
         reached = lent::number_at(ys, i);
         k += 1;
     }
     reached == x && sum < (k as u64) * lent::BIAS
+}
+
+// The flag of the step in that window; 0 where the step lies in another one.
+fn flag_in(window: usize, step: usize) -> u64
+    ensures { λ r. ⌜ FlagIn window step r ⌝ }
+{
+    if step / WINDOW != window {
+        return 0;
+    }
+    1 << (step % WINDOW)
+}
+
+// Whether no step of that window or of the next is a first step twice: step x, and those of the numbers of the list after its first.
+fn once_in(xs: &[u16], x: usize, list: &[u32], window: usize) -> bool
+    requires { ⌜ (window < STEPS) × All (λ i. i < length (now xs)) (drop 1 (now list)) ⌝ }
+    ensures { λ r. ⌜ Decides r (OnceIn window (first-steps (now (xs .entry)) x (now (list .entry)))) ⌝ }
+{
+    let next = window + 1;
+    let mut met = flag_in(window, x);
+    let mut beyond = flag_in(next, x);
+    let mut k: usize = 1;
+    while k < list.len() {
+        let step = lent::number_at(xs, entry_at(list, k));
+        let flag = flag_in(window, step);
+        let other = flag_in(next, step);
+        if met & flag != 0 {
+            return false;
+        }
+        if beyond & other != 0 {
+            return false;
+        }
+        met = met | flag;
+        beyond = beyond | other;
+        k += 1;
+    }
+    true
+}
+
+// Whether no step is a first step twice: two windows at a time are moved over the n steps, and the list is read once for them.
+fn different(n: usize, xs: &[u16], x: usize, list: &[u32]) -> bool
+    requires { ⌜ Readable n (now xs) x (now list) ⌝ }
+    ensures { λ r. ⌜ Decides r (Different (first-steps (now (xs .entry)) x (now (list .entry)))) ⌝ }
+{
+    let mut window: usize = 0;
+    let mut low: usize = 0;
+    while low < n {
+        if !once_in(xs, x, list, window) {
+            return false;
+        }
+        window += 2;
+        low += 2 * WINDOW;
+    }
+    true
 }
 
 // Whether the list is a negative ring of the rule x, y, c under number m and then of rules below m. Any list may be asked about: one
@@ -89,17 +141,8 @@ pub fn is_ring(
         return false;
     }
     let first = x as usize;
-    let mut met = [0u8; meaning::STEPS];
-    met[first] = 1;
-    closes(
-        m,
-        xs,
-        ys,
-        cs,
-        first,
-        y as usize,
-        lent::biased(c),
-        list,
-        &mut met,
-    )
+    if !closes(m, xs, ys, cs, first, y as usize, lent::biased(c), list) {
+        return false;
+    }
+    different(n, xs, first, list)
 }

@@ -12,11 +12,12 @@ use lib.ListN.{length, length-set}
 use lib.Seq.{getD-set-same, getD-set-other}
 use Rattle.meaning.specs.declared.Counts.{Counts}
 use Rattle.meaning.specs.Bounds.{STEPS, RULES, MARKS, DONE, MODE, NAME, FULL}
-use Rattle.meaning.specs.Rules.{Rule, InBounds, Fits, Earliest}
-use Rattle.meaning.specs.Tables.{Tables, at, Room, with-rule, with-mark, with-days, rules-now, marks-now}
+use Rattle.meaning.specs.Rules.{Rule, InBounds, Fits, Earliest, largest}
+use Rattle.meaning.specs.Tables.{Tables, at, Room, with-rule, with-mark, with-days, rules-now, marks-now, last-now}
 use Rattle.meaning.specs.Promise.{First, needs}
 use Rattle.meaning.specs.Calls.{rules-of, held-in}
 use Rattle.meaning.proofs.Theory.{arrangement-same, earliest-same, earliest-unique}
+use Rattle.meaning.proofs.LastDay.{largest-same}
 use Rattle.meaning.proofs.Put.{put-new, put-old}
 use Rattle.meaning.proofs.Sequences.{Kept}
 use Rattle.text.specs.Lexicon.{bytes, same-bytes}
@@ -26,6 +27,7 @@ use Rattle.atoms.specs.Atoms.{rules-at}
 use Rattle.names.specs.Names.{name-at}
 use Rattle.names.proofs.Shelves.{name-new, name-old}
 use Rattle.levels.specs.Levels.{with-marks, without-marks}
+use Rattle.levels.proofs.Laws.{popped-border}
 use Rattle.write.specs.Written.{decimal}
 use Rattle.script_meaning.specs.declared.Notes.{Notes}
 use Rattle.script_meaning.specs.Record.{Lent, InForm, Known, name-of, step-of, step-in, seek}
@@ -36,7 +38,7 @@ use Rattle.script_meaning.specs.Traces.{with-out}
 use Rattle.script_meaning.proofs.Needed.{EachName}
 use Rattle.script_meaning.proofs.Granted.{Places, declare-met, assert-met, push-met, pop-met}
 use Rattle.script_meaning.proofs.Adding.{Each, holds-kept}
-use Rattle.script_meaning.proofs.Keeping.{Fine, tables-kept, shelved-of, rules-in, map-length}
+use Rattle.script_meaning.proofs.Keeping.{Fine, tables-kept, tables-border, kept-of, shelved-of, rules-in, map-length}
 use Rattle.script_meaning.proofs.Printing.{printed, value-names}
 
 -- The same counts, rules held and open marks.
@@ -103,6 +105,16 @@ needs-alike c s g l m a h =
 
 -- ---- tables
 
+-- The earliest plans of the same rules have the same last day.
+lasts-same :
+    (n n′ m m′ : ℕ) (R R′ : ℕ → Rule) (d e : List ℕ) → n ≡ n′ → m ≡ m′ → ((i : ℕ) → i < m → R i ≡ R′ i) → Earliest n R (λ i. i < m) (at d) → Earliest n′ R′ (λ i. i < m′) (at e) →
+    largest n (at d) ≡ largest n′ (at e)
+lasts-same n n′ m m′ R R′ d e steps rules same a b =
+    largest-same n (at d) (at e)
+    (earliest-unique (earliest-same {H = λ i. i < m} {G = λ i. i < m′} (λ i h. omega (arith, rules)) (λ i h. omega (arith, rules)) (λ i h. same i (omega (arith, rules))) a)
+    (subst (λ (k : ℕ). Earliest k R′ (λ i. i < m′) (at e)) (sym steps) b))
+    ∙ ap (λ (k : ℕ). largest k (at e)) steps
+
 module _ (t u : Tables) (same : SameHeld t u) where
   abbrev as-many : (part : Counts → ℕ) → part (t .counts) ≡ part (u .counts)
   as-many part = ap part (same .same-counts)
@@ -134,10 +146,12 @@ module _ (t u : Tables) (same : SameHeld t u) where
     same-marks = λ i h. sym (same .same-marks i (omega (arith, as-many (λ c. c .marks), h)));
   }
 
-  -- With the same rule written under the next number, whatever the days.
-  rule-alike : (r : Rule) (d e : List ℕ) → Room t → Room u → t .counts .rules < RULES → SameHeld (with-days d (with-rule r t)) (with-days e (with-rule r u))
-  rule-alike r d e room room′ few = record {
-    same-counts = ap (λ (c : Counts). rules-now (c .rules + 1) c) (same .same-counts);
+  -- With the same rule written under the next number, and the days of sound tables.
+  rule-alike :
+      (r : Rule) (d e : List ℕ) → Room t → Room u → t .counts .rules < RULES → Kept (with-days d (with-rule r t)) → Kept (with-days e (with-rule r u)) →
+      SameHeld (with-days d (with-rule r t)) (with-days e (with-rule r u))
+  rule-alike r d e room room′ few kept kept′ = record {
+    same-counts = λ i. last-now (lasts i) (rules-now (same .same-counts i .rules + 1) (same .same-counts i));
     same-rules = λ i h. tell i h (ℕ-discrete i (t .counts .rules));
     same-marks = same .same-marks;
   }
@@ -150,6 +164,11 @@ module _ (t u : Tables) (same : SameHeld t u) where
       tell i h (no other) =
           put-old (t .rules) (t .counts .rules) r i other ∙ same .same-rules i (omega arith)
           ∙ sym (put-old (u .rules) (u .counts .rules) r i (λ e. other (e ∙ sym (as-many (λ c. c .rules)))))
+
+      lasts : largest (t .counts .steps) (at d) ≡ largest (u .counts .steps) (at e)
+      lasts =
+          lasts-same (t .counts .steps) (u .counts .steps) (t .counts .rules + 1) (u .counts .rules + 1) (rules-of (with-rule r t)) (rules-of (with-rule r u)) d e (as-many (λ c. c .steps)) (as-many (λ c. c .rules + 1))
+          (λ i h. tell i h (ℕ-discrete i (t .counts .rules))) (kept .sound .days-earliest) (kept′ .sound .days-earliest)
 
   -- With one mark more.
   mark-alike : MARKS ≤ length (t .marks) → MARKS ≤ length (u .marks) → t .counts .marks < MARKS → SameHeld (with-mark t) (with-mark u)
@@ -168,20 +187,32 @@ module _ (t u : Tables) (same : SameHeld t u) where
           getD-set-other (t .marks) (t .counts .marks) i (t .counts .rules) 0 other ∙ same .same-marks i (omega arith)
           ∙ sym (getD-set-other (u .marks) (u .counts .marks) i (u .counts .rules) 0 (λ e. other (e ∙ sym (as-many (λ c. c .marks)))))
 
-  -- Cut back to the mark before the newest n.
-  cut-alike : (n : ℕ) (d e : List ℕ) → Kept t → n ≤ t .counts .marks → SameHeld (with-days d (without-marks n t)) (with-days e (without-marks n u))
-  cut-alike zero d e k few = record { same-counts = same .same-counts; same-rules = same .same-rules; same-marks = same .same-marks }
-  cut-alike (suc n) d e k few =
+  -- Cut back to the mark before the newest n, with the days of sound tables.
+  cut-alike :
+      (n : ℕ) (d e : List ℕ) → Kept t → n ≤ t .counts .marks → Kept (with-days d (without-marks n t)) → Kept (with-days e (without-marks n u)) →
+      SameHeld (with-days d (without-marks n t)) (with-days e (without-marks n u))
+  cut-alike zero d e k few kept kept′ =
+      let lasts =
+      lasts-same (t .counts .steps) (u .counts .steps) (t .counts .rules) (u .counts .rules) (rules-of t) (rules-of u) d e (as-many (λ c. c .steps)) (as-many (λ c. c .rules)) (same .same-rules)
+      (kept .sound .days-earliest) (kept′ .sound .days-earliest) in
+      record { same-counts = λ i. last-now (lasts i) (same .same-counts i); same-rules = same .same-rules; same-marks = same .same-marks }
+  cut-alike (suc n) d e k few kept kept′ =
       let mark : at (t .marks) (t .counts .marks - n - 1) ≡ at (u .marks) (u .counts .marks - n - 1) =
       same .same-marks (t .counts .marks - n - 1) (omega arith) ∙ ap (λ (c : Counts). at (u .marks) (c .marks - n - 1)) (same .same-counts) in
+      let older : (i : ℕ) → i < at (t .marks) (t .counts .marks - n - 1) → rules-of t i ≡ rules-of u i =
+      λ i h. same .same-rules i (omega (arith, h, k .sound .marks-held (t .counts .marks - n - 1) (omega arith))) in
+      let lasts =
+      lasts-same (t .counts .steps) (u .counts .steps) (at (t .marks) (t .counts .marks - n - 1)) (at (u .marks) (u .counts .marks - n - 1)) (rules-of t) (rules-of u) d e (as-many (λ c. c .steps)) mark older
+      (kept .sound .days-earliest) (kept′ .sound .days-earliest) in
       record {
         same-counts = λ i. record {
           steps = same .same-counts i .steps;
           rules = mark i;
           marks = same .same-counts i .marks - n - 1;
           watched = same .same-counts i .watched;
+          last = lasts i;
         };
-        same-rules = λ i h. same .same-rules i (omega (arith, h, k .sound .marks-held (t .counts .marks - n - 1) (omega arith)));
+        same-rules = older;
         same-marks = λ i h. same .same-marks i (omega arith);
       }
 
@@ -206,10 +237,13 @@ adds-alike (r ∷ l) t u t′ u′ x y same k j good room (inr (v, (held, rest))
 adds-alike (r ∷ l) t u t′ u′ x y same k j (here, there) room (inr (v, (held, rest))) (inr (w, (held′, rest′))) =
     let steps : t .counts .steps ≡ v .counts .steps = sym (ap (λ (z : Tables). z .counts .steps) (held .rule-held)) in
     let rules : v .counts .rules ≡ t .counts .rules + 1 = ap (λ (z : Tables). z .counts .rules) (held .rule-held) in
+    let kept = holds-kept r t v k here (omega (arith, room)) held in
+    let kept′ = holds-kept r u w j (subst (λ (n : ℕ). InBounds n r) (as-many t u same (λ c. c .steps)) here) (omega (arith, room, as-many t u same (λ c. c .rules))) held′ in
     adds-alike l v w t′ u′ x y
-    (subst (λ (z : Tables). SameHeld z w) (sym (held .rule-held)) (subst (SameHeld (with-days (v .days) (with-rule r t))) (sym (held′ .rule-held)) (rule-alike t u same r (v .days) (w .days) (k .room) (j .room) (omega (arith, room)))))
-    (holds-kept r t v k here (omega (arith, room)) held)
-    (holds-kept r u w j (subst (λ (n : ℕ). InBounds n r) (as-many t u same (λ c. c .steps)) here) (omega (arith, room, as-many t u same (λ c. c .rules))) held′)
+    (subst (λ (z : Tables). SameHeld z w) (sym (held .rule-held)) (subst (SameHeld (with-days (v .days) (with-rule r t))) (sym (held′ .rule-held))
+    (rule-alike t u same r (v .days) (w .days) (k .room) (j .room) (omega (arith, room)) (subst Kept (held .rule-held) kept) (subst Kept (held′ .rule-held) kept′))))
+    kept
+    kept′
     (subst (λ (n : ℕ). Each (InBounds n) l) steps there) (omega (arith, room, rules)) rest rest′
 
 -- ---- commands
@@ -291,7 +325,9 @@ module _ (l m : Lent) (a : Alike l m) where
   does-alike (Pop n) s j k v w l′ m′ f g named met (v-is, (t, (popped, p))) (w-is, (u, (popped′, q))) =
       let same : SameHeld t u = subst (λ (z : Tables). SameHeld z u) (sym (popped .dropped))
       (subst (SameHeld (with-days (t .days) (without-marks n (l .tables)))) (sym (popped′ .dropped))
-      (cut-alike (l .tables) (m .tables) (a .tables-alike) n (t .days) (u .days) (tables-kept f) (pop-met n s l met))) in
+      (cut-alike (l .tables) (m .tables) (a .tables-alike) n (t .days) (u .days) (tables-kept f) (pop-met n s l met)
+      (subst Kept (popped .dropped) (kept-of (popped-border n (tables-border f) (pop-met n s l met) popped)))
+      (subst Kept (popped′ .dropped) (kept-of (popped-border n (tables-border g) (omega (arith, pop-met n s l met, as-many (l .tables) (m .tables) (a .tables-alike) (λ c. c .marks))) popped′))))) in
       both-are l′ m′ p q
       (tables-same t u (broken-left (l .notes .broken) t) (broken-left (m .notes .broken) u) same
       (ap (λ (c : Counts). cond (ltb (c .marks + 1) (l .notes .broken)) 0 (l .notes .broken)) (same .same-counts) ∙ ap (λ (n : Notes). broken-left (n .broken) u) (a .same-notes)))

@@ -2,11 +2,12 @@
 use Prim.Native.Nat.{ℕ}
 use native.Mathlib.Omega.{arith}
 use native.Mathlib.Decide.{ℕ-discrete}
-use mathlib.Core.Path.{_≡_, refl, sym, ap, subst}
+use mathlib.Core.Path.{_≡_, refl, sym, _∙_, ap, subst}
 use mathlib.Core.List.{List}
 use lib.ListN.{length}
-use Rattle.meaning.specs.Bounds.{RULES, WATCHED, DONE}
-use Rattle.meaning.specs.Tables.{Tables, ColumnsRoom}
+use Rattle.meaning.specs.Bounds.{STEPS, RULES, WATCHED, DONE}
+use Rattle.meaning.specs.Tables.{Tables, ColumnsRoom, at, steps-alone, last-now}
+use Rattle.meaning.proofs.LastDay.{largest-zeros}
 use Rattle.meaning.specs.Promise.{Given, First, Obeys}
 use Rattle.form.specs.Form.{form}
 use Rattle.script_meaning.specs.Record.{Lent, StartRoom}
@@ -40,7 +41,7 @@ start-fresh l g after x done = fresh
         names-room = omega (arith, ap length (started .names-stay), room .names-room);
         lens-room = omega (arith, ap length (started .lens-stay), room .lens-room);
       };
-      counts-are = ap (λ t. t .counts) (started .opened .emptied);
+      counts-are = ap (λ t. t .counts) (started .opened .emptied) ∙ ap (λ (k : ℕ). last-now k (steps-alone STEPS)) (largest-zeros STEPS (at (after .tables .days)) (started .opened .day-0));
       notes-are = started .emptied;
       day-0 = started .opened .day-0;
     }

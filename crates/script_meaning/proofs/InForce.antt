@@ -12,6 +12,7 @@ use lib.IntN.{ℤ}
 use Rattle.meaning.specs.Bounds.{STEPS, RULES, NAME-BYTES}
 use Rattle.meaning.specs.Rules.{Keeps, Arrangement}
 use Rattle.meaning.specs.Tables.{Tables, Sound, at}
+use Rattle.meaning.proofs.LastDay.{largest-zeros}
 use Rattle.meaning.specs.Calls.{rules-of}
 use Rattle.names.proofs.Shelves.{name-old}
 use Rattle.atoms.specs.Atoms.{rules-at}
@@ -80,6 +81,7 @@ fresh-fine l f = record {
       marks-never-fall = λ i j h g. absurd (omega (arith, marks));
       marks-held = λ i h. absurd (omega (arith, marks));
       days-earliest = record { plan = λ i h. absurd (omega (arith, rules)); no-later = λ q p v h. omega (arith, f .day-0 v (omega (arith, steps))) };
+      last-largest = ap (λ c. c .last) (f .counts-are) ∙ sym (largest-zeros (l .tables .counts .steps) (at (l .tables .days)) (λ v h. f .day-0 v (omega (arith, steps))));
     };
     all-steps = steps;
     names-in = omega (arith, names);

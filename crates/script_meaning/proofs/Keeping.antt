@@ -199,7 +199,7 @@ popped-steps : (n : ℕ) (t u : Tables) → Popped n t u → u .counts .steps �
 popped-steps zero t u p = ap (λ (v : Tables). v .counts .steps) (p .dropped)
 popped-steps (suc n) t u p = ap (λ (v : Tables). v .counts .steps) (p .dropped)
 
-kept-of : {t : Tables} → Border t → Kept t
+pub kept-of : {t : Tables} → Border t → Kept t
 kept-of b = record { sound = b .sound; room = b .room }
 
 -- Every command that is carried out leaves what is sound and has room.

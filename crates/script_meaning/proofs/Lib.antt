@@ -19,6 +19,7 @@ pub mod Owning
 pub mod Asserted
 pub mod Fixing
 pub mod Mixing
+pub mod Showing
 pub mod Adjoining
 pub mod OneTerm
 pub mod OneHistory

@@ -1,4 +1,4 @@
--- After any sequence of calls, script calls among them, the tables are sound, and one question splits the watched rules exactly.
+-- After any sequence of calls, script calls among them, the tables are sound, one question splits the watched rules exactly, and the last day stored is the largest.
 use Prim.Native.Nat.{ℕ, _≤_}
 use native.Mathlib.Omega.{arith}
 use native.Mathlib.Decide.{ℕ-discrete}
@@ -6,12 +6,13 @@ use mathlib.Core.Path.{_≡_, refl, sym, subst}
 use mathlib.Core.List.{List}
 use lib.ListN.{length}
 use Rattle.meaning.specs.Bounds.{STEPS, DONE, CONFLICT}
-use Rattle.meaning.specs.Tables.{Tables}
-use Rattle.meaning.specs.Promise.{Given, First, Obeys}
-use Rattle.meaning.specs.Calls.{WithLists, Split, open-meaning, consequences-meaning}
+use Rattle.meaning.specs.Rules.{largest}
+use Rattle.meaning.specs.Tables.{Tables, at}
+use Rattle.meaning.specs.Promise.{Given, gave, First, Obeys}
+use Rattle.meaning.specs.Calls.{Split, open-meaning}
 use Rattle.meaning.specs.Runs.{Call, Made, Run}
-use Rattle.meaning.proofs.Needs.{all-met, first-same, obeys-done}
-use Rattle.meaning.proofs.Sequences.{Kept, call-keeps, run-kept}
+use Rattle.meaning.proofs.Needs.{obeys-done}
+use Rattle.meaning.proofs.Sequences.{Kept, call-keeps, run-kept, kept-splits, kept-last}
 use Rattle.form.specs.Form.{form}
 use Rattle.script_meaning.specs.Record.{Lent}
 use Rattle.script_meaning.specs.Commands.{own, command-meaning, start-meaning}
@@ -59,9 +60,10 @@ pub mixed-splits :
     (m : Lent) (one two one′ two′ : List ℕ) (g : Given) (u : Tables) → MixedRun m → m .tables .counts .watched ≤ length one → m .tables .counts .watched ≤ length two →
     Made (Call.asks-consequences one one′ two two′) (m .tables) g u →
     (g .number ≡ DONE) × Split (record { tables = m .tables; one = one; two = two }) (g .one) (g .two) (record { tables = u; one = one′; two = two′ })
-mixed-splits m one two one′ two′ g u run long-one long-two x =
-    let k = mixed-kept m run in
-    let lent : WithLists = record { tables = m .tables; one = one; two = two } in
-    let done = first-same (consequences-meaning lent .asks) (g .number) DONE (x .first-unmet)
-    (all-met (consequences-meaning lent .asks) ((k .room, long-one, long-two), (k .sound, tt))) in
-    (done, x .when-done done)
+mixed-splits m one two one′ two′ g u run = kept-splits (m .tables) one two one′ two′ g u (mixed-kept m run)
+
+-- After any sequence the last day stored is the largest day of the plan, and Last day is carried out, gives it and changes nothing.
+pub mixed-last :
+    (m : Lent) (g : Given) (u : Tables) → MixedRun m → Made Call.asks-last-day (m .tables) g u →
+    (m .tables .counts .last ≡ largest (m .tables .counts .steps) (at (m .tables .days))) × (g ≡ gave DONE (m .tables .counts .last) 0) × (u ≡ m .tables)
+mixed-last m g u run = kept-last (m .tables) g u (mixed-kept m run)

@@ -45,6 +45,7 @@ quietly (Call.asks-consequences l m n o) t u g x q =
     by-number g (Quietly t u) (λ e. inl (x .when-done e .tables-stay)) (λ e. absurd (x .on-conflict e .0)) (λ d c. inl (ap (λ z. z .tables) (x .when-refused d c .1)))
 quietly (Call.checks-ring r l m) t u g x q =
     by-number g (Quietly t u) (λ e. inl (ap (λ z. z .tables) (x .when-done e .all-stays))) (λ e. absurd (x .on-conflict e .0)) (λ d c. inl (ap (λ z. z .tables) (x .when-refused d c .1)))
+quietly Call.asks-last-day t u g x q = by-number g (Quietly t u) (λ e. inl (x .when-done e .all-stays)) (λ e. absurd (x .on-conflict e .0)) (λ d c. inl (x .when-refused d c .1))
 
 -- Sound tables with as many steps and marks leave sound what is lent.
 on-tables-fine : (t : Tables) (l : Lent) → Fine l → Kept t → t .counts .steps ≡ l .tables .counts .steps → t .counts .marks ≡ l .tables .counts .marks → Fine (on-tables t l)

@@ -77,7 +77,8 @@ moves-border c broken s n names lens t u clash movable b (v, (adds, dropped)) =
 
 -- Where marks are dropped, rules are left out: the others speak of the steps that they spoke of.
 popped-within : (e k : ℕ) (t u : Tables) → Sound t → k ≤ t .counts .marks → Within e (t .counts) (t .rules) → Popped k t u → Within e (u .counts) (u .rules)
-popped-within e zero t u sound open-marks w p = subst (λ (v : Tables). Within e (v .counts) (v .rules)) (sym (p .dropped)) w
+popped-within e zero t u sound open-marks w p =
+    subst (λ (v : Tables). Within e (v .counts) (v .rules)) (sym (p .dropped)) (record { steps-there = w .steps-there; rules-within = w .rules-within })
 popped-within e (suc k) t u sound open-marks w p =
     subst (λ (v : Tables). Within e (v .counts) (v .rules)) (sym (p .dropped))
     (record { steps-there = w .steps-there; rules-within = λ i h. w .rules-within i (omega (arith, h, sound .marks-held (t .counts .marks - k - 1) (omega (arith, open-marks)))) })

@@ -6,6 +6,7 @@ use mathlib.Core.List.{List}
 use lib.ListN.{length, replicate, length-replicate, getD-replicate}
 use Rattle.meaning.specs.Bounds.{STEPS, RULES, MARKS, NAME-BYTES}
 use Rattle.meaning.specs.Tables.{at, steps-alone}
+use Rattle.meaning.proofs.LastDay.{largest-zeros}
 use Rattle.chains.specs.Chains.{Empty}
 use Rattle.chains.proofs.Laws.{chained-none}
 use Rattle.names.specs.Names.{BUCKETS, IndexRoom}
@@ -42,6 +43,7 @@ fresh-maintained xs ys cs days marks names lens out heads nexts kept hashes name
           marks-never-fall = λ i j h g. absurd (omega arith);
           marks-held = λ i h. absurd (omega arith);
           days-earliest = record { plan = λ i h. absurd (omega arith); no-later = λ q p v h. omega (arith, zeros v h) };
+          last-largest = sym (largest-zeros STEPS (at days) zeros);
         };
         all-steps = refl;
         names-in = omega arith;

@@ -5,11 +5,10 @@ use mathlib.Core.Path.{_≡_, refl}
 use mathlib.Core.Bool.{Bool, false, false≢true}
 use mathlib.Core.List.{List}
 use lib.ListN.{length}
-use Rattle.meaning.specs.Rules.{Earliest}
-use Rattle.meaning.specs.Tables.{Columns, Tables, ColumnsRoom, InCounts, Sound, rule-at, at}
+use Rattle.meaning.specs.Tables.{Columns, Tables, ColumnsRoom, InCounts, Sound}
 use Rattle.lent.specs.Decides.{Decides, decides-no}
 use Rattle.chains.specs.Chains.{Chained}
-use Rattle.sound.specs.Parts.{AllIn, MarksIn, ChainsRoom, Testable, Tested}
+use Rattle.sound.specs.Parts.{AllIn, MarksIn, DaysIn, ChainsRoom, Testable, Tested}
 use Rattle.lent.specs.Lent.{first}
 use Rattle.chains.specs.Chains.{number}
 use Rattle.sound.specs.Ground.{Groundable}
@@ -72,7 +71,7 @@ module _ (t : Tables) (counts : InCounts (t .counts)) where
       pub tested-by-days :
           AllIn (t .counts .steps) (t .counts .watched) (t .watched .firsts) (t .watched .seconds) (t .watched .amounts) →
           MarksIn (t .counts .rules) (t .counts .marks) (t .marks) → (r : Bool) →
-          Decides r (Earliest (t .counts .steps) (rule-at (t .rules)) (first (t .counts .rules)) (at (t .days))) → Tested t r heads nexts
+          Decides r (DaysIn (t .counts .steps) (first (t .counts .rules)) (t .rules .firsts) (t .rules .seconds) (t .rules .amounts) (t .days) (t .counts .last)) → Tested t r heads nexts
       tested-by-days watched marks r days = record {
         decides = record {
           so = λ e. record {
@@ -81,9 +80,10 @@ module _ (t : Tables) (counts : InCounts (t .counts)) where
             watched-good = watched;
             marks-never-fall = marks .never-fall;
             marks-held = marks .held;
-            days-earliest = days .so e;
+            days-earliest = days .so e .earliest;
+            last-largest = days .so e .last-largest;
           };
-          not-so = λ e sound. days .not-so e (sound .days-earliest);
+          not-so = λ e sound. days .not-so e (record { earliest = sound .days-earliest; last-largest = sound .last-largest });
         };
         chained = λ e. chained;
       }

@@ -4,3 +4,4 @@ pub mod Entering
 pub mod Grounding
 pub mod Marks
 pub mod Answers
+pub mod Opened

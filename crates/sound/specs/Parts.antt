@@ -1,4 +1,4 @@
--- The parts of the test: room, bounds of rules, marks, and the whole.
+-- The parts of the test: room, bounds of rules, marks, days, and the whole.
 use Prim.Native.Nat.{ℕ, _≤_, _<_}
 use mathlib.Core.Path.{_≡_}
 use mathlib.Core.Bool.{Bool, true}
@@ -6,7 +6,7 @@ use mathlib.Core.List.{List}
 use lib.ListN.{length}
 use lib.IntN.{ℤ}
 use Rattle.meaning.specs.Bounds.{STEPS, RULES}
-use Rattle.meaning.specs.Rules.{InBounds}
+use Rattle.meaning.specs.Rules.{InBounds, Earliest, largest}
 use Rattle.meaning.specs.Tables.{Tables, ColumnsRoom, rule-at, at, Room, Sound}
 use Rattle.lent.specs.Decides.{Decides}
 use Rattle.lent.specs.Lent.{columns}
@@ -20,6 +20,11 @@ AllIn n m xs ys cs = (i : ℕ) → i < m → InBounds n (rule-at (columns xs ys 
 pub record MarksIn (m k : ℕ) (marks : List ℕ) : Type 0 where
   pub never-fall : (i j : ℕ) → i ≤ j → j < k → at marks i ≤ at marks j
   pub held : (i : ℕ) → i < k → at marks i ≤ m
+
+-- The days are the earliest plan of the rules whose numbers H holds of, over n steps, and the last of them is `last`.
+pub record DaysIn (n : ℕ) (H : ℕ → Type 0) (xs ys : List ℕ) (cs : List ℤ) (days : List ℕ) (last : ℕ) : Type 0 where
+  pub earliest : Earliest n (rule-at (columns xs ys cs)) H (at days)
+  pub last-largest : last ≡ largest n (at days)
 
 -- The columns have room for m rules, and there is room for their chains over n steps.
 pub record ChainsRoom (n m : ℕ) (xs ys : List ℕ) (cs : List ℤ) (heads nexts : List ℕ) : Type 0 where

@@ -11,7 +11,7 @@ ghost use Rattle.meaning.specs.Tables.{ColumnsRoom, InCounts, Room, rule-at, at
 ghost use Rattle.lent.specs.Decides.{Decides};
 ghost use Rattle.lent.specs.Lent.{columns, tables, first};
 ghost use Rattle.chains.specs.Chains.{number};
-ghost use Rattle.sound.specs.Parts.{AllIn, MarksIn, ChainsRoom, RulesTested, Testable, Tested};
+ghost use Rattle.sound.specs.Parts.{AllIn, MarksIn, DaysIn, ChainsRoom, RulesTested, Testable, Tested};
 ghost use Rattle.sound.specs.Ground.{Worklist, Enterable, Stays, Comes, ListsRoom, Seeded, Groundable, Underway, AfterStep};
 use meaning::Counts;
 
@@ -246,6 +246,27 @@ fn is_earliest(
     entered == n
 }
 
+// Whether the days are the earliest plan of the first m rules, over n steps, and `last` is the last of them.
+fn days_in(
+    last: u32,
+    n: usize,
+    m: usize,
+    xs: &[u16],
+    ys: &[u16],
+    cs: &[i32],
+    days: &[u32],
+    heads: &[u16],
+    nexts: &[u16],
+) -> bool
+    requires { ⌜ Groundable n (first m) number (now xs) (now ys) (now cs) (now days) (now heads) (now nexts) ⌝ }
+    ensures { λ r. ⌜ Decides r (DaysIn n (first m) (now (xs .entry)) (now (ys .entry)) (now (cs .entry)) (now (days .entry)) last) ⌝ }
+{
+    if lent::last_day(n, days) != last {
+        return false;
+    }
+    is_earliest(n, m, xs, ys, cs, days, heads, nexts)
+}
+
 // Whether the tables, which have room, are sound; where they are, heads and nexts are left with the chains of the rules held.
 pub fn is_sound(
     counts: Counts,
@@ -277,5 +298,5 @@ pub fn is_sound(
     if !marks_in(m, counts.marks as usize, marks) {
         return false;
     }
-    is_earliest(n, m, xs, ys, cs, days, heads, nexts)
+    days_in(counts.last, n, m, xs, ys, cs, days, heads, nexts)
 }

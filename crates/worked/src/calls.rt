@@ -280,3 +280,19 @@ pub fn ring_check<'a>(
     );
     office::after(o, reply)
 }
+
+// Last day.
+pub fn last_day<'a>(
+    o: Office,
+    xs: &'a [u16],
+    ys: &'a [u16],
+    cs: &'a [i32],
+    days: &'a [u32],
+    marks: &'a [u32],
+    wxs: &'a [u16],
+    wys: &'a [u16],
+    wcs: &'a [i32],
+) -> Office {
+    let reply = desk::last_day(o.counts, xs, ys, cs, days, marks, wxs, wys, wcs);
+    office::after(o, reply)
+}

@@ -81,7 +81,12 @@ fn same_numbers<'a>(before: bool, list: &'a [u32], other: &'a [u32], a: u32) -> 
 
 // Whether the counts are the same.
 pub fn same_counts(a: Counts, b: Counts) -> bool {
-    (a.steps ^ b.steps) | (a.rules ^ b.rules) | (a.marks ^ b.marks) | (a.watched ^ b.watched) == 0
+    (a.steps ^ b.steps)
+        | (a.rules ^ b.rules)
+        | (a.marks ^ b.marks)
+        | (a.watched ^ b.watched)
+        | (a.last ^ b.last)
+        == 0
 }
 
 // What is as it is in another office: the tables, list one and list two.

@@ -1,13 +1,14 @@
-// Runs a text of cases through the eight public calls and writes what is seen: each line of standard input as it stands, and after it what the line
+// Runs a text of cases through the nine public calls and writes what is seen: each line of standard input as it stands, and after it what the line
 // gives. A line that starts with `#` is only copied. The lists that are lent have one place more than the calls need. Its file `stdin` has the
 // worked cases and the refusals of every call at their boundaries; its file `stdout` is written by hand from the paper.
-//   open N | watch X Y C | add X Y C | mark | back | trial X Y C | consequences    a public call
+//   open N | watch X Y C | add X Y C | mark | back | trial X Y C | consequences | last day    a public call
 //   part X Y C                           Trial, and the part that is then handed back
 //   ring check X Y C of N ..             Ring check of the list of these numbers; with `two` for them, of list two
 //   each X Y C                           every call but Open and part, one after the other
 //   .. LIST N places                     N places of the list are lent in this line
 //   N times .. | N times onward ..       the line N times, and its last answer; onward, both steps of the rule rise by one each time
-//   fill | put LIST I V | counts S R M W the pattern into every place; one place; the four counts
+//   fill | put LIST I V                  the pattern into every place; one place
+//   counts S R M W L                     the four counts, and the last day
 //   past K L                             whether all places past the counts, past K of list one and past L of list two hold the pattern
 //   rule I | show days I                 a held rule; a day
 ghost use Prim.Native.Nat.{_≤_};
@@ -45,6 +46,7 @@ fn tell<'a>(
         rules: 0,
         marks: 0,
         watched: 0,
+        last: 0,
     };
     let s = cells::compared(
         before,
@@ -135,6 +137,7 @@ fn made<'a>(
             calls::consequences(ask, o, xs, ys, cs, days, marks, wxs, wys, wcs)
         }
         words::RING => { calls::ring_check(ask, o, xs, ys, cs, days, marks, wxs, wys, wcs, two) }
+        words::LAST => calls::last_day(o, xs, ys, cs, days, marks, wxs, wys, wcs),
         words::PART => {
             show::part(desk::trial_part(one, two, o.last));
             o
@@ -228,7 +231,8 @@ fn each(ask: Ask, o: Office) -> Office {
     let o = public(words::ADD, ask, o);
     let o = public(words::TRIAL, ask, o);
     let o = public(words::CONSEQUENCES, ask, o);
-    public(words::RING, ask, o)
+    let o = public(words::RING, ask, o);
+    public(words::LAST, ask, o)
 }
 
 // Makes the call Trial, and writes the part that is handed back after it.
@@ -248,7 +252,7 @@ fn step(ask: Ask, o: Office) -> Office {
             show::say(show::UNKNOWN);
             o
         }
-        words::OPEN..=words::RING => public(op, ask, o),
+        words::OPEN..=words::LAST => public(op, ask, o),
         words::PART => tried(ask, o),
         words::EACH => each(ask, o),
         words::FILL => office::fresh(o.counts),
@@ -303,6 +307,7 @@ fn run(text: &[u8])
         rules: 9,
         marks: 9,
         watched: 9,
+        last: 9,
     });
     while at < text.len() {
         let e = line_end(text, at);

@@ -80,6 +80,7 @@ pub fn counted(ask: Ask, o: Office) -> Office {
         rules: ask.second,
         marks: ask.third,
         watched: ask.fourth,
+        last: ask.fifth,
     };
     let mut next = o;
     next.counts = counts;

@@ -7,34 +7,34 @@ use crate::words::Ask;
 use meaning::Counts;
 
 // Every piece of text that is written, each with a bar after it. A piece's number is its place here, from 0 on; those of the calls come first, by the calls' numbers.
-const PIECES: [u8; 153] =
-    *b":|: open|: watch|, mark|, back|, add|, trial|, consequences|, ring check|,| same| changed|, counts|, days|, ring|, one|, two|, first|, second|, part|: ?|";
+const PIECES: [u8; 164] =
+    *b":|: open|: watch|, mark|, back|, add|, trial|, consequences|, ring check|, last day|,| same| changed|, counts|, days|, ring|, one|, two|, first|, second|, part|: ?|";
 
 pub const COLON: u32 = 0;
 
-const COMMA: u32 = 9;
+const COMMA: u32 = 10;
 
-const SAME: u32 = 10;
+const SAME: u32 = 11;
 
-const CHANGED: u32 = 11;
+const CHANGED: u32 = 12;
 
-const COUNTS: u32 = 12;
+const COUNTS: u32 = 13;
 
-const DAYS: u32 = 13;
+const DAYS: u32 = 14;
 
-const RING: u32 = 14;
+const RING: u32 = 15;
 
-const ONE: u32 = 15;
+const ONE: u32 = 16;
 
-const TWO: u32 = 16;
+const TWO: u32 = 17;
 
-const FIRST: u32 = 17;
+const FIRST: u32 = 18;
 
-const SECOND: u32 = 18;
+const SECOND: u32 = 19;
 
-const PART: u32 = 19;
+const PART: u32 = 20;
 
-pub const UNKNOWN: u32 = 20;
+pub const UNKNOWN: u32 = 21;
 
 // What `lent::biased` makes of the amount 0.
 const ZERO: u64 = lent::BIAS;
@@ -56,6 +56,8 @@ const TRIED: u32 = 96;
 const TRIED_CLASH: u32 = 102;
 
 const SPLIT: u32 = 112;
+
+const LAST_TOLD: u32 = 144;
 
 // Writes the words as they are.
 pub fn text(words: &[u8]) {
@@ -167,13 +169,14 @@ fn flagged(seen: u32, case: u32, k: u32, as_before: bool) {
     }
 }
 
-// Writes the four counts: steps, rules, marks, watched rules.
+// Writes the counts: steps, rules, marks, watched rules, and the last day.
 fn counts(c: Counts) {
     say(COUNTS);
     number(c.steps);
     number(c.rules);
     number(c.marks);
     number(c.watched);
+    number(c.last);
 }
 
 // Writes the days of the first steps.
@@ -199,7 +202,8 @@ fn planned(seen: u32, c: Counts, days: &[u32]) {
 }
 
 // Writes what is to be seen after a call that is asked for alone. Add on CONFLICT: the ring, and whether the counts and the tables are as before. Trial: list
-// one with the days where the rule fits, list two with the ring on CONFLICT, else whether the list is as before, and whether the counts and tables are. Consequences: the filled parts.
+// one with the days where the rule fits, list two with the ring on CONFLICT, else whether the list is as before, and whether the counts and tables are. Consequences: the filled parts. Last
+// day: whether the counts and the tables are as before.
 pub fn seen<'a>(
     ask: Ask,
     g: Given,
@@ -221,6 +225,7 @@ pub fn seen<'a>(
     flagged(seen, TRIED_CLASH, COUNTS, s.tables);
     listed(seen, SPLIT, FIRST, one, g.one);
     listed(seen, SPLIT, SECOND, two, g.two);
+    flagged(seen, LAST_TOLD, COMMA, s.tables);
 }
 
 // Writes all numbers of a part.

@@ -3,8 +3,8 @@ ghost use Prim.Native.Nat.{_≤_};
 
 // Every word that is known, each with a space after it: the calls, what else a line can ask for, the lists, and what is said of the line. A word's
 // number is its place here, from 1 on.
-const KNOWN: [u8; 150] =
-    *b"open watch mark back add trial consequences ring part each counts put fill past rule show xs ys cs days marks wxs wys wcs one two times onward places ";
+const KNOWN: [u8; 155] =
+    *b"open watch mark back add trial consequences ring last part each counts put fill past rule show xs ys cs days marks wxs wys wcs one two times onward places ";
 
 // No word, or a word that is not known.
 pub const NONE: u32 = 0;
@@ -25,55 +25,57 @@ pub const CONSEQUENCES: u32 = 7;
 
 pub const RING: u32 = 8;
 
-pub const PART: u32 = 9;
+pub const LAST: u32 = 9;
 
-pub const EACH: u32 = 10;
+pub const PART: u32 = 10;
 
-pub const COUNTS: u32 = 11;
+pub const EACH: u32 = 11;
 
-pub const PUT: u32 = 12;
+pub const COUNTS: u32 = 12;
 
-pub const FILL: u32 = 13;
+pub const PUT: u32 = 13;
 
-pub const PAST: u32 = 14;
+pub const FILL: u32 = 14;
 
-pub const RULE: u32 = 15;
+pub const PAST: u32 = 15;
 
-pub const SHOW: u32 = 16;
+pub const RULE: u32 = 16;
+
+pub const SHOW: u32 = 17;
 
 // The lists' names.
-pub const XS: u32 = 17;
+pub const XS: u32 = 18;
 
-pub const YS: u32 = 18;
+pub const YS: u32 = 19;
 
-pub const CS: u32 = 19;
+pub const CS: u32 = 20;
 
-pub const DAYS: u32 = 20;
+pub const DAYS: u32 = 21;
 
-pub const MARKS: u32 = 21;
+pub const MARKS: u32 = 22;
 
-pub const WXS: u32 = 22;
+pub const WXS: u32 = 23;
 
-pub const WYS: u32 = 23;
+pub const WYS: u32 = 24;
 
-pub const WCS: u32 = 24;
+pub const WCS: u32 = 25;
 
-pub const ONE: u32 = 25;
+pub const ONE: u32 = 26;
 
-pub const TWO: u32 = 26;
+pub const TWO: u32 = 27;
 
 // What is said of the line.
-const TIMES: u32 = 27;
+const TIMES: u32 = 28;
 
-const ONWARD: u32 = 28;
+const ONWARD: u32 = 29;
 
-const PLACES: u32 = 29;
+const PLACES: u32 = 30;
 
 // A line that is only copied; no word asks for it.
-pub const HEADING: u32 = 30;
+pub const HEADING: u32 = 31;
 
 // Writing what the last call gave; no word asks for it.
-pub const TELL: u32 = 31;
+pub const TELL: u32 = 32;
 
 // How often a line is carried out at most.
 pub const MOST: u32 = 5000;
@@ -115,11 +117,12 @@ pub struct Ask {
     pub x: u16,
     pub y: u16,
     pub c: i32,
-    // The first four numbers, and the second with the line's sign.
+    // The first five numbers, and the second with the line's sign.
     pub first: u32,
     pub second: u32,
     pub third: u32,
     pub fourth: u32,
+    pub fifth: u32,
     pub signed: i32,
     pub numbers: [u32; 16],
     pub count: u32,
@@ -341,6 +344,7 @@ pub fn at_turn(line: Line, turn: u32) -> Ask {
         second: second,
         third: third,
         fourth: number(line, 3),
+        fifth: number(line, 4),
         signed: amount(line.minus, second),
         numbers: numbers,
         count: line.count,

@@ -1,7 +1,8 @@
 //! Holds the calls written by hand against the library: the same number, values, counts, tables and lists after every call, over random
 //! sequences of calls, with spoiled and short tables among them.
 
-use crate::office::{Call, Office, BY_HAND, LIBRARY};
+use crate::byhand::CONFLICT;
+use crate::office::{Call, Office, Outcome, BY_HAND, LIBRARY};
 use common::Random;
 use planner::bounds::{MARKS, RULES, STEPS, WATCHED};
 use planner::calls::Rule;
@@ -9,12 +10,12 @@ use planner::calls::Rule;
 const SEQUENCES: u64 = 600;
 const CALLS: usize = 60;
 
-/// Carries a call out by both engines, on copies, and stops the run where they differ. Gives back what the library left, and its number.
-pub fn both(office: &Office, call: Call) -> (Office, u32) {
+/// Carries a call out by both engines, on copies, and stops the run where they differ. Gives back what the library left, and what it gave.
+pub fn both(office: &Office, call: Call) -> (Office, Outcome) {
     let (mut ours, mut theirs) = (office.clone(), office.clone());
     let (wanted, got) = (ours.carry(&LIBRARY, call), theirs.carry(&BY_HAND, call));
     assert!(wanted == got && ours == theirs, "{:?}: the library gives {:?}, the calls by hand {:?}; tables are equal: {}", call, wanted, got, ours == theirs);
-    (ours, wanted.number)
+    (ours, wanted)
 }
 
 /// Returns how many calls were compared, and how many of them gave each number from DONE to NOMARK.
@@ -30,11 +31,12 @@ pub fn check() -> (usize, [usize; 8]) {
         for _ in 0..CALLS {
             let call = any_call(steps, random);
             let number = if random.chance(120) {
-                both(&spoiled(&office, random), call).1
+                both(&spoiled(&office, random), call).1.number
             } else {
-                let (after, number) = both(&office, call);
+                let (after, outcome) = both(&office, call);
                 office = after;
-                number
+                check_ring(&office, call, outcome.number, random);
+                outcome.number
             };
             compared += 1;
             given[number as usize] += 1;
@@ -42,6 +44,20 @@ pub fn check() -> (usize, [usize; 8]) {
     }
     assert!(given.iter().all(|count| *count > 0), "some number was never given: {:?}", given);
     (compared, given)
+}
+
+/// After a refused Add its ring is checked, and a list that is nearly one.
+fn check_ring(office: &Office, call: Call, number: u32, random: &mut Random) {
+    if let (Call::Add(rule), CONFLICT) = (call, number) {
+        let length = office.clone().carry(&LIBRARY, call).values[0] as usize;
+        let mut other = office.clone();
+        other.one[random.below(length)] = random.pick(&[0, office.one[0], office.one[length - 1], u32::MAX]);
+        for list in [office, &other] {
+            for places in [length, length - 1, length + 1] {
+                both(list, Call::RingCheck(rule, places));
+            }
+        }
+    }
 }
 
 /// Brings one table to its bound, or near it.
@@ -56,13 +72,14 @@ fn fill(office: &mut Office, random: &mut Random) {
 }
 
 fn any_call(steps: usize, random: &mut Random) -> Call {
-    match random.below(24) {
+    match random.below(26) {
         0..=9 => Call::Add(any_rule(steps, random)),
         10..=13 => Call::Trial(any_rule(steps, random)),
         14..=16 => Call::Watch(any_rule(steps, random)),
         17..=18 => Call::Mark,
         19..=20 => Call::Back,
-        21 if random.chance(150) => Call::Open(random.pick(&[0, steps as u32, STEPS as u32 + 1])),
+        21..=22 => Call::LastDay,
+        23 if random.chance(150) => Call::Open(random.pick(&[0, steps as u32, STEPS as u32 + 1])),
         _ => Call::Consequences,
     }
 }
@@ -78,13 +95,13 @@ fn any_rule(steps: usize, random: &mut Random) -> Rule {
     Rule { first: random.between(0, last + past) as u32, second: random.between(0, last + past) as u32, amount }
 }
 
-/// The office with one thing spoiled: a count, a cell, or a table or list with a place too few.
+/// The office with one thing spoiled: a count, the last day, a cell, or a table or list with a place too few.
 fn spoiled(office: &Office, random: &mut Random) -> Office {
     let mut spoiled = office.clone();
     let bound = random.pick(&[MARKS, STEPS, WATCHED, RULES]) as u32;
     let number = random.pick(&[0u32, 1, 2, 5, bound, bound + 1, u32::MAX]);
     let place = random.below(12);
-    match random.below(20) {
+    match random.below(22) {
         0 => spoiled.counts.steps = number,
         1 => spoiled.counts.rules = number,
         2 => spoiled.counts.marks = number,
@@ -103,6 +120,8 @@ fn spoiled(office: &Office, random: &mut Random) -> Office {
         16 => spoiled.marks.truncate(MARKS - 1),
         17 => spoiled.wys.truncate(WATCHED - 1),
         18 => spoiled.one.truncate(random.below(STEPS + 1)),
+        19 => spoiled.counts.last = random.pick(&[spoiled.counts.last.wrapping_add(1), spoiled.counts.last.wrapping_sub(1)]),
+        20 => spoiled.counts.last = number,
         _ => spoiled.two.truncate(random.below(STEPS + 1)),
     }
     spoiled

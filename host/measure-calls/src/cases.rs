@@ -1,15 +1,17 @@
 //! What is measured: each call on sound tables of one shape and size. Every case is carried out once by both engines, and compared, before it is
-//! measured. There is no call that is the sound test alone; where 64 marks are open, Mark is FULL after the sound test and does nothing else.
+//! measured. The sound test alone is Mark where 64 marks are open: it is FULL after that test and does nothing else.
 
 use crate::agree::both;
 use crate::byhand::{CONFLICT, DONE, FULL};
-use crate::office::{Call, Office};
-use crate::shapes::{clashing, moving, office, rule, still, Shape, Size};
+use crate::office::{Call, Office, BY_HAND, LIBRARY};
+use crate::shapes::{clashing, crowded, moving, office, rule, still, tight, Shape, Size};
+use planner::calls::Rule;
 
 pub struct Case {
     pub name: &'static str,
     pub call: Call,
     pub office: Office,
+    pub conflict: bool,
 }
 
 pub const SOUND: &str = "the sound test";
@@ -17,11 +19,15 @@ pub const WATCH: &str = "Watch";
 pub const MARK: &str = "Mark";
 pub const ADD_STILL: &str = "Add, nothing moves";
 pub const ADD_MOVING: &str = "Add, all but one step moves";
-pub const ADD_CLASHING: &str = "Add, conflict";
+pub const ADD_CLASHING: &str = "Add, conflict, up to 16 rules";
+pub const ADD_CROWDED: &str = "Add, conflict, 16 rules, crowded";
+pub const ADD_LONGEST: &str = "Add, conflict, as many as steps";
 pub const BACK: &str = "Back, half of the rules go";
 pub const TRIAL: &str = "Trial, all but one step moves";
+pub const RING: &str = "Ring check, as many as steps";
 pub const SPLIT_SOME: &str = "Consequences, 64 steps watched";
 pub const SPLIT_ALL: &str = "Consequences, all steps watched";
+pub const LAST_DAY: &str = "Last day";
 
 /// The cases of one shape and size; Consequences with so many watched rules, the other calls with a fourth of the rules.
 pub fn cases(shape: Shape, steps: usize, rules: usize, watched: usize) -> Vec<Case> {
@@ -33,12 +39,19 @@ pub fn cases(shape: Shape, steps: usize, rules: usize, watched: usize) -> Vec<Ca
         case(SOUND, Call::Mark, FULL, office(shape, Size { marks: 64, ..size })),
         case(MARK, Call::Mark, DONE, held.clone()),
         case(WATCH, Call::Watch(rule(0, 1, 5)), DONE, office(shape, Size { watched: rules / 4 - 1, ..size })),
+        case(LAST_DAY, Call::LastDay, DONE, held.clone()),
         case(ADD_STILL, Call::Add(still(&before_add)), DONE, before_add.clone()),
         case(ADD_MOVING, Call::Add(moving), DONE, before_add.clone()),
         case(TRIAL, Call::Trial(moving), DONE, before_add.clone()),
-        longest_ring(shape, &before_add),
+        clash(shape, &before_add),
         case(BACK, Call::Back, DONE, held),
     ];
+    if shape == Shape::Chain {
+        let (longest, tight) = (rule(steps - 1, 0, steps as i64 - 2), tight(steps, rules - 1));
+        cases.push(case(ADD_CROWDED, Call::Add(rule(15, 0, -100_000)), CONFLICT, crowded(steps, rules - 1)));
+        cases.push(ring_check(longest, &tight));
+        cases.push(case(ADD_LONGEST, Call::Add(longest), CONFLICT, tight));
+    }
     if steps > 64 {
         cases.push(case(SPLIT_SOME, Call::Consequences, DONE, office(shape, Size { watched, over: 64, ..size })));
     }
@@ -48,21 +61,36 @@ pub fn cases(shape: Shape, steps: usize, rules: usize, watched: usize) -> Vec<Ca
 
 /// A case of which both engines say the same, with the number wanted.
 fn case(name: &'static str, call: Call, wanted: u32, office: Office) -> Case {
-    let (after, number) = both(&office, call);
-    assert!(number == wanted, "{}: {:?} gives {}", name, call, number);
-    let steps = office.counts.steps as usize;
+    let (after, given) = both(&office, call);
+    assert!(given.number == wanted, "{}: {:?} gives {:?}", name, call, given);
+    let (steps, ring) = (office.counts.steps as usize, given.values[0] as usize);
     let moved = office.days.iter().zip(&after.days).filter(|(before, after)| before != after).count();
     match name {
         ADD_STILL => assert!(moved == 0, "{} steps move", moved),
         ADD_MOVING => assert!(moved == steps - 1, "{} of {} steps move", moved, steps),
+        ADD_CLASHING => assert!(ring <= LONG, "a ring of {} rules", ring),
+        ADD_CROWDED => assert!(ring == LONG, "a ring of {} rules", ring),
+        ADD_LONGEST => assert!(ring == steps, "a ring of {} rules and {} steps", ring, steps),
+        RING => assert!(ring == 1, "no ring of {:?}", call),
         _ => {}
     }
-    Case { name, call, office }
+    Case { name, call, office, conflict: wanted == CONFLICT }
 }
 
-/// The refused rule, of those that the shape has, with the longest ring.
-fn longest_ring(shape: Shape, office: &Office) -> Case {
-    let ring = |call: &Call| office.clone().carry(&crate::office::LIBRARY, *call).values[0];
-    let refused = clashing(shape, office).into_iter().map(Call::Add).max_by_key(ring).expect("a rule");
+/// A ring of so many rules is long for whoever reads it aloud.
+const LONG: usize = 16;
+
+/// The refused rule, of those that the shape has, with the longest ring of at most 16 rules.
+fn clash(shape: Shape, office: &Office) -> Case {
+    let given = |call: &Call| office.clone().carry(&BY_HAND, *call);
+    let fine = |call: &Call| given(call).number == CONFLICT && given(call).values[0] as usize <= LONG;
+    let refused = clashing(shape, office, LONG).into_iter().map(Call::Add).filter(fine).max_by_key(|call| given(call).values[0]).expect("a rule");
     case(ADD_CLASHING, refused, CONFLICT, office.clone())
+}
+
+/// Ring check of the ring that Add leaves in list one where it refuses the rule.
+fn ring_check(refused: Rule, office: &Office) -> Case {
+    let mut office = office.clone();
+    let length = office.carry(&LIBRARY, Call::Add(refused)).values[0] as usize;
+    case(RING, Call::RingCheck(refused, length), DONE, office)
 }

@@ -2,17 +2,18 @@
 //! lengthens one.
 
 use crate::cases::Case;
-use crate::office::{Call, Office, BY_HAND, LIBRARY};
+use crate::office::{Call, Engine, Office, ANY_RING, BY_HAND, LIBRARY};
 use std::time::{Duration, Instant};
 
 const ROUNDS: usize = 25;
 const ROUND: Duration = Duration::from_millis(2);
 
-/// Nanoseconds for one call of the library, the same by hand, and one plain pass over the rules held.
+/// Nanoseconds for one call of the library, the same by hand, and one plain pass over the rules held; where the call is a conflict, the same by hand with any ring.
 #[derive(Clone, Copy)]
 pub struct Times {
     pub library: f64,
     pub by_hand: f64,
+    pub any_ring: Option<f64>,
     pub plain: f64,
 }
 
@@ -25,13 +26,11 @@ pub fn measure(case: &Case) -> Times {
         office.counts = counts;
         office.days.copy_from_slice(&days);
     };
-    let library = |office: &mut Office| {
-        undo(office);
-        office.carry(&LIBRARY, call).number
-    };
-    let by_hand = |office: &mut Office| {
-        undo(office);
-        office.carry(&BY_HAND, call).number
+    let by = |engine: &'static Engine| {
+        move |office: &mut Office| {
+            undo(office);
+            office.carry(engine, call).number
+        }
     };
     let undone = |office: &mut Office| {
         undo(office);
@@ -39,33 +38,39 @@ pub fn measure(case: &Case) -> Times {
     };
     let wide = case.office.wide_days();
     let plain = |office: &mut Office| office.plain_pass(&wide);
-    let office = &mut case.office.clone();
-    let [library, by_hand, undone, plain] = shortest(office, [&library, &by_hand, &undone, &plain], &undo);
-    Times { library: library - undone, by_hand: by_hand - undone, plain }
+    let (library, by_hand, any_ring) = (by(&LIBRARY), by(&BY_HAND), by(&ANY_RING));
+    let mut works: Vec<Work> = vec![&library, &by_hand, &undone, &plain];
+    if case.conflict {
+        works.push(&any_ring);
+    }
+    let times = shortest(&mut case.office.clone(), &works, &undo);
+    let undone = times[2];
+    Times { library: times[0] - undone, by_hand: times[1] - undone, plain: times[3], any_ring: times.get(4).map(|time| time - undone) }
 }
 
 type Work<'a> = &'a dyn Fn(&mut Office) -> u32;
 
 /// Nanoseconds that each work takes, all on the same tables: the shortest round in which this thread never waited for a processor; where there is none, the
 /// shortest with the waiting taken off.
-fn shortest(office: &mut Office, works: [Work; 4], undo: &dyn Fn(&mut Office)) -> [f64; 4] {
-    let times = works.map(|work| {
+fn shortest(office: &mut Office, works: &[Work], undo: &dyn Fn(&mut Office)) -> Vec<f64> {
+    let mut often = |work: &Work| {
         let mut times = 1;
-        while (0..3).any(|_| round(office, work, times).took < ROUND) {
+        while (0..3).any(|_| round(office, *work, times).took < ROUND) {
             times *= 2;
         }
         times
-    });
-    let (mut calm, mut disturbed) = ([f64::INFINITY; 4], [f64::INFINITY; 4]);
+    };
+    let times: Vec<u32> = works.iter().map(|work| often(work)).collect();
+    let (mut calm, mut disturbed) = (vec![f64::INFINITY; works.len()], vec![f64::INFINITY; works.len()]);
     for _ in 0..ROUNDS {
-        for (number, (work, times)) in works.iter().zip(times).enumerate() {
+        for (number, (work, times)) in works.iter().zip(&times).enumerate() {
             undo(office);
-            let round = round(office, *work, times);
+            let round = round(office, *work, *times);
             let kept = if round.waited == Duration::ZERO { &mut calm } else { &mut disturbed };
-            kept[number] = kept[number].min(round.took.as_nanos() as f64 / f64::from(times));
+            kept[number] = kept[number].min(round.took.as_nanos() as f64 / f64::from(*times));
         }
     }
-    [0, 1, 2, 3].map(|number| if calm[number].is_finite() { calm[number] } else { disturbed[number] })
+    calm.iter().zip(disturbed).map(|(calm, disturbed)| if calm.is_finite() { *calm } else { disturbed }).collect()
 }
 
 /// How long a round worked, and how long it waited meanwhile.

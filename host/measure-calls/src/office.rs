@@ -13,10 +13,12 @@ pub struct Engine {
     add: fn(&mut Counts, &mut Tables, &mut [u32], Rule, &mut u32) -> u32,
     trial: fn(&Counts, &mut Tables, &mut [u32], &mut [u32], Rule, &mut u32) -> u32,
     consequences: fn(&Counts, &mut Tables, &mut [u32], &mut [u32], &mut u32, &mut u32) -> u32,
+    last_day: fn(&Counts, &mut Tables, &mut u32) -> u32,
+    ring_check: fn(&Counts, &mut Tables, &[u32], Rule, &mut u32) -> u32,
 }
 
 /// The proved library.
-pub const LIBRARY: Engine = Engine {
+pub static LIBRARY: Engine = Engine {
     open: calls::open,
     watch: calls::watch,
     mark: calls::mark,
@@ -24,10 +26,12 @@ pub const LIBRARY: Engine = Engine {
     add: calls::add,
     trial: calls::trial,
     consequences: calls::consequences,
+    last_day: calls::last_day,
+    ring_check: calls::ring_check,
 };
 
 /// The same calls written by hand.
-pub const BY_HAND: Engine = Engine {
+pub static BY_HAND: Engine = Engine {
     open: byhand::open,
     watch: byhand::watch,
     mark: byhand::mark,
@@ -35,7 +39,12 @@ pub const BY_HAND: Engine = Engine {
     add: byhand::add,
     trial: byhand::trial,
     consequences: byhand::consequences,
+    last_day: byhand::last_day,
+    ring_check: byhand::ring_check,
 };
+
+/// The same calls, with any ring of a conflict.
+pub static ANY_RING: Engine = Engine { add: byhand::add_with_any_ring, ..BY_HAND };
 
 #[derive(Clone, Copy, Debug)]
 pub enum Call {
@@ -46,6 +55,9 @@ pub enum Call {
     Add(Rule),
     Trial(Rule),
     Consequences,
+    LastDay,
+    /// Of so many places of list one.
+    RingCheck(Rule, usize),
 }
 
 /// The number given back, and the values.
@@ -78,7 +90,7 @@ impl Office {
     /// Tables with just the room that is asked for, with nothing in them, and that many steps.
     pub fn new(steps: usize) -> Office {
         Office {
-            counts: Counts { steps: steps as u32, rules: 0, marks: 0, watched: 0 },
+            counts: Counts { steps: steps as u32, rules: 0, marks: 0, watched: 0, last: 0 },
             xs: vec![0; RULES],
             ys: vec![0; RULES],
             cs: vec![0; RULES],
@@ -122,6 +134,8 @@ impl Office {
             Call::Add(rule) => (engine.add)(counts, t, one, rule, first),
             Call::Trial(rule) => (engine.trial)(counts, t, one, two, rule, first),
             Call::Consequences => (engine.consequences)(counts, t, one, two, first, second),
+            Call::LastDay => (engine.last_day)(counts, t, first),
+            Call::RingCheck(rule, places) => (engine.ring_check)(counts, t, &one[..places.min(one.len())], rule, first),
         };
         Outcome { number, values }
     }

@@ -88,7 +88,7 @@ fn scattered(size: Size, random: &mut Random) -> Vec<Rule> {
     (0..size.rules).map(one).collect()
 }
 
-/// Brings the days to the earliest plan, by raising them until every rule is kept.
+/// Brings the days to the earliest plan, by raising them until every rule is kept, and the last day with them.
 fn plan(office: &mut Office) {
     let mut moved = true;
     while moved {
@@ -102,6 +102,7 @@ fn plan(office: &mut Office) {
             }
         }
     }
+    office.counts.last = office.days[..office.counts.steps as usize].iter().copied().max().expect("a step");
 }
 
 /// A rule that the days keep.
@@ -119,14 +120,40 @@ pub fn moving(shape: Shape, office: &Office) -> Rule {
     }
 }
 
-/// Rules that are refused; the one with the longest ring is for the caller to choose.
-pub fn clashing(shape: Shape, office: &Office) -> Vec<Rule> {
+/// Rules that are refused: along a chain with a ring of so many rules; in the random shape the caller chooses by its ring.
+pub fn clashing(shape: Shape, office: &Office, ring: usize) -> Vec<Rule> {
     let last = office.counts.steps as usize - 1;
     match shape {
-        Shape::Chain => vec![rule(last - 1, 0, i64::from(office.days[last - 1]) - 1)],
+        Shape::Chain => vec![rule(ring - 1, 0, i64::from(office.days[ring - 1]) - 1)],
         Shape::Random => {
             let random = &mut Random::new(1);
             (0..200).map(|_| rule(random.below(last), random.below(last), -2000)).collect()
         }
     }
+}
+
+/// Sound tables of these rules.
+fn holding(steps: usize, rules: impl Iterator<Item = Rule>) -> Office {
+    let mut office = Office::new(steps);
+    rules.for_each(|rule| office.hold(rule));
+    plan(&mut office);
+    office
+}
+
+/// Tables for a ring of 16 rules that is dear to find: one way of 15 rules, and from most other steps the way's last step is near.
+pub fn crowded(steps: usize, rules: usize) -> Office {
+    let random = &mut Random::new(steps as u64);
+    let way = (1..16).map(|step| rule(step - 1, step, -1));
+    let to_the_end = (16..steps).map(|step| rule(step, 15, 0));
+    let mut any = || rule(16 + random.below(steps - 16), 16 + random.below(steps - 16), 0);
+    let among = std::iter::repeat_with(|| any());
+    holding(steps, way.chain(to_the_end).chain(among).take(rules))
+}
+
+/// Tables with nothing to spare, so that every step is near to others by many rules: a chain over all steps, its rules turned round, rules of one step, and so on.
+pub fn tight(steps: usize, rules: usize) -> Office {
+    let chain = (1..steps).map(|step| rule(step - 1, step, -1));
+    let turned = (1..steps).map(|step| rule(step, step - 1, 1));
+    let own = (0..steps).map(|step| rule(step, step, 0));
+    holding(steps, chain.chain(turned).chain(own).cycle().take(rules))
 }

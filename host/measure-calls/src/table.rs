@@ -17,16 +17,20 @@ pub struct Row {
 
 /// Measures every case, printing each as it is done.
 pub fn rows() -> Vec<Row> {
-    println!("{:<32}{:<8}{:>6}{:>7}{:>12}{:>12}{:>12}{:>10}{:>10}", "call", "shape", "steps", "rules", "library us", "by hand us", "plain us", "/by hand", "/plain");
+    println!(
+        "{:<34}{:<8}{:>6}{:>7}{:>12}{:>12}{:>12}{:>10}{:>10}{:>13}",
+        "call", "shape", "steps", "rules", "library us", "by hand us", "plain us", "/by hand", "/plain", "any ring us"
+    );
     let mut rows: Vec<Row> = Vec::new();
     for shape in Shape::ALL {
         for (column, (steps, rules)) in SIZES.into_iter().enumerate() {
             for case in cases(shape, steps, rules, WATCHED) {
                 let t = measure(&case);
                 let (by_hand, plain) = ratios(t);
+                let any_ring = t.any_ring.map_or(String::new(), |time| format!("{:>13.2}", time / 1e3));
                 println!(
-                    "{:<32}{:<8}{:>6}{:>7}{:>12.2}{:>12.2}{:>12.2}{:>10.2}{:>10.1}",
-                    case.name, shape.name(), steps, rules, t.library / 1e3, t.by_hand / 1e3, t.plain / 1e3, by_hand, plain
+                    "{:<34}{:<8}{:>6}{:>7}{:>12.2}{:>12.2}{:>12.2}{:>10.2}{:>10.1}{}",
+                    case.name, shape.name(), steps, rules, t.library / 1e3, t.by_hand / 1e3, t.plain / 1e3, by_hand, plain, any_ring
                 );
                 let known = rows.iter().position(|row| row.name == case.name && row.shape == shape);
                 let at = known.unwrap_or_else(|| {
@@ -56,8 +60,9 @@ pub fn markdown(rows: &[Row]) -> String {
     text += &format!("\n|---{}|\n", "|---".repeat(Shape::ALL.len() * SIZES.len()));
     for row in rows.iter().filter(|row| row.shape == Shape::ALL[0]) {
         text += &format!("| {} |", row.name);
-        for other in rows.iter().filter(|other| other.name == row.name) {
-            for times in other.times {
+        for shape in Shape::ALL {
+            let other = rows.iter().find(|other| other.name == row.name && other.shape == shape);
+            for times in other.map_or([None; SIZES.len()], |other| other.times) {
                 text += &times.map(ratios).map_or(String::from(" |"), |(by_hand, plain)| format!(" {:.2}; {:.1} |", by_hand, plain));
             }
         }
@@ -72,6 +77,17 @@ pub fn targets(rows: &[Row]) -> String {
     full.map(|column| targets_at(rows, column)).collect()
 }
 
+const ADDS: [&str; 5] = [cases::ADD_STILL, cases::ADD_MOVING, cases::ADD_CLASHING, cases::ADD_CROWDED, cases::ADD_LONGEST];
+
+/// The library's time for Ring check over its time for Mark, both on the shape that has the longest ring.
+fn over_mark(rows: &[Row], column: usize) -> f64 {
+    let of = |name: &str| rows.iter().find(|row| row.name == name && row.shape == Shape::Chain).and_then(|row| row.times[column]);
+    match (of(cases::RING), of(cases::MARK)) {
+        (Some(ring), Some(mark)) => ring.library / mark.library,
+        _ => f64::INFINITY,
+    }
+}
+
 fn targets_at(rows: &[Row], column: usize) -> String {
     let most = |names: &[&str], ratio: fn(Times) -> f64| {
         let full = rows.iter().filter(|row| names.contains(&row.name)).filter_map(|row| row.times[column]);
@@ -79,16 +95,21 @@ fn targets_at(rows: &[Row], column: usize) -> String {
     };
     let by_hand: fn(Times) -> f64 = |t| ratios(t).0;
     let plain: fn(Times) -> f64 = |t| ratios(t).1;
+    let any_ring: fn(Times) -> f64 = |t| t.any_ring.map_or(0.0, |time| t.library / time);
+    let milliseconds: fn(Times) -> f64 = |t| t.library / 1e6;
     let lines = [
         ("the sound test, to one plain pass", most(&[cases::SOUND], plain), 8.0),
-        ("Watch and Mark, to the same by hand", most(&[cases::WATCH, cases::MARK], by_hand), 1.5),
-        ("Add, to the same by hand", most(&[cases::ADD_STILL, cases::ADD_MOVING, cases::ADD_CLASHING], by_hand), 1.5),
+        ("Watch, Mark and Last day, to the same by hand", most(&[cases::WATCH, cases::MARK, cases::LAST_DAY], by_hand), 1.5),
+        ("Add, to the same by hand", most(&ADDS, by_hand), 1.5),
+        ("a conflict of up to 16 rules, to any ring by hand", most(&[cases::ADD_CLASHING], any_ring), 3.0),
+        ("a conflict of as many rules as steps, milliseconds", most(&[cases::ADD_LONGEST], milliseconds), 100.0),
         ("Consequences, to the same by hand", most(&[cases::SPLIT_SOME, cases::SPLIT_ALL], by_hand), 2.0),
+        ("Ring check, to Mark", over_mark(rows, column), 2.0),
     ];
     let mut text = format!("at {} steps and {} rules, the larger of the two shapes:\n", SIZES[column].0, SIZES[column].1);
     for (what, got, wanted) in lines {
         let verdict = if got <= wanted { "reached" } else { "MISSED" };
-        text += &format!("{:<44}{:>6.2}, wanted at most {:.1}: {}\n", what, got, wanted, verdict);
+        text += &format!("{:<52}{:>6.2}, wanted at most {:.1}: {}\n", what, got, wanted, verdict);
     }
     text
 }

@@ -2,7 +2,7 @@
 //! a record by reference, and nothing is kept after the call. The declarations below say what `include/dates.h` says; nothing checks them against the
 //! library but the tests.
 
-/// How many of each thing the tables hold.
+/// How many of each thing the tables hold, and the last day of the plan.
 #[repr(C)]
 #[derive(Clone, Copy, Debug, Default, PartialEq, Eq)]
 pub struct Counts {
@@ -14,6 +14,8 @@ pub struct Counts {
     pub marks: u32,
     /// Watched rules.
     pub watched: u32,
+    /// The last day: the largest day of all steps. Any other value makes the tables DAMAGED.
+    pub last: u32,
 }
 
 /// The script's record. `logic` and `sat` are 0 or 1.
@@ -117,6 +119,7 @@ declare! {
         one: *mut u32, one_len: usize, two: *mut u32, two_len: usize, held: *mut u32, excluded: *mut u32,);
     fn dates_ring_check(counts: *const Counts, [const const const const const const const const]
         list: *const u32, list_len: usize, x: u32, y: u32, c: i32, verdict: *mut u32,);
+    fn dates_last_day(counts: *const Counts, [const const const const const const const const] day: *mut u32,);
     fn dates_start(counts: *mut Counts, record: *mut Record, [const const const mut const const const const]
         names: *const u8, names_len: usize, lens: *const u8, lens_len: usize,);
     fn dates_command(text: *const u8, text_len: usize, counts: *mut Counts, record: *mut Record, [mut mut mut mut mut const const const]
@@ -160,7 +163,7 @@ macro_rules! show {
     };
 }
 
-/// Open: that many steps, on day 0, and no rules, marks or watched rules.
+/// Open: that many steps, on day 0, and no rules, marks or watched rules; the last day is 0.
 pub fn open(counts: &mut Counts, t: &mut Tables, steps: u32) -> u32 {
     lend!(dates_open(counts; t; steps))
 }
@@ -180,14 +183,14 @@ pub fn back(counts: &mut Counts, t: &mut Tables) -> u32 {
     lend!(dates_back(counts; t;))
 }
 
-/// Add: the rule is held, and `value` is how many steps moved; on CONFLICT the ring is in the list, and `value` is its length.
+/// Add: the rule is held, and `value` is how many steps moved; on CONFLICT the ring, the shortest there is, is in the list, and `value` is its length.
 pub fn add(counts: &mut Counts, t: &mut Tables, list: &mut [u32], r: Rule, value: &mut u32) -> u32 {
     lend!(dates_add(counts; t; list.as_mut_ptr(), list.len(), r.first, r.second, r.amount, value))
 }
 
-// The next three write no table. They are here also over tables lent for writing, for tests that look whether it is so.
+// The next four write no table. They are here also over tables lent for writing, for tests that look whether it is so.
 
-/// Trial: answers as Add would and writes to no table; `days` gets the days, or `ring` the ring.
+/// Trial: answers as Add would and writes to no table; `days` gets the days, or `ring` the ring that Add would give.
 pub fn trial(counts: &Counts, t: &mut Tables, days: &mut [u32], ring: &mut [u32], r: Rule, value: &mut u32) -> u32 {
     lend!(dates_trial(counts; t; days.as_mut_ptr(), days.len(), ring.as_mut_ptr(), ring.len(), r.first, r.second, r.amount, value))
 }
@@ -200,6 +203,11 @@ pub fn consequences(counts: &Counts, t: &mut Tables, all: &mut [u32], none: &mut
 /// Ring check: `verdict` is 1 where the list is a negative ring that starts with the rule under its would-be number and goes on over held rules.
 pub fn ring_check(counts: &Counts, t: &mut Tables, list: &[u32], r: Rule, verdict: &mut u32) -> u32 {
     lend!(dates_ring_check(counts; t; list.as_ptr(), list.len(), r.first, r.second, r.amount, verdict))
+}
+
+/// Last day: `day` is the largest day of the plan, over all steps.
+pub fn last_day(counts: &Counts, t: &mut Tables, day: &mut u32) -> u32 {
+    lend!(dates_last_day(counts; t; day))
 }
 
 /// Trial over tables that are lent for reading.
@@ -215,6 +223,11 @@ pub fn consequences_over(counts: &Counts, t: &View, all: &mut [u32], none: &mut 
 /// Ring check over tables that are lent for reading.
 pub fn ring_check_over(counts: &Counts, t: &View, list: &[u32], r: Rule, verdict: &mut u32) -> u32 {
     show!(dates_ring_check(counts; t; list.as_ptr(), list.len(), r.first, r.second, r.amount, verdict))
+}
+
+/// Last day over tables that are lent for reading.
+pub fn last_day_over(counts: &Counts, t: &View, day: &mut u32) -> u32 {
+    show!(dates_last_day(counts; t; day))
 }
 
 /// Start: as many steps as there may be, and an empty record.
@@ -248,8 +261,8 @@ mod tests {
     #[test]
     fn counts_lie_as_in_c() {
         let k = Counts::default();
-        assert_eq!((size_of::<Counts>(), align_of::<Counts>()), (16, 4));
-        assert_eq!([&k.steps, &k.rules, &k.marks, &k.watched].map(|field| offset(&k, field)), [0, 4, 8, 12]);
+        assert_eq!((size_of::<Counts>(), align_of::<Counts>()), (20, 4));
+        assert_eq!([&k.steps, &k.rules, &k.marks, &k.watched, &k.last].map(|field| offset(&k, field)), [0, 4, 8, 12, 16]);
     }
 
     #[test]

@@ -1,8 +1,8 @@
 //! A date engine whose promises are proved, as safe Rust.
 //!
 //! A [`Planner`] keeps rules over steps, such as "drying at least two days after cutting", and gives every step its earliest day. A rule that cannot be kept is
-//! refused with the [`Ring`] of rules that says why; marks remember what was held, and going back restores it; watched rules are split into those that always
-//! hold and those that never do. [`Planner::command`] and [`run_script`] take the same rules as SMT-LIB scripts.
+//! refused with the shortest [`Ring`] of rules that says why; marks remember what was held, and going back restores it; watched rules are split into those that always
+//! hold and those that never do; the last day of the plan is at hand after every call. [`Planner::command`] and [`run_script`] take the same rules as SMT-LIB scripts.
 //!
 //! ```
 //! use planner::{Planner, Refusal, Rule};
@@ -12,6 +12,7 @@
 //! planner.add(Rule::at_least(2, drying, cutting))?;
 //! planner.add(Rule::at_least(3, delivery, drying))?;
 //! assert_eq!(planner.days(), [0, 2, 5]);
+//! assert_eq!(planner.last_day()?, 5);
 //!
 //! match planner.add(Rule::at_most(4, delivery, cutting)) {
 //!     Err(Refusal::Conflict(ring)) => assert_eq!((ring.numbers(), ring.sum()), (&[2, 0, 1][..], -1)),

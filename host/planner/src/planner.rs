@@ -1,4 +1,4 @@
-//! The planner: the eight calls over tables that it owns.
+//! The planner: the nine calls over tables that it owns.
 
 use crate::bounds::{STEPS, WATCHED};
 use crate::calls::{self, Counts, Record};
@@ -102,7 +102,7 @@ impl Planner {
     /// **Add**: holds one more rule, brings the days to the earliest plan, and says how many steps moved.
     ///
     /// Refused with [`Refusal::Step`], [`Refusal::Amount`], [`Refusal::Full`] where 4,096 rules are held, and with [`Refusal::Conflict`] exactly when no
-    /// arrangement keeps the rule along with those held; its [`Ring`] says why.
+    /// arrangement keeps the rule along with those held; its [`Ring`], the shortest there is, says why.
     ///
     /// ```
     /// use planner::{Moved, Planner, Refusal, Rule};
@@ -157,7 +157,7 @@ impl Planner {
         Refusal::judge_plain(calls::back(&mut self.counts, &mut self.owned.lend().0))
     }
 
-    /// **Trial**: answers as [`add`](Planner::add) would, with the days that all steps would have, and changes nothing.
+    /// **Trial**: answers as [`add`](Planner::add) would, with the days that all steps would have or the same ring, and changes nothing.
     ///
     /// ```
     /// use planner::{Moved, Planner, Rule};
@@ -199,8 +199,8 @@ impl Planner {
         Ok(Consequences { always: always[..held as usize].to_vec(), never: never[..excluded as usize].to_vec() })
     }
 
-    /// **Ring check**: whether the list is a negative ring that starts with the rule under its would-be number and goes on over rules held. Refused with
-    /// [`Refusal::Step`] and [`Refusal::Amount`].
+    /// **Ring check**: whether the list is a negative ring that starts with the rule under its would-be number and goes on over rules held. It need not be the shortest.
+    /// Refused with [`Refusal::Step`] and [`Refusal::Amount`].
     ///
     /// ```
     /// use planner::{Planner, Rule};
@@ -216,6 +216,30 @@ impl Planner {
         let number = calls::ring_check_over(&self.counts, &self.owned.view(), list, rule, &mut verdict);
         Refusal::judge_plain(number)?;
         Ok(verdict == 1)
+    }
+
+    /// **Last day**: the largest day of the plan, over all steps. For a script these are 1,024, whether they have a name or not.
+    ///
+    /// ```
+    /// use planner::{Planner, Rule};
+    ///
+    /// let mut planner = Planner::open(4)?;
+    /// assert_eq!(planner.last_day()?, 0);
+    /// planner.add(Rule::new(0, 1, -2))?;
+    /// planner.mark()?;
+    /// planner.add(Rule::new(1, 2, -3))?;
+    /// assert_eq!((planner.days(), planner.last_day()?), (&[0, 2, 5, 0][..], 5));
+    /// planner.add(Rule::new(2, 0, 4)).unwrap_err();
+    /// assert_eq!(planner.last_day()?, 5);
+    /// planner.back()?;
+    /// assert_eq!((planner.days(), planner.last_day()?), (&[0, 2, 0, 0][..], 2));
+    /// # Ok::<(), planner::Refusal>(())
+    /// ```
+    pub fn last_day(&self) -> Result<u32, Refusal> {
+        let mut day = 0;
+        let number = calls::last_day_over(&self.counts, &self.owned.view(), &mut day);
+        Refusal::judge_plain(number)?;
+        Ok(day)
     }
 
     /// The day of each step in the earliest plan.
@@ -247,7 +271,7 @@ impl Planner {
         (0..self.counts.watched as usize).map(move |i| Rule::new(self.owned.wxs[i].into(), self.owned.wys[i].into(), self.owned.wcs[i]))
     }
 
-    /// How many of each thing there are.
+    /// How many of each thing there are, and the last day.
     pub fn counts(&self) -> Counts {
         self.counts
     }

@@ -26,7 +26,7 @@ pub enum Refusal {
     Amount,
     /// 5: no place for one more rule, mark, watched rule or declared name.
     Full,
-    /// 6: with the new rule no arrangement exists; the ring says why.
+    /// 6: with the new rule no arrangement exists; the ring, the shortest there is, says why.
     Conflict(Ring),
     /// 7: Back with no mark open.
     NoMark,
@@ -51,7 +51,7 @@ impl Refusal {
         self.told().1
     }
 
-    /// The ring, where this is a conflict.
+    /// The ring, where this is a conflict: the shortest there is.
     pub fn ring(&self) -> Option<&Ring> {
         match self {
             Refusal::Conflict(ring) => Some(ring),

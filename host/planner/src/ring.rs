@@ -5,6 +5,9 @@ use crate::Rule;
 /// Why a rule cannot be kept: a list of rules where each rule's second step is the next rule's first step, the last one's second step is the first one's first
 /// step, no step is a first step twice, and the amounts add up below 0. The refused rule is the first, under the number it would have had; the others are held.
 ///
+/// It is the shortest such list: no other has fewer rules, and of those with as few it is the one whose numbers are smallest at the first difference. So there is one
+/// ring for a refused rule, and it can be read aloud.
+///
 /// ```
 /// use planner::{Planner, Refusal, Rule};
 ///
@@ -18,6 +21,9 @@ use crate::Rule;
 /// } else {
 ///     panic!("step 2 is at least 5 days after step 0");
 /// }
+/// // Where a later rule says as much as these two, two rules are enough.
+/// planner.add(Rule::new(0, 2, -5))?;
+/// assert_eq!(planner.trial(Rule::new(2, 0, 4)).unwrap_err().ring().unwrap().numbers(), [3, 2]);
 /// # Ok::<(), Refusal>(())
 /// ```
 #[derive(Clone, Debug, PartialEq, Eq)]

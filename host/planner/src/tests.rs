@@ -57,6 +57,34 @@ fn cases_5_and_6() {
     assert_eq!(ring_of(planner.add(rule(3, 3, -1))).numbers(), [1]);
 }
 
+/// The rules held, the rule that is refused, its ring, and another list that Ring check takes for one, where there is one.
+type Reason = (&'static [(u32, u32, i32)], (u32, u32, i32), &'static [u32], &'static [u32]);
+
+const REASONS: [Reason; 7] = [
+    (&[(0, 1, -1), (1, 2, -1), (2, 3, -1), (0, 3, -3)], (3, 0, 2), &[4, 3], &[4, 0, 1, 2]),
+    (&[(0, 1, -2), (0, 1, -2)], (1, 0, 1), &[2, 0], &[2, 1]),
+    (&[(0, 1, -5), (0, 1, -9)], (1, 0, 4), &[2, 0], &[2, 1]),
+    // 3 0 adds up to 0.
+    (&[(0, 1, -1), (0, 2, -1), (2, 1, -1)], (1, 0, 1), &[3, 1, 2], &[]),
+    // The smallest first number leads to no ring.
+    (&[(0, 1, 0), (0, 2, -3), (1, 3, 0), (2, 3, 0)], (3, 0, 2), &[4, 1, 3], &[]),
+    (&[(0, 2, -1), (0, 1, -1), (1, 3, -1), (2, 3, -1)], (3, 0, 1), &[4, 0, 3], &[4, 1, 2]),
+    (&[(2, 2, 0), (0, 1, 0), (1, 0, 0)], (0, 0, -1), &[3], &[]),
+];
+
+#[test]
+fn the_shortest_reason() {
+    for (held, (x, y, c), wanted, other) in REASONS {
+        let held: Vec<Rule> = held.iter().map(|(x, y, c)| rule(*x, *y, *c)).collect();
+        let (mut planner, refused) = (holding(&held), rule(x, y, c));
+        let ring = ring_of(planner.add(refused));
+        assert_eq!(ring.numbers(), wanted);
+        assert_eq!(planner.trial(refused), Err(Refusal::Conflict(ring)));
+        assert_eq!(planner.ring_check(refused, wanted), Ok(true));
+        assert_eq!(planner.ring_check(refused, other), Ok(!other.is_empty()));
+    }
+}
+
 #[test]
 fn case_8() {
     assert_eq!(holding(&[rule(0, 1, 0), rule(1, 0, 0)]).days(), [0, 0, 0, 0]);
@@ -105,9 +133,59 @@ fn case_13() {
     for step in 0..STEPS as u32 - 1 {
         planner.add(rule(step, step + 1, -LARGEST)).unwrap();
     }
-    assert_eq!(planner.days()[STEPS - 1], LATEST);
+    assert_eq!((planner.days()[STEPS - 1], last_day(&planner)), (LATEST, LATEST));
+    let last = STEPS as u32 - 1;
+    let longest: Vec<u32> = [last].into_iter().chain(0..last).collect();
+    assert_eq!(ring_of(planner.add(rule(last, 0, LARGEST))).numbers(), longest);
     for steps in [0, STEPS as u32 + 1, u32::MAX] {
         assert_eq!(Planner::open(steps).unwrap_err(), Refusal::Step);
+    }
+}
+
+/// The last day, by the call, where the record says the same.
+fn last_day(planner: &Planner) -> u32 {
+    let day = planner.last_day().unwrap();
+    assert_eq!(planner.counts().last, day);
+    day
+}
+
+#[test]
+fn the_last_day_of_the_cases() {
+    let mut planner = holding(&[]);
+    assert_eq!(last_day(&planner), 0);
+    for (rule, day) in [(CASE_3[0], 2), (CASE_3[1], 5)] {
+        planner.add(rule).unwrap();
+        assert_eq!(last_day(&planner), day);
+    }
+    ring_of(planner.add(rule(2, 0, 4)));
+    assert_eq!(last_day(&planner), 5);
+    // Nor does what a rule would do count, or a watched rule, or a mark.
+    assert_eq!(planner.trial(rule(3, 0, -4)).unwrap().days, [4, 6, 9, 0]);
+    planner.watch(rule(0, 2, -9)).unwrap();
+    planner.mark().unwrap();
+    assert_eq!(last_day(&planner), 5);
+    planner.add(rule(3, 0, -4)).unwrap();
+    assert_eq!(last_day(&planner), 9);
+    planner.back().unwrap();
+    assert_eq!(last_day(&planner), 5);
+    assert_eq!(last_day(&holding(&[rule(2, 0, -7)])), 7);
+    let mut planner = holding(&CASE_3[..1]);
+    planner.mark().unwrap();
+    planner.add(CASE_3[1]).unwrap();
+    planner.back().unwrap();
+    assert_eq!(last_day(&planner), 2);
+}
+
+#[test]
+fn a_wrong_last_day_is_damaged() {
+    let mut fresh = holding(&[]);
+    let mut planner = holding(&CASE_3);
+    for day in [0, 1, 2, 4, 5, 6, LATEST, u32::MAX] {
+        fresh.counts.last = day;
+        assert_eq!(fresh.last_day(), if day == 0 { Ok(0) } else { Err(Refusal::Damaged) });
+        planner.counts.last = day;
+        assert_eq!(planner.last_day(), if day == 5 { Ok(5) } else { Err(Refusal::Damaged) });
+        assert_eq!(planner.trial(rule(2, 0, 5)).is_ok(), day == 5);
     }
 }
 
@@ -246,11 +324,13 @@ fn commands_and_the_other_calls_on_the_same_tables() {
         assert_eq!(planner.command(text).unwrap().read, text.len());
     }
     assert_eq!((planner.marks(), planner.rules().collect::<Vec<_>>()), (&[0][..], vec![rule(0, 1, -2)]));
+    assert_eq!(last_day(&planner), 2);
     planner.add(rule(0, 1, -3)).unwrap();
+    assert_eq!(last_day(&planner), 3);
     planner.command(b"(check-sat)").unwrap();
     assert_eq!(planner.command(b"(get-value (dry))").unwrap().printed, b"((dry 3))\n");
     planner.command(b"(assert (< (- dry cut) 3))").unwrap();
-    assert_eq!(planner.record().broken, 2);
+    assert_eq!((planner.record().broken, last_day(&planner)), (2, 3));
     assert_eq!(planner.command(b"(check-sat)").unwrap().printed, b"unsat\n");
     // Back knows nothing of the record.
     let mut other = planner.clone();
@@ -258,7 +338,12 @@ fn commands_and_the_other_calls_on_the_same_tables() {
     assert_eq!(other.command(b"(check-sat)"), Err(Refusal::Damaged));
     planner.command(b"(pop 1)").unwrap();
     assert_eq!(planner.command(b"(check-sat)").unwrap().printed, b"sat\n");
-    assert_eq!(planner.days()[1], 0);
+    assert_eq!((planner.days()[1], last_day(&planner)), (0, 0));
+    // A step without a name counts too, and a wrong last day damages a command's tables.
+    planner.add(rule(0, STEPS as u32 - 1, -7)).unwrap();
+    assert_eq!(last_day(&planner), 7);
+    planner.counts.last = 6;
+    assert_eq!(planner.command(b"(check-sat)"), Err(Refusal::Damaged));
 }
 
 /// The longest answers that a text can have: a name of one byte on a late day, as often as a script has room for. The latest day of all needs a name for every

@@ -14,6 +14,7 @@ pub enum Act {
     Trial(Rule),
     Consequences,
     RingCheck(Rule, Vec<u32>),
+    LastDay,
     Start,
     /// A script command: the text that begins with it.
     Command(Vec<u8>),
@@ -40,6 +41,7 @@ impl Act {
             Act::Trial(_) => "Trial",
             Act::Consequences => "Consequences",
             Act::RingCheck(..) => "Ring check",
+            Act::LastDay => "Last day",
             Act::Start => "start",
             Act::Command(_) => "command",
             Act::Set(..) | Act::SetField(..) | Act::Lend(..) | Act::Hold(..) | Act::Follow(..) => return None,
@@ -83,6 +85,7 @@ impl fmt::Display for Act {
             Act::Trial(rule) => write!(to, "Trial {}", of(rule)),
             Act::Consequences => write!(to, "Consequences"),
             Act::RingCheck(rule, list) => write!(to, "Ring check {} {:?}", of(rule), list),
+            Act::LastDay => write!(to, "Last day"),
             Act::Start => write!(to, "start"),
             Act::Command(text) => {
                 let quoted: String = text.iter().flat_map(|byte| std::ascii::escape_default(*byte)).map(char::from).collect();

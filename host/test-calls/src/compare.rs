@@ -1,10 +1,10 @@
-//! One call by the library and by the independent engine, compared whole: what is given back, and all that is lent, past the counts and lengths and beside the
-//! slices too. A ring is checked to be one, and must stand alone in what was written.
+//! One call by the library and by the independent engine, compared whole: what is given back, and all that is lent, the ring of a conflict among it, past the counts
+//! and lengths and beside the slices too.
 
 use crate::acts::Act;
-use crate::engine::{self, Given, Wanted, CONFLICT};
-use crate::office::{Office, Place};
-use planner::calls::{self, Rule};
+use crate::engine::{self, Given};
+use crate::office::Office;
+use planner::calls;
 
 /// What stands in a value before the call, and beside it after it.
 const KEPT: u32 = 0xA5A5_5A5A;
@@ -28,7 +28,7 @@ impl<T: Copy + PartialEq> Value<T> {
 }
 
 /// Makes the call by the library.
-fn by_library(office: &mut Office, act: &Act) -> Result<Given, String> {
+pub fn by_library(office: &mut Office, act: &Act) -> Result<Given, String> {
     let (mut first, mut second) = (Value([KEPT; 3]), Value([KEPT; 3]));
     let (mut read, mut written) = (Value([KEPT as usize; 3]), Value([KEPT as usize; 3]));
     let Office { counts: [_, counts, _], record: [_, record, _], shelf, names, lens, out, one, two } = office;
@@ -42,6 +42,7 @@ fn by_library(office: &mut Office, act: &Act) -> Result<Given, String> {
         Act::Trial(rule) => calls::trial(counts, tables, one.part_mut(), two.part_mut(), *rule, first.lend()),
         Act::Consequences => calls::consequences(counts, tables, one.part_mut(), two.part_mut(), first.lend(), second.lend()),
         Act::RingCheck(rule, list) => calls::ring_check(counts, tables, list, *rule, first.lend()),
+        Act::LastDay => calls::last_day(counts, tables, first.lend()),
         Act::Start => calls::start(counts, record, tables, &Office::lend_names(names, lens)),
         Act::Command(text) => {
             let lent_names = &mut Office::lend_names(names, lens);
@@ -55,7 +56,7 @@ fn by_library(office: &mut Office, act: &Act) -> Result<Given, String> {
     let (first, second) = (first.read(KEPT)?, second.read(KEPT)?);
     let (read, written) = (read.read(KEPT as usize)?, written.read(KEPT as usize)?);
     let (one, two) = match act {
-        Act::Add(_) | Act::Trial(_) | Act::RingCheck(..) => (u64::from(first), 0),
+        Act::Add(_) | Act::Trial(_) | Act::RingCheck(..) | Act::LastDay => (u64::from(first), 0),
         Act::Consequences => (u64::from(first), u64::from(second)),
         Act::Command(_) => (read as u64, written as u64),
         _ => (0, 0),
@@ -85,31 +86,14 @@ impl Both {
     /// Makes the call by both. An error says how they differ.
     pub fn make(&mut self, act: &Act) -> Result<Given, String> {
         let given = by_library(&mut self.library, act)?;
-        match engine::carry_out(&mut self.engine, act) {
-            Wanted::Exactly(exactly) if given == exactly => (),
-            Wanted::Exactly(exactly) => return Err(format!("wanted {:?}, got {:?}", exactly, given)),
-            Wanted::Ring(rule, place) => self.take_ring(given, rule, place)?,
+        let wanted = engine::carry_out(&mut self.engine, act);
+        if given != wanted {
+            return Err(format!("wanted {:?}, got {:?}", wanted, given));
         }
         match self.engine.difference(&self.library) {
             None => Ok(given),
             Some(how) => Err(format!("{} (both gave {:?})", how, given)),
         }
-    }
-
-    /// Checks the ring that the library wrote, and writes the same.
-    fn take_ring(&mut self, given: Given, rule: Rule, place: Place) -> Result<(), String> {
-        let length = given.one as usize;
-        if given.number != CONFLICT || given.two != 0 || length > self.engine.lent(place) {
-            return Err(format!("wanted number {} and the length of a ring, got {:?}", CONFLICT, given));
-        }
-        let list = if place == Place::One { &self.library.one } else { &self.library.two };
-        let ring = list.part()[..length].to_vec();
-        if !engine::refutes(&self.engine, rule, &ring) {
-            return Err(format!("{:?} is no negative ring of the refused rule and held ones", ring));
-        }
-        let own = if place == Place::One { &mut self.engine.one } else { &mut self.engine.two };
-        own.part_mut()[..length].copy_from_slice(&ring);
-        Ok(())
     }
 }
 

@@ -5,7 +5,7 @@
 use crate::Options;
 use crate::acts::Act;
 use crate::compare::{compare_all, Both};
-use crate::office::{Field, Office, Place, STEPS, STEPS_BEFORE};
+use crate::office::{Field, Office, Place, LATEST, STEPS, STEPS_BEFORE};
 use crate::sequences::rule;
 use crate::shapes::{self, Shape};
 use crate::tests::Tally;
@@ -60,6 +60,7 @@ fn changes(office: &Office, shape: &Shape, random: &mut Random, long: bool) -> V
             Field::Rules => 4_097,
             Field::Marks => 65,
             Field::Watched => 1_025,
+            Field::Last => LATEST + 1,
             _ => 2,
         };
         for new in [old.wrapping_add(1), old.wrapping_sub(1), 0, 1, past - 1, past, u32::MAX, random.next() as u32] {
@@ -79,6 +80,7 @@ fn changes(office: &Office, shape: &Shape, random: &mut Random, long: bool) -> V
         new.dedup();
         all.extend(new.into_iter().map(|number| vec![Act::Set(place, at, number)]));
     }
+    all.extend(last_days(office, random));
     all.extend(lengths(office));
     all.extend(several(office, random, long));
     all.extend(shape.changes.iter().cloned());
@@ -116,6 +118,23 @@ fn cells(office: &Office, random: &mut Random, long: bool) -> Vec<(Place, usize)
     for number in some(names) {
         let len = usize::from(office.lens.part()[number]).min(31);
         all.extend((0..=len).map(|at| (Names, 32 * number + at)));
+    }
+    all
+}
+
+/// The last day as days of other steps are, and at random; and days one later with the last day that they then have.
+fn last_days(office: &Office, random: &mut Random) -> Vec<Vec<Act>> {
+    let (steps, last) = (office.counts().steps as usize, office.counts().last);
+    let days = &office.shelf.days.part()[..steps];
+    let mut others: Vec<u32> = (0..4).map(|_| random.pick(days)).collect();
+    others.extend((0..4).map(|_| random.below(last as usize + 10) as u32));
+    others.extend((0..4).map(|_| random.next() as u32));
+    let mut all: Vec<Vec<Act>> = others.into_iter().map(|day| vec![Act::SetField(Field::Last, day)]).collect();
+    let latest = days.iter().position(|day| *day == last).expect("some step has the last day");
+    for range in [0..steps, latest..latest + 1] {
+        let mut later: Vec<Act> = range.map(|at| Act::Set(Place::Days, at, i64::from(days[at]) + 1)).collect();
+        later.push(Act::SetField(Field::Last, last + 1));
+        all.push(later);
     }
     all
 }

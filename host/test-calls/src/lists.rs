@@ -3,6 +3,7 @@
 use crate::acts::Act;
 use crate::office::{Office, Place, STEPS};
 use crate::sequences::Writer;
+use planner::calls::Rule;
 
 impl Writer {
     /// A list for the ring check: a real ring, one that is nearly one, or any numbers.
@@ -21,7 +22,7 @@ impl Writer {
         let at = self.random.below(list.len().max(1));
         let number = self.random.pick(&[0, 1, next.wrapping_sub(1), next, next.wrapping_add(1), 65_536, u32::MAX]);
         let mut asked = refused;
-        match self.random.below(14) {
+        match self.random.below(16) {
             0 => drop(list.pop()),
             1 => list.push(number),
             2 => list.extend(list.clone()),
@@ -33,25 +34,60 @@ impl Writer {
             8 => list.resize(STEPS + 1 + at, number),
             9 if list.len() > 2 => list.swap(1, 2),
             10 | 11 => detour(office, &mut list, at),
+            12 => other_rule(office, &mut list, at),
+            13 => other_way(office, &mut list, at),
             _ => (),
         }
         Act::RingCheck(asked, list)
     }
 }
 
+/// How many rules are looked through for another way.
+fn looked_through(office: &Office) -> usize {
+    let lent = [Place::Xs, Place::Ys, Place::Cs].map(|place| office.lent(place));
+    lent.into_iter().fold((office.counts().rules as usize).min(60), usize::min)
+}
+
+/// A rule that leads from one step to another.
+fn leads(office: &Office, from: u32, to: u32) -> Option<u32> {
+    (0..looked_through(office)).find(|number| office.rule(*number).first == from && office.rule(*number).second == to).map(|number| number as u32)
+}
+
+/// The rule at a place of the list, where it is one of those that are looked through.
+fn rule_at(office: &Office, list: &[u32], at: usize) -> Option<Rule> {
+    list.get(at).filter(|number| (**number as usize) < looked_through(office)).map(|number| office.rule(*number as usize))
+}
+
 /// Puts a way round into a list of rules, from the first step of one back to it, where held rules have one: the list then meets a step twice.
 fn detour(office: &Office, list: &mut Vec<u32>, at: usize) {
-    let lent = [Place::Xs, Place::Ys, Place::Cs].map(|place| office.lent(place));
-    let held = lent.into_iter().fold((office.counts().rules as usize).min(60), usize::min);
     let at = at.max(1);
-    let step = match list.get(at) {
-        Some(number) if (*number as usize) < held => office.rule(*number as usize).first,
-        _ => return,
+    let step = match rule_at(office, list, at) {
+        Some(rule) => rule.first,
+        None => return,
     };
-    let leads = |from: u32, to: u32| (0..held).find(|number| office.rule(*number).first == from && office.rule(*number).second == to);
-    if let Some(own) = leads(step, step) {
-        list.insert(at, own as u32);
-    } else if let Some((there, back)) = (0..STEPS as u32).find_map(|other| Some((leads(step, other)?, leads(other, step)?))) {
-        list.splice(at..at, [there as u32, back as u32]);
+    if let Some(own) = leads(office, step, step) {
+        list.insert(at, own);
+    } else if let Some((there, back)) = (0..STEPS as u32).find_map(|other| Some((leads(office, step, other)?, leads(office, other, step)?))) {
+        list.splice(at..at, [there, back]);
+    }
+}
+
+/// Puts the newest rule between the same steps in the place of one: the list may still be a ring, and is not the reason then.
+fn other_rule(office: &Office, list: &mut [u32], at: usize) {
+    let at = at.max(1);
+    if let Some(rule) = rule_at(office, list, at) {
+        let like = |number: &usize| office.rule(*number).first == rule.first && office.rule(*number).second == rule.second;
+        list[at] = (0..looked_through(office)).rev().find(like).expect("the rule itself") as u32;
+    }
+}
+
+/// Puts two rules, which lead by another step, in the place of one: the list may still be a ring, a longer one.
+fn other_way(office: &Office, list: &mut Vec<u32>, at: usize) {
+    let at = at.max(1);
+    if let Some(rule) = rule_at(office, list, at) {
+        let way = |by: u32| if by == rule.first || by == rule.second { None } else { Some([leads(office, rule.first, by)?, leads(office, by, rule.second)?]) };
+        if let Some(two) = (0..STEPS as u32).find_map(way) {
+            list.splice(at..at + 1, two);
+        }
     }
 }

@@ -8,6 +8,9 @@ use planner::calls::{Counts, Names, Record, Rule, Tables};
 pub const STEPS: usize = reader::NAMES;
 pub const WATCHED: usize = 1_024;
 
+/// No day of an earliest plan is later.
+pub const LATEST: u32 = (STEPS as u32 - 1) * reader::LARGEST as u32;
+
 /// How many steps there could be before. Tables and lists of that bound are SHORT.
 pub const STEPS_BEFORE: usize = 256;
 
@@ -99,6 +102,7 @@ pub enum Field {
     Rules,
     Marks,
     Watched,
+    Last,
     Names,
     Logic,
     Broken,
@@ -106,9 +110,15 @@ pub enum Field {
 }
 
 impl Field {
-    pub const ALL: [Field; 8] = {
+    pub const ALL: [Field; 9] = {
         use Field::*;
-        [Steps, Rules, Marks, Watched, Names, Logic, Broken, Sat]
+        [Steps, Rules, Marks, Watched, Last, Names, Logic, Broken, Sat]
+    };
+
+    /// Those of the counts.
+    pub const COUNTS: [Field; 5] = {
+        use Field::*;
+        [Steps, Rules, Marks, Watched, Last]
     };
 }
 
@@ -170,7 +180,7 @@ impl Office {
                 (number >> 32) % 7
             }
         };
-        let counts = [(); 3].map(|_| Counts { steps: any() as u32, rules: any() as u32, marks: any() as u32, watched: any() as u32 });
+        let counts = [(); 3].map(|_| Counts { steps: any() as u32, rules: any() as u32, marks: any() as u32, watched: any() as u32, last: any() as u32 });
         let record = [(); 3].map(|_| Record { names: any() as u32, logic: any() as u32, broken: any() as u32, sat: any() as u32 });
         let shelf = Shelf {
             xs: Lent::new(sizes[0], || any() as u16),
@@ -299,6 +309,7 @@ impl Office {
             Field::Rules => counts.rules,
             Field::Marks => counts.marks,
             Field::Watched => counts.watched,
+            Field::Last => counts.last,
             Field::Names => record.names,
             Field::Logic => record.logic,
             Field::Broken => record.broken,
@@ -313,6 +324,7 @@ impl Office {
             Field::Rules => counts.rules = number,
             Field::Marks => counts.marks = number,
             Field::Watched => counts.watched = number,
+            Field::Last => counts.last = number,
             Field::Names => record.names = number,
             Field::Logic => record.logic = number,
             Field::Broken => record.broken = number,

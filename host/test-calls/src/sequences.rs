@@ -32,12 +32,14 @@ pub enum Kind {
     Brim,
     /// Every table to its full bound and one past it.
     Full,
+    /// Ways of a few rules that run beside each other, and rules that close them.
+    Ways,
 }
 
 impl Kind {
-    pub const ALL: [Kind; 11] = {
+    pub const ALL: [Kind; 12] = {
         use Kind::*;
-        [Small, Ties, Edges, Levels, Watching, Wide, Spoiled, Mixed, Chain, Brim, Full]
+        [Small, Ties, Edges, Levels, Watching, Wide, Spoiled, Mixed, Chain, Brim, Full, Ways]
     };
 
     /// The kind of a sequence by its place among all: the dear ones are few.
@@ -48,7 +50,7 @@ impl Kind {
             n if n % 400 == 100 => Chain,
             n if n % 125 == 10 => Brim,
             n if n % 40 == 7 => Wide,
-            n => [Small, Ties, Edges, Levels, Spoiled, Mixed, Small, Watching][n as usize % 8],
+            n => [Small, Ties, Edges, Levels, Spoiled, Mixed, Ways, Watching][n as usize % 8],
         }
     }
 }
@@ -78,6 +80,7 @@ impl Writer {
             Kind::Edges => random.pick(&[1, 2, 3, STEPS_BEFORE, STEPS - 1, STEPS]),
             Kind::Levels | Kind::Watching => 2 + random.below(5),
             Kind::Wide => 20 + random.below(STEPS - 19),
+            Kind::Ways => 3 + random.below(14),
             Kind::Mixed | Kind::Chain | Kind::Brim => STEPS,
             // Every other one over all steps.
             Kind::Full => [STEPS, 3, STEPS, 17, STEPS, 40, STEPS, STEPS_BEFORE][(seed / 1_000 % 8) as usize],
@@ -90,6 +93,7 @@ impl Writer {
             Kind::Brim => 30,
             Kind::Chain | Kind::Full => 12,
             Kind::Wide => 60 + random.below(200),
+            Kind::Ways => 20 + random.below(60),
             _ => 8 + random.below(50),
         };
         let script = Script::new(kind == Kind::Mixed, &mut random);
@@ -108,6 +112,10 @@ impl Writer {
             // On tables that mean nothing.
             _ if self.random.chance(30) => Vec::new(),
             Kind::Mixed => vec![Act::Start],
+            Kind::Ways => {
+                let rules = (0..2 * steps).map(|at| Act::Add(leading_on(&mut self.random, at % (steps - 1), steps)));
+                [Act::Open(steps as u32)].into_iter().chain(rules).collect()
+            }
             _ => vec![Act::Open(steps as u32)],
         }
     }
@@ -127,8 +135,8 @@ impl Writer {
         let mut acts = vec![Act::Open(steps as u32), Act::Watch(rule(0, last, -1_000_000)), Act::Watch(rule(last, 0, 1_000_000))];
         acts.extend(rules.into_iter().map(Act::Add));
         // Over all steps its ring fills a list that has no place too many.
-        acts.extend([Act::Consequences, Act::Mark, Act::Lend(Place::One, STEPS), Act::Lend(Place::Two, STEPS)]);
-        acts.extend([Act::Trial(rule(last, 0, 1_000_000)), Act::Add(rule(last, 0, 1_000_000))]);
+        acts.extend([Act::Consequences, Act::Mark, Act::LastDay, Act::Lend(Place::One, STEPS), Act::Lend(Place::Two, STEPS)]);
+        acts.extend([Act::Trial(rule(last, 0, 1_000_000)), Act::Add(rule(last, 0, 1_000_000)), Act::LastDay]);
         acts
     }
 
@@ -215,15 +223,16 @@ impl Writer {
     }
 
     fn call(&mut self, office: &Office) -> Act {
-        // How often each: Open, Watch, Add, Mark, Back, Trial, Consequences, Ring check.
-        let weights: [usize; 8] = match self.kind {
-            Kind::Levels => [1, 2, 30, 35, 28, 4, 4, 4],
-            Kind::Watching => [1, 40, 25, 4, 4, 4, 20, 2],
-            Kind::Wide => [0, 10, 60, 5, 4, 8, 2, 6],
-            Kind::Edges => [12, 14, 34, 8, 8, 16, 8, 10],
-            Kind::Mixed => [1, 12, 30, 12, 14, 10, 8, 6],
-            Kind::Chain | Kind::Full | Kind::Brim => [0, 5, 20, 10, 8, 20, 5, 20],
-            _ => [2, 12, 40, 9, 8, 10, 9, 12],
+        // How often each: Open, Watch, Add, Mark, Back, Trial, Consequences, Ring check, Last day.
+        let weights: [usize; 9] = match self.kind {
+            Kind::Levels => [1, 2, 30, 35, 28, 4, 4, 4, 8],
+            Kind::Watching => [1, 40, 25, 4, 4, 4, 20, 2, 2],
+            Kind::Wide => [0, 10, 60, 5, 4, 8, 2, 6, 4],
+            Kind::Ways => [1, 2, 50, 6, 4, 20, 2, 16, 2],
+            Kind::Edges => [12, 14, 34, 8, 8, 16, 8, 10, 8],
+            Kind::Mixed => [1, 12, 30, 12, 14, 10, 8, 6, 14],
+            Kind::Chain | Kind::Full | Kind::Brim => [0, 5, 20, 10, 8, 20, 5, 20, 6],
+            _ => [2, 12, 40, 9, 8, 10, 9, 12, 8],
         };
         let mut chosen = self.random.below(weights.iter().sum());
         let mut which = 0;
@@ -239,7 +248,8 @@ impl Writer {
             4 => Act::Back,
             5 => Act::Trial(self.rule(office)),
             6 => Act::Consequences,
-            _ => self.ring_check(office),
+            7 => self.ring_check(office),
+            _ => Act::LastDay,
         }
     }
 
@@ -275,6 +285,10 @@ impl Writer {
             let amount = self.random.pick(&[0, 1_000_001]);
             return if self.random.chance(500) { rule(bad, good, amount) } else { rule(good, bad, amount) };
         }
+        if self.kind == Kind::Ways && steps > 1 && self.random.chance(900) {
+            let from = self.random.below(steps - 1);
+            return if self.random.chance(400) { leading_on(&mut self.random, from, steps) } else { closing(&mut self.random, steps, office) };
+        }
         // In scripts few steps have names.
         let among = match self.kind {
             Kind::Mixed => steps.min(12),
@@ -305,11 +319,23 @@ impl Writer {
     }
 }
 
+/// A rule that leads on by a step or two and asks for little. The step is not the last one.
+pub fn leading_on(random: &mut Random, from: usize, steps: usize) -> Rule {
+    rule(from, (from + random.pick(&[1, 1, 2])).min(steps - 1), random.pick(&[-1, -1, -1, 0, -2]))
+}
+
+/// A rule from a late step to an early one, which closes the ways between them, most often with days lacking.
+pub fn closing(random: &mut Random, steps: usize, office: &Office) -> Rule {
+    let (early, late) = (random.below(1 + steps / 3), steps - 1 - random.below(1 + steps / 3).min(steps - 1));
+    let day = |step: usize| office.shelf.days.part().get(step).copied().map_or(0, i64::from);
+    rule(late, early, (day(late) - day(early)).clamp(-1_000, 1_000) + random.pick(&[-1, -1, -1, -1, -2, -3, -3, 0, 1]))
+}
+
 pub fn rule(first: usize, second: usize, amount: i64) -> Rule {
     Rule { first: first as u32, second: second as u32, amount: amount as i32 }
 }
 
-fn shuffle<T>(list: &mut [T], random: &mut Random) {
+pub fn shuffle<T>(list: &mut [T], random: &mut Random) {
     for at in (1..list.len()).rev() {
         list.swap(at, random.below(at + 1));
     }

@@ -33,6 +33,7 @@ fn say(text: &str) -> Act {
 /// Every call, those first that write to no table.
 fn every_call() -> Vec<Act> {
     vec![
+        Act::LastDay,
         Act::Trial(rule(0, 0, 0)),
         Act::Trial(rule(0, 0, -1)),
         Act::Consequences,
@@ -43,9 +44,11 @@ fn every_call() -> Vec<Act> {
         add(0, 0, 2),
         Act::Back,
         Act::Back,
+        Act::LastDay,
         say("(check-sat)"),
         Act::Start,
         Act::Open(2),
+        Act::LastDay,
     ]
 }
 
@@ -86,7 +89,7 @@ fn rings_of_zero() -> Shape {
     Shape { name: "zero rings", acts, calls: calls.concat(), changes }
 }
 
-/// A chain over all steps with the smallest amount, and all marks open.
+/// A chain over all steps with the smallest amount, and all marks open. Its ring of all rules is found before the changes: it takes long.
 fn chain() -> Shape {
     let last = STEPS - 1;
     let mut acts = vec![Act::SetField(Field::Names, 0), Act::Open(STEPS as u32)];
@@ -96,13 +99,15 @@ fn chain() -> Shape {
             acts.push(Act::Mark);
         }
     }
-    let calls = vec![Act::Trial(rule(last, 0, 1_000_000)), Act::Mark, add(last, 0, 0), Act::Consequences, Act::Back, say("(check-sat)"), Act::Start];
+    acts.extend([Act::Trial(rule(last, 0, 1_000_000)), add(last, 0, 0)]);
+    let calls = vec![Act::Trial(rule(15, 0, 1_000_000)), Act::Mark, add(31, 0, 0), Act::LastDay, Act::Consequences, Act::Back, Act::LastDay, say("(check-sat)"), Act::Start];
     Shape { name: "chain", acts, calls, changes: Vec::new() }
 }
 
 /// Script commands and a few of the other calls.
 fn commands() -> Vec<Act> {
     vec![
+        Act::LastDay,
         say("(get-value (cut))"),
         say("(check-sat)"),
         say("(get-value (cut dry))"),
@@ -112,6 +117,7 @@ fn commands() -> Vec<Act> {
         Act::Back,
         Act::Back,
         say("(pop 1)"),
+        Act::LastDay,
         say("check-sat"),
         Act::Start,
         say("(set-logic QF_IDL)"),
@@ -175,7 +181,7 @@ fn many_names() -> Shape {
     let last = STEPS - 1;
     acts.extend((0..=STEPS).map(|number| say(&format!("(declare-fun n{} () Int)", number))));
     acts.extend([say(&format!("(assert (<= (- n0 n{}) (- 9)))", last)), say("(check-sat)")]);
-    let calls = vec![say(&format!("(get-value (n{}))", last)), say("(declare-fun y () Int)"), Act::Start];
+    let calls = vec![say(&format!("(get-value (n{}))", last)), Act::LastDay, say("(declare-fun y () Int)"), Act::Start];
     let changes = vec![renamed(last, "n0"), renamed(0, &format!("n{}", last)), renamed(17, "n19"), renamed(last, "push")];
     Shape { name: "all names", acts, calls, changes }
 }

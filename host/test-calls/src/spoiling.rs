@@ -14,7 +14,7 @@ impl Writer {
         let mixed = self.kind == Kind::Mixed;
         match self.random.below(10) {
             0..=2 => {
-                let field = self.random.pick(if mixed { &Field::ALL } else { &Field::ALL[..4] });
+                let field = self.random.pick(if mixed { &Field::ALL[..] } else { &Field::COUNTS });
                 let old = office.field(field);
                 self.undo = Some(Act::SetField(field, old));
                 Act::SetField(field, self.random.pick(&[old.wrapping_add(1), old.wrapping_sub(1), 0, u32::MAX, 4_097, STEPS as u32 + 1, 65, WATCHED as u32 + 1]))

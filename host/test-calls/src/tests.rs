@@ -2,10 +2,10 @@
 
 use crate::acts::Act;
 use crate::compare::Both;
-use crate::engine::Given;
+use crate::engine::{Given, CONFLICT};
 use crate::sequences::{Kind, Writer};
 use crate::shorten::report;
-use crate::{damage, third, Options};
+use crate::{damage, pairs, reasons, rings, third, Options};
 use common::peers::Question;
 use common::tally;
 use std::collections::BTreeMap;
@@ -42,9 +42,18 @@ impl Tally {
     pub fn note(&mut self, act: &Act, given: Given) {
         if let Some(call) = act.call() {
             *self.seen.entry((call, given.number)).or_insert(0) += 1;
-            if call == "Ring check" && given.number == 0 && given.one == 1 {
-                *self.seen.entry(("Ring check, yes", 0)).or_insert(0) += 1;
-            }
+            let further = match act {
+                Act::RingCheck(..) if given.number == 0 && given.one == 1 => "Ring check, yes",
+                Act::LastDay if given.number == 0 && given.one > 0 => "Last day, not 0",
+                Act::Add(_) | Act::Trial(_) if given.number == CONFLICT => match given.one {
+                    0..=2 => "Conflict, up to 2 rules",
+                    3..=15 => "Conflict, 3 to 15 rules",
+                    16..=255 => "Conflict, 16 to 255 rules",
+                    _ => "Conflict, 256 rules and more",
+                },
+                _ => return,
+            };
+            *self.seen.entry((further, given.number)).or_insert(0) += 1;
         }
     }
 }
@@ -56,8 +65,14 @@ pub fn all(options: &Options) -> Tally {
     println!("calls: seeds {} to {}", options.seed, options.seed + options.count - 1);
     let questions = generated(options, &mut tally);
     took("sequences");
+    reasons::all(options.seed, &mut tally);
+    took("reasons");
+    rings::all(&mut tally);
+    took("long rings");
     damage::all(options, &mut tally);
     took("damaged and short tables");
+    pairs::all(options.seed, options.pairs, &mut tally);
+    took("pairs");
     every_answer(options.count >= 1_000, &mut tally);
     if let Some(peer) = &options.peer {
         tally.count("z3 agrees", third::ask(peer, &questions, &options.folder));
@@ -115,16 +130,22 @@ pub fn show(kind: Kind, seed: u64) {
 
 /// Every number that a call can give was given, where there were enough sequences. One test for each call.
 fn every_answer(enough: bool, tally: &mut Tally) {
-    const CAN: [(&str, &[u32]); 11] = [
+    const CAN: [(&str, &[u32]); 17] = [
         ("Open", &[0, 1, 3]),
         ("Watch", &[0, 1, 2, 3, 4, 5]),
         ("Add", &[0, 1, 2, 3, 4, 5, 6]),
         ("Mark", &[0, 1, 2, 5]),
         ("Back", &[0, 1, 2, 7]),
         ("Trial", &[0, 1, 2, 3, 4, 5, 6]),
+        ("Conflict, up to 2 rules", &[6]),
+        ("Conflict, 3 to 15 rules", &[6]),
+        ("Conflict, 16 to 255 rules", &[6]),
+        ("Conflict, 256 rules and more", &[6]),
         ("Consequences", &[0, 1, 2]),
         ("Ring check", &[0, 1, 2, 3, 4]),
         ("Ring check, yes", &[0]),
+        ("Last day", &[0, 1, 2]),
+        ("Last day, not 0", &[0]),
         ("start", &[0, 1]),
         ("command", &[0, 1, 2, 4, 5, 7, 8, 9, 10, 11]),
     ];

@@ -1,5 +1,5 @@
-//! z3 as a third opinion on whole problems: the rules held at the end of a sequence. They are satisfiable, the days keep them, and no plan has an earlier day; a
-//! rule fits as Trial says; a watched rule holds in every arrangement or in none as Consequences says.
+//! z3 as a third opinion on whole problems: the rules held at the end of a sequence. They are satisfiable, the days keep them, and no plan has an earlier day; some
+//! plan ends on the last day and none before it; a rule fits as Trial says; a watched rule holds in every arrangement or in none as Consequences says.
 
 use crate::acts::Act;
 use crate::compare::Both;
@@ -56,13 +56,16 @@ impl Problem {
         self.wanted.push(wanted);
     }
 
-    /// The days keep the rules, and no plan has one of them earlier.
+    /// The days keep the rules, and no plan has one of them earlier. Some plan has no day after the last day, and none has all days before it.
     fn days(&mut self, office: &Office) {
         let days = &office.shelf.days.part()[..office.counts().steps as usize];
         let each = |operator: &str| -> Vec<String> { days.iter().enumerate().map(|(step, day)| format!("({} (- s{} zero) {})", operator, step, day)).collect() };
         self.with(&format!("(and true {} {})", each("<=").join(" "), each(">=").join(" ")), "sat");
         let plan: Vec<String> = (0..days.len()).map(|step| format!("(>= (- s{} zero) 0)", step)).collect();
         self.with(&format!("(and true {} (or false {}))", plan.join(" "), each("<").join(" ")), "unsat");
+        let all = |operator: &str| -> Vec<String> { (0..days.len()).map(|step| format!("({} (- s{} zero) {})", operator, step, office.counts().last)).collect() };
+        self.with(&format!("(and true {} {})", plan.join(" "), all("<=").join(" ")), "sat");
+        self.with(&format!("(and true {} {})", plan.join(" "), all("<").join(" ")), "unsat");
     }
 
     /// Some rules, each with what Trial gives.

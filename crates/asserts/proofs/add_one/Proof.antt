@@ -42,10 +42,10 @@ push-requires c κs =
     let fit = at-fit .fit in
     let start = at-fit .before .before .before .before .before .before .before .before .before .before .before .before .before in
     let args = start .args in
-    let t : Tells (args .e) (first (args .counts .rules)) (args .counts .rules) (rule (args .x) (args .y) (args .c)) (columns (args .xs .now) (args .ys .now) (args .cs .now)) (args .days .now) (fit .result .fits) (fit .result .moved) (columns _ _ _) _
+    let t : Tells (args .e) (first (args .counts .rules)) (args .counts .rules) (rule (args .x) (args .y) (args .c)) (columns (args .xs .now) (args .ys .now) (args .cs .now)) (args .days .now) (args .counts .last) (fit .result .fits) (fit .result .moved) (columns _ _ _) _ (fit .result .last)
     = rw (toZ-ofZ w32 (args .c) (start .fits .c)) at (fit .ensures) in
     new-linkable (args .counts) (args .e) (args .xs .now) (args .ys .now) (args .cs .now) (args .days .now) (args .heads .now) (args .nexts .now)
-    (args .x) (args .y) (args .c) (start .pre) (fit .result .fits) (fit .result .moved) _ _ _ _ t (if1 .taken)
+    (args .x) (args .y) (args .c) (start .pre) (fit .result .fits) (fit .result .moved) (fit .result .last) _ _ _ _ t (if1 .taken)
 
 one-more-requires : tie.Need-one-more-requires
 one-more-requires c κs =
@@ -93,10 +93,10 @@ returns c =
     let start = at-fit .before .before .before .before .before .before .before .before .before .before .before .before .before in
     let one-more = c .one-more in
     let args = start .args in
-    let t : Tells (args .e) (first (args .counts .rules)) (args .counts .rules) (rule (args .x) (args .y) (args .c)) (columns (args .xs .now) (args .ys .now) (args .cs .now)) (args .days .now) (fit .result .fits) (fit .result .moved) (columns _ _ _) _
+    let t : Tells (args .e) (first (args .counts .rules)) (args .counts .rules) (rule (args .x) (args .y) (args .c)) (columns (args .xs .now) (args .ys .now) (args .cs .now)) (args .days .now) (args .counts .last) (fit .result .fits) (fit .result .moved) (columns _ _ _) _ (fit .result .last)
     = rw (toZ-ofZ w32 (args .c) (start .fits .c)) at (fit .ensures) in
     one-held (args .counts) (args .e) (args .xs .now) (args .ys .now) (args .cs .now) (args .days .now) (args .heads .now) (args .nexts .now)
-    (args .x) (args .y) (args .c) (start .pre) (fit .result .fits) (fit .result .moved) _ _ _ _ t (if1 .taken) (one-more .result) (one-more .ensures) _ _ (push .ensures)
+    (args .x) (args .y) (args .c) (start .pre) (fit .result .fits) (fit .result .moved) (fit .result .last) _ _ _ _ t (if1 .taken) (one-more .result) (one-more .ensures) _ _ (push .ensures)
 
 same-length-7 : tie.Need-same-length-7
 same-length-7 c =
@@ -131,10 +131,10 @@ returns-2 c =
     let start = at-fit .before .before .before .before .before .before .before .before .before .before .before .before .before in
     let if1 = c .if1 in
     let args = start .args in
-    let t : Tells (args .e) (first (args .counts .rules)) (args .counts .rules) (rule (args .x) (args .y) (args .c)) (columns (args .xs .now) (args .ys .now) (args .cs .now)) (args .days .now) (fit .result .fits) (fit .result .moved) (columns _ _ _) _
+    let t : Tells (args .e) (first (args .counts .rules)) (args .counts .rules) (rule (args .x) (args .y) (args .c)) (columns (args .xs .now) (args .ys .now) (args .cs .now)) (args .days .now) (args .counts .last) (fit .result .fits) (fit .result .moved) (columns _ _ _) _ (fit .result .last)
     = rw (toZ-ofZ w32 (args .c) (start .fits .c)) at (fit .ensures) in
     one-clash (args .counts) (args .e) (args .xs .now) (args .ys .now) (args .cs .now) (args .days .now) (args .heads .now) (args .nexts .now)
-    (args .x) (args .y) (args .c) (start .pre) (fit .result .fits) (fit .result .moved) _ _ _ _ t (if1 .left)
+    (args .x) (args .y) (args .c) (start .pre) (fit .result .fits) (fit .result .moved) (fit .result .last) _ _ _ _ t (if1 .left)
 
 pub add-one-spec : {M : Type 1} → statement M
 add-one-spec =

@@ -64,7 +64,10 @@ add-requires c κs =
     let else1 = c .before .before .before .before .before .before .before in
     let at-verdict = else1 .before .before .before in
     let has = at-verdict .before .before .before .before .before .before .before .has in
-    (base _ _ _ _ _ _ _ _ _ (entered _ _ _ _ _ (at-verdict .verdict .ensures) (omega (arith, else1 .if1 .left))) _ _ (chains-entered _ _ _ _ _ (at-verdict .verdict .ensures) (omega (arith, else1 .if1 .left))), lists-entered _ _ _ _ _ (at-verdict .verdict .ensures) (has .ensures) (omega (arith, else1 .if1 .left)))
+    let chains = chains-entered _ _ _ _ _ (at-verdict .verdict .ensures) (omega (arith, else1 .if1 .left)) in (
+      base _ _ _ _ _ _ _ _ _ (entered _ _ _ _ _ (at-verdict .verdict .ensures) (omega (arith, else1 .if1 .left))) _ _ chains,
+      (chains .nexts-room, lists-entered _ _ _ _ _ (at-verdict .verdict .ensures) (has .ensures) (omega (arith, else1 .if1 .left))),
+    )
 
 same-length-6 : tie.Need-same-length-6
 same-length-6 c = search needs
@@ -83,7 +86,7 @@ same-length-10 c = search needs
 
 returns-2 : tie.Need-returns-2
 returns-2 c =
-    let at-add = c .before .before .before .before .before .before .before .before .before in
+    let at-add = c .before .before .before .before .before .before .before .before .before .before .before in
     let else1 = at-add .before .before .before .before .before .before .before .before in
     let at-verdict = else1 .before .before .before in
     let start = at-verdict .before .before .before .before .before .before .before .before .before .before .before .before .before .before .before .before in

@@ -3,6 +3,8 @@ use mathlib.Core.Path.{refl}
 use mathlib.Core.Logic.{inl, inr}
 use borrow.Author.Tests.{not-true, not-false}
 use Rattle.meaning.specs.Bounds.{SHORT, STEP}
+use Rattle.lent.specs.Lent.{tables}
+use Rattle.sound.proofs.Opened.{opened-days}
 use Rattle.meaning.proofs.Needs.{obeys-done, obeys-refused}
 use native.Mathlib.Omega.{arith}
 use borrow.Author.Needs.{needs}
@@ -76,7 +78,7 @@ returns-4 c =
     let start = else1 .before .before .before .before .before .before .before .before .before in
     rw (c .done .ensures, c .before .steps-alone .ensures)
     (obeys-done _ _ 0 0 _ (has-room .ensures (start .args .counts) .so (not-false _ (else1 .if1 .left)), ((omega (arith, else2 .if2 .left), omega (arith, else3 .if3 .left)), tt))
-    (record { no-values = (refl, refl); emptied = refl; day-0 = λ v h. clear-days .ensures .day-0 v (omega (arith, h, else3 .if3 .left)); past = clear-days .ensures .past }))
+    (record { no-values = (refl, refl); emptied = opened-days (start .args .steps) (tables (start .args .counts) (start .args .xs .now) (start .args .ys .now) (start .args .cs .now) (start .args .days .now) (start .args .marks .now) (start .args .wxs .now) (start .args .wys .now) (start .args .wcs .now)) _ (λ v h. clear-days .ensures .day-0 v (omega (arith, h, else3 .if3 .left))); day-0 = λ v h. clear-days .ensures .day-0 v (omega (arith, h, else3 .if3 .left)); past = clear-days .ensures .past }))
 
 pub open-spec : {M : Type 1} → statement M
 open-spec =

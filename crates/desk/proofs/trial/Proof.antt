@@ -56,7 +56,8 @@ trial-requires c κs =
     let at-verdict = else1 .before .before .before in
     let both-have = at-verdict .before .before .before .both-have in
     let room = lists-entered _ _ _ _ _ (at-verdict .verdict .ensures) (both-have .ensures) (omega (arith, else1 .if1 .left)) in
-    (base _ _ _ _ _ _ _ _ _ (entered _ _ _ _ _ (at-verdict .verdict .ensures) (omega (arith, else1 .if1 .left))) _ _ (chains-entered _ _ _ _ _ (at-verdict .verdict .ensures) (omega (arith, else1 .if1 .left))), record { one-room = room .0; two-room = room .1 })
+    let chains = chains-entered _ _ _ _ _ (at-verdict .verdict .ensures) (omega (arith, else1 .if1 .left)) in
+    (base _ _ _ _ _ _ _ _ _ (entered _ _ _ _ _ (at-verdict .verdict .ensures) (omega (arith, else1 .if1 .left))) _ _ chains, (chains .nexts-room, record { one-room = room .0; two-room = room .1 }))
 
 same-length-3 : tie.Need-same-length-3
 same-length-3 c = search needs
@@ -66,10 +67,10 @@ same-length-4 c = search needs
 
 returns-2 : tie.Need-returns-2
 returns-2 c =
-    let else1 = c .before .before .before .before .before .before .before .before .before in
+    let else1 = c .before .before .before .before .before .before .before .before .before .before .before in
     let at-verdict = else1 .before .before .before in
     let start = at-verdict .before .before .before .before .before .before .before .before .before .before .before .before .before .before in
-    (rw (toZ-ofZ w32 (start .args .c) (start .fits .c)) at (c .before .before .before .before .trial .ensures))
+    (rw (toZ-ofZ w32 (start .args .c) (start .fits .c)) at (c .before .before .before .before .before .before .trial .ensures))
     (start .args .marks .now) (start .args .wxs .now) (start .args .wys .now) (start .args .wcs .now) (entered _ _ _ _ _ (at-verdict .verdict .ensures) (omega (arith, else1 .if1 .left)))
 
 pub trial-spec : {M : Type 1} → statement M

@@ -51,7 +51,7 @@ returns c =
     record {
       when-fits = λ e.
           taken-at-once (args .n) (first (args .m)) number (args .m) (args .xs .now) (args .ys .now) (args .cs .now) (args .days .now) (args .heads .now) (args .nexts .now) (args .x) (args .y) (args .c) (start .pre)
-          (l .none (omega (arith, then1 .if1 .taken))) _ (rw (toZ-ofZ w32 (args .c) (start .fits .c)) at (at-write-rule .write-rule .ensures));
+          (l .none (omega (arith, then1 .if1 .taken))) (args .last) _ (rw (toZ-ofZ w32 (args .c) (start .fits .c)) at (at-write-rule .write-rule .ensures));
       when-not = λ e. absurd (true≢false e);
     }
 

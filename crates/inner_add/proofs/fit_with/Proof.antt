@@ -114,7 +114,7 @@ returns-2 c =
       tells = record {
         when-fits = λ e.
             taken (args .n) (first (args .m)) number (args .m) (args .xs .now) (args .ys .now) (args .cs .now) (args .days .now) (args .heads .now) (args .nexts .now) (args .x) (args .y) (args .c) (start .pre .0)
-            _ (p .earliest (not-false _ (if1 .left))) _ _ _ (raise-days .ensures) (rw (toZ-ofZ w32 (args .c) (start .fits .c)) at (write-rule .ensures));
+            _ (p .earliest (not-false _ (if1 .left))) (args .last) _ _ _ _ (raise-days .ensures .0) (raise-days .ensures .1) (rw (toZ-ofZ w32 (args .c) (start .fits .c)) at (write-rule .ensures));
         when-not = λ e. absurd (true≢false e);
       };
       reached = λ e. absurd (true≢false e);

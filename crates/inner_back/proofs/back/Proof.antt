@@ -80,7 +80,7 @@ keep-first-requires : tie.Need-keep-first-requires
 keep-first-requires c κs =
     let else1 = c .before .before .before .before .before .before .before .before .before in
     let start = start-before-else1 else1 in
-    (droppable (start .pre .0) (omega (arith, else1 .if1 .left)), c .before .before .before .before .drop-rules .ensures)
+    (droppable (start .pre .0) (omega (arith, else1 .if1 .left)), (c .before .before .before .before .drop-rules .ensures, start .pre .0 .sound .last-largest))
 
 sub-left : tie.Need-sub-left
 sub-left c = search needs
@@ -91,6 +91,9 @@ rules-now-requires c κs = search needs
 marks-now-requires : tie.Need-marks-now-requires
 marks-now-requires c κs = search needs
 
+last-now-requires : tie.Need-last-now-requires
+last-now-requires c κs = search needs
+
 done-requires : tie.Need-done-requires
 done-requires c κs = search needs
 
@@ -98,16 +101,16 @@ same-length : tie.Need-same-length
 same-length c = search needs
 
 same-length-2 : tie.Need-same-length-2
-same-length-2 c = search needs
+same-length-2 c = c .before .before .before .before .before .before .before .before .before .before .before .before .drop-rules .kept .1 .1 .1 .1 .0
 
 returns-2 : tie.Need-returns-2
 returns-2 c =
-    let at-keep-first = c .before .before .before .before .before .before in
+    let at-keep-first = c .before .before .before .before .before .before .before in
     let else1 = at-keep-first .before .before .before .before .before .before .before .before .before .before in
     let start = else1 .before .before .before .before .before .before .before .before .before .before in
-    rw (c .done .ensures, c .before .marks-now .ensures, c .before .before .rules-now .ensures)
+    rw (c .done .ensures, c .before .last-now .ensures, c .before .before .marks-now .ensures, c .before .before .before .rules-now .ensures, at-keep-first .keep-first .ensures .1)
     (obeys-done _ _ 0 0 _ (start .pre .0 .room, (start .pre .0 .sound, (omega (arith, else1 .if1 .left), tt)))
-    (record { no-values = (refl, refl); dropped = refl; planned = at-keep-first .keep-first .ensures }))
+    (record { no-values = (refl, refl); dropped = refl; planned = at-keep-first .keep-first .ensures .0 }))
 
 pub back-spec : {M : Type 1} → statement M
 back-spec =
@@ -128,6 +131,7 @@ back-spec =
     sub-left
     rules-now-requires
     marks-now-requires
+    last-now-requires
     done-requires
     same-length
     same-length-2

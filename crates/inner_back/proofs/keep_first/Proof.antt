@@ -8,7 +8,7 @@ use Rattle.inner_back.proofs.keep_first.Tie as tie
 returns : tie.Need-returns
 returns c =
     let start = c .before .before .before .before .before .before in
-    all-stay (start .pre .0) (omega (arith, c .if1 .taken, all-below (start .args .k) (start .args .m) (start .pre .0 .stay)))
+    (all-stay (start .pre .0) (omega (arith, c .if1 .taken, all-below (start .args .k) (start .args .m) (start .pre .0 .stay))), start .pre .1 .1)
 
 plan-requires : tie.Need-plan-requires
 plan-requires c κs =

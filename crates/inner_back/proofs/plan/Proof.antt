@@ -21,11 +21,14 @@ plan-with-requires c κs =
     let start = c .before .before .before .before .before .before .before .before in (
       start .pre .0,
       (
-        start .pre .1,
-        record {
-          gains-room = omega (arith, start .pre .0 .steps-in, length-replicate {A = ℕ} STEPS 0);
-          by-room = omega (arith, start .pre .0 .steps-in, length-replicate {A = ℕ} STEPS 0);
-        },
+        start .pre .1 .0,
+        (
+          (start .pre .1 .1, omega (arith, start .fits .last)),
+          record {
+            gains-room = omega (arith, start .pre .0 .steps-in, length-replicate {A = ℕ} STEPS 0);
+            by-room = omega (arith, start .pre .0 .steps-in, length-replicate {A = ℕ} STEPS 0);
+          },
+        ),
       ),
     )
 

@@ -1,5 +1,5 @@
--- `levels::days_at` meets its contract: where the days are kept the copy is the earliest plan, and else the rules that stay are planned.
-use Rattle.levels.proofs.Popping.{kept-places, plan-kept}
+-- `levels::days_at` meets its contract: where the days are kept the copy is the earliest plan and the row has its last day; else the rules that stay are planned.
+use Rattle.levels.proofs.Popping.{kept-places, plan-kept, last-kept}
 use native.Mathlib.Omega.{arith}
 use borrow.Author.Needs.{needs}
 use Rattle.levels.proofs.days_at.Statement.{statement}
@@ -22,15 +22,29 @@ copy-days-requires c κs =
     let start = c .before .before .before .before .before .before .before .before .before .before in
     (kept-places (start .pre .0) (c .before .before .before .holds .ensures .so (c .before .before .if1 .taken)) (c .before .row-of .ensures), omega (arith, start .pre .0 .plannable .days-room))
 
+add-result : tie.Need-add-result
+add-result c = search needs
+
+mul-result : tie.Need-mul-result
+mul-result c = search needs
+
+shared-slice-read-result : tie.Need-shared-slice-read-result
+shared-slice-read-result c =
+    let then1 = c .before .before .before .before .before .before in
+    omega (arith, then1 .before .holds .ensures .so (then1 .if1 .taken) .has-row, c .before .before .before .before .before .row-of .ensures)
+
 same-length : tie.Need-same-length
 same-length c = search needs
 
 returns : tie.Need-returns
 returns c =
-    let then1 = c .before .before .before .before .before in
-    let holds = then1 .before .holds in
+    let then1 = c .before .before .before .before .before .before in
+    let held = then1 .before .holds .ensures .so (then1 .if1 .taken) in
     let start = then1 .before .before .before .before .before .before .before .before in
-    plan-kept (start .pre .0) (holds .ensures .so (then1 .if1 .taken)) (c .before .before .before .before .row-of .ensures) (start .pre .1 .1 .1) (c .before .before .copy-days .ensures)
+    let is-row = c .before .before .before .before .before .row-of .ensures in
+    let copied = c .before .before .before .copy-days .ensures in
+    let kept = start .pre .1 .1 .1 .0 in
+    (plan-kept (start .pre .0) held is-row kept copied, last-kept (start .pre .0) held is-row kept copied)
 
 keep-first-requires : tie.Need-keep-first-requires
 keep-first-requires c κs = search needs
@@ -48,6 +62,9 @@ days-at-spec =
     holds-requires
     row-of-requires
     copy-days-requires
+    add-result
+    mul-result
+    shared-slice-read-result
     same-length
     returns
     keep-first-requires

@@ -3,7 +3,7 @@ use Prim.Native.Nat.{_+_}
 use native.Mathlib.Omega.{arith}
 use borrow.Author.Tests.{ltb-true, ltb-false}
 use borrow.Author.Needs.{needs}
-use Rattle.meaning.specs.Bounds.{STEPS}
+use Rattle.levels.specs.Levels.{LAST}
 use Rattle.levels.proofs.has_row.Statement.{statement}
 use Rattle.levels.proofs.has_row.Tie as tie
 
@@ -15,8 +15,8 @@ add-result c = search needs
 
 returns : tie.Need-returns
 returns c = record {
-  so = λ e. omega (arith, ltb-true (c .row-of .result + STEPS) (c .before .args .room) e, c .row-of .ensures);
-  not-so = λ e h. omega (arith, ltb-false (c .row-of .result + STEPS) (c .before .args .room) e, c .row-of .ensures, h);
+  so = λ e. omega (arith, ltb-true (c .row-of .result + LAST) (c .before .args .room) e, c .row-of .ensures);
+  not-so = λ e h. omega (arith, ltb-false (c .row-of .result + LAST) (c .before .args .room) e, c .row-of .ensures, h);
 }
 
 pub has-row-spec : {M : Type 1} → statement M

@@ -70,7 +70,7 @@ days-at-requires c κs =
     let else1 = c .before .before .before .before .before .before .before .before .before .before in
     let start = start-before-shared-slice-known5 (else1 .before) in
     let k-in : start .args .counts .marks - start .args .n < start .args .counts .marks = omega (arith, else1 .if1 .left, start .pre .1 .0) in
-    (droppable-at (start .pre .0) k-in refl, (c .before .before .before .before .drop-rules .ensures, (omega (arith, k-in, start .pre .0 .sound .counts-in .marks-in), start .pre .1 .1 .1 .kept-earliest _ k-in)))
+    (droppable-at (start .pre .0) k-in refl, (c .before .before .before .before .drop-rules .ensures, (omega (arith, k-in, start .pre .0 .sound .counts-in .marks-in), (start .pre .1 .1 .1 .kept-earliest _ k-in, start .pre .0 .sound .last-largest))))
 
 rules-now-requires : tie.Need-rules-now-requires
 rules-now-requires c κs = search needs
@@ -81,6 +81,9 @@ cast-marks-now c = search needs
 marks-now-requires : tie.Need-marks-now-requires
 marks-now-requires c κs = search needs
 
+last-now-requires : tie.Need-last-now-requires
+last-now-requires c κs = search needs
+
 same-length : tie.Need-same-length
 same-length c = search needs
 
@@ -89,11 +92,12 @@ same-length-2 c = search needs
 
 returns-2 : tie.Need-returns-2
 returns-2 c =
-    let at-drop-rules = c .before .before .before .before .before .before .before .before .before in
+    let at-drop-rules = c .before .before .before .before .before .before .before .before .before .before in
+    let days-at = c .before .before .before .before .before .days-at in
     let else1 = at-drop-rules .before .before .before .before .before .before in
     let start = else1 .before .before .before .before .before .before .before .before in
-    rw (c .marks-now .ensures, c .before .rules-now .ensures)
-    (popped-cut (start .args .n) _ (omega (arith, else1 .if1 .left)) (start .pre .1 .0) refl (c .before .before .before .before .days-at .ensures), at-drop-rules .drop-rules .ensures)
+    rw (c .last-now .ensures, c .before .marks-now .ensures, c .before .before .rules-now .ensures)
+    (popped-cut (start .args .n) _ (omega (arith, else1 .if1 .left)) (start .pre .1 .0) refl (days-at .ensures .0) (days-at .ensures .1), at-drop-rules .drop-rules .ensures)
 
 pub pop-spec : {M : Type 1} → statement M
 pop-spec =
@@ -113,6 +117,7 @@ pop-spec =
     rules-now-requires
     cast-marks-now
     marks-now-requires
+    last-now-requires
     same-length
     same-length-2
     returns-2)

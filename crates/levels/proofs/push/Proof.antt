@@ -15,7 +15,7 @@ abbrev Inv-loop : tie.InvT-loop
 Inv-loop counts days marks₀ kept₀ n first steps k₀ k-end marks kept k =
     (counts .marks ≤ k) × (k ≤ counts .marks + n) × (length marks ≡ length marks₀)
     × (marked (counts .marks + n - k) (counts .rules) k marks ≡ marked n (counts .rules) (counts .marks) marks₀)
-    × KeptFrom (counts .steps) (counts .marks) k days kept₀ kept
+    × KeptFrom (counts .steps) (counts .last) (counts .marks) k days kept₀ kept
 
 abbrev μ-loop : tie.MeasureT-loop
 μ-loop counts days marks₀ kept₀ n first steps k₀ k-end marks kept k = counts .marks + n - k
@@ -32,7 +32,7 @@ add-k-end c = search needs
 loop-holds : tie.Need-loop-holds Inv-loop μ-loop
 loop-holds c =
     let start = c .before .before .before .before .before in
-    (omega arith, omega arith, refl, marked-start (start .args .n) (start .args .counts .rules) (start .args .counts .marks) (start .args .marks .now), kept-none (start .args .counts .steps) (start .args .counts .marks) (start .args .days .now) (start .args .kept .now))
+    (omega arith, omega arith, refl, marked-start (start .args .n) (start .args .counts .rules) (start .args .counts .marks) (start .args .marks .now), kept-none (start .args .counts .steps) (start .args .counts .last) (start .args .counts .marks) (start .args .days .now) (start .args .kept .now))
 
 mul-marks : tie.Need-mul-marks Inv-loop μ-loop
 mul-marks c = search needs

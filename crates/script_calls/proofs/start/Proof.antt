@@ -4,7 +4,9 @@ use mathlib.Core.Path.{refl}
 use mathlib.Core.List.{[]}
 use mathlib.Core.Logic.{inl, inr}
 use borrow.Author.Tests.{not-true, not-false}
-use Rattle.meaning.specs.Bounds.{SHORT}
+use Rattle.meaning.specs.Bounds.{STEPS, SHORT}
+use Rattle.lent.specs.Lent.{tables}
+use Rattle.sound.proofs.Opened.{opened-days}
 use Rattle.meaning.proofs.Needs.{obeys-done, obeys-refused}
 use borrow.Author.Needs.{needs}
 use Rattle.script_calls.proofs.start.Statement.{statement}
@@ -50,7 +52,7 @@ returns-2 c =
     λ out. rw (c .before .steps-alone .ensures, c .no-notes .ensures)
     (obeys-done _ _ 0 0 _ (start-room .ensures (start .args .counts) (start .args .notes) out .so (not-false _ (else1 .if1 .left)), tt)
     (record {
-      opened = record { no-values = (refl, refl); emptied = refl; day-0 = at-clear-days .clear-days .ensures .day-0; past = at-clear-days .clear-days .ensures .past };
+      opened = record { no-values = (refl, refl); emptied = opened-days STEPS (tables (start .args .counts) (start .args .xs .now) (start .args .ys .now) (start .args .cs .now) (start .args .days .now) (start .args .marks .now) (start .args .wxs .now) (start .args .wys .now) (start .args .wcs .now)) _ (at-clear-days .clear-days .ensures .day-0); day-0 = at-clear-days .clear-days .ensures .day-0; past = at-clear-days .clear-days .ensures .past };
       emptied = refl;
       names-stay = refl;
       lens-stay = refl;

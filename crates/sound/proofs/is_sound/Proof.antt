@@ -139,8 +139,8 @@ returns-4 c =
     tested-no (lent (entry (counted past))) (heads-there past) (nexts-there past)
     (λ sound. c .before .marks-in .ensures .not-so (not-true (c .before .marks-in .result) (c .if4 .taken)) (record { never-fall = sound .marks-never-fall; held = sound .marks-held }))
 
-is-earliest-requires : tie.Need-is-earliest-requires
-is-earliest-requires c κs =
+days-in-requires : tie.Need-days-in-requires
+days-in-requires c κs =
     let rules = else2-before-marks-in (c .before .before .before) in
     let past = rules .before in
     let start = entry (counted past) in
@@ -166,7 +166,7 @@ returns-5 c =
     let past = rules .before in
     tested-by-days (lent (entry (counted past))) (counts-good (counted past)) (rules-good rules) (heads-there past) (nexts-there past) (rules-chained rules)
     (all-in .ensures .so (not-false (all-in .result) (else3 .if3 .left)))
-    (at-marks-in .marks-in .ensures .so (not-false (at-marks-in .marks-in .result) (c .before .before .before .if4 .left))) (c .is-earliest .result) (c .is-earliest .ensures)
+    (at-marks-in .marks-in .ensures .so (not-false (at-marks-in .marks-in .result) (c .before .before .before .if4 .left))) (c .days-in .result) (c .days-in .ensures)
 
 pub is-sound-spec : {M : Type 1} → statement M
 is-sound-spec =
@@ -190,7 +190,7 @@ is-sound-spec =
     same-length-5
     same-length-6
     returns-4
-    is-earliest-requires
+    days-in-requires
     same-length-7
     same-length-8
     returns-5)

@@ -15,10 +15,16 @@ impl<const PLACES: usize> Chains<PLACES> {
     /// The chains of the rules whose steps are these, in the order of their numbers.
     pub fn of_all(steps: &[u16]) -> Self {
         let mut chains = Chains::new();
-        for (number, &step) in steps.iter().enumerate() {
-            chains.push(step, number);
-        }
+        chains.build(steps);
         chains
+    }
+
+    /// Makes them these chains, whatever they were.
+    pub fn build(&mut self, steps: &[u16]) {
+        self.heads.fill(0);
+        for (number, &step) in steps.iter().enumerate() {
+            self.push(step, number);
+        }
     }
 
     #[inline]

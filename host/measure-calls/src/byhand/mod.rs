@@ -2,6 +2,8 @@
 //! plain safe Rust. `agree.rs` holds them against the library.
 
 mod chains;
+mod ring;
+mod shortest;
 mod sound;
 mod split;
 mod spread;
@@ -60,7 +62,7 @@ pub fn open(counts: &mut Counts, t: &mut Tables, steps: u32) -> u32 {
         return STEP;
     }
     t.days[..steps as usize].fill(0);
-    *counts = Counts { steps, rules: 0, marks: 0, watched: 0 };
+    *counts = Counts { steps, rules: 0, marks: 0, watched: 0, last: 0 };
     DONE
 }
 
@@ -104,19 +106,19 @@ fn try_back(counts: &mut Counts, t: &mut Tables) -> Result<(), u32> {
     }
     let mark = t.marks[counts.marks as usize - 1];
     if mark < counts.rules {
-        plan_afresh(counts.steps as usize, mark as usize, t);
+        counts.last = plan_afresh(counts.steps as usize, mark as usize, counts.last, t);
     }
     counts.marks -= 1;
     counts.rules = mark;
     Ok(())
 }
 
-/// Brings the days, which keep the first `rules` rules, to the earliest plan of these: every step is asked to reach the latest day, and all are then
-/// brought back by it.
-fn plan_afresh(steps: usize, rules: usize, t: &mut Tables) {
+/// Brings the days, which keep the first `rules` rules, to the earliest plan of these: every step is asked to reach the last day, and all are then
+/// brought back by it. Returns the last day after that.
+fn plan_afresh(steps: usize, rules: usize, last: u32, t: &mut Tables) -> u32 {
     let chains = Chains::of_all(&t.xs[..rules]);
     let days = &t.days[..steps];
-    let latest = days.iter().copied().max().map_or(0, i64::from);
+    let latest = i64::from(last);
     let mut spread = Spread::new(days, t.ys, t.cs, &chains);
     for (step, &day) in days.iter().enumerate() {
         if i64::from(day) < latest {
@@ -125,9 +127,12 @@ fn plan_afresh(steps: usize, rules: usize, t: &mut Tables) {
     }
     spread.run(None);
     let gains = spread.gains;
+    let mut last = 0;
     for (day, gain) in t.days[..steps].iter_mut().zip(gains) {
         *day = (i64::from(*day) + gain - latest) as u32;
+        last = last.max(*day);
     }
+    last
 }
 
 /// What the days lack for a rule; 0 or less where they keep it.
@@ -148,34 +153,52 @@ fn fits(spread: &mut Spread, rule: Rule) -> bool {
 
 pub fn add(counts: &mut Counts, t: &mut Tables, list: &mut [u32], rule: Rule, value: &mut u32) -> u32 {
     *value = 0;
-    number(try_add(counts, t, list, rule, value))
+    number(try_add::<true>(counts, t, list, rule, value))
 }
 
-fn try_add(counts: &mut Counts, t: &mut Tables, list: &mut [u32], rule: Rule, value: &mut u32) -> Result<(), u32> {
+/// Add that gives the ring by which the gain came, whichever that is: what the shortest one takes is measured against it.
+pub fn add_with_any_ring(counts: &mut Counts, t: &mut Tables, list: &mut [u32], rule: Rule, value: &mut u32) -> u32 {
+    *value = 0;
+    number(try_add::<false>(counts, t, list, rule, value))
+}
+
+fn try_add<const SHORTEST: bool>(counts: &mut Counts, t: &mut Tables, list: &mut [u32], rule: Rule, value: &mut u32) -> Result<(), u32> {
     if list.len() < STEPS {
         return Err(SHORT);
     }
     let mut chains = Chains::new();
     test(counts, t, &mut chains)?;
     test_rule(counts, rule, counts.rules, RULES)?;
-    let steps = counts.steps as usize;
     if lack(t.days, rule) > 0 {
-        let mut spread = Spread::new(&t.days[..steps], t.ys, t.cs, &chains);
-        if !fits(&mut spread, rule) {
-            *value = spread.ring(t.xs, rule.first as usize, rule.second as usize, counts.rules, list) as u32;
-            return Err(CONFLICT);
-        }
-        let gains = spread.gains;
-        for (day, &gain) in t.days[..steps].iter_mut().zip(&gains) {
-            *day += gain as u32;
-            *value += u32::from(gain > 0);
-        }
+        raise::<SHORTEST>(counts, t, &mut chains, list, rule, value)?;
     }
     let at = counts.rules as usize;
     t.xs[at] = rule.first as u16;
     t.ys[at] = rule.second as u16;
     t.cs[at] = rule.amount;
     counts.rules += 1;
+    Ok(())
+}
+
+/// Raises the days to the earliest plan with a rule that they break; on a conflict the list has its ring. The value is how many steps move, or the ring's length.
+fn raise<const SHORTEST: bool>(counts: &mut Counts, t: &mut Tables, chains: &mut Chains<RULES>, list: &mut [u32], rule: Rule, value: &mut u32) -> Result<(), u32> {
+    let steps = counts.steps as usize;
+    let mut spread = Spread::new(&t.days[..steps], t.ys, t.cs, chains);
+    if !fits(&mut spread, rule) {
+        *value = if SHORTEST {
+            shortest::reason(counts, t, chains, rule, list)
+        } else {
+            spread.ring(t.xs, rule.first as usize, rule.second as usize, counts.rules, list)
+        } as u32;
+        return Err(CONFLICT);
+    }
+    let gains = spread.gains;
+    counts.last = 0;
+    for (day, &gain) in t.days[..steps].iter_mut().zip(&gains) {
+        *day += gain as u32;
+        *value += u32::from(gain > 0);
+        counts.last = counts.last.max(*day);
+    }
     Ok(())
 }
 
@@ -194,7 +217,7 @@ fn try_trial(counts: &Counts, t: &Tables, days: &mut [u32], ring: &mut [u32], ru
     let held = &t.days[..counts.steps as usize];
     let mut spread = Spread::new(held, t.ys, t.cs, &chains);
     if !fits(&mut spread, rule) {
-        *value = spread.ring(t.xs, rule.first as usize, rule.second as usize, counts.rules, ring) as u32;
+        *value = shortest::reason(counts, t, &mut chains, rule, ring) as u32;
         return Err(CONFLICT);
     }
     for ((to, &day), &gain) in days.iter_mut().zip(held).zip(&spread.gains) {
@@ -202,6 +225,17 @@ fn try_trial(counts: &Counts, t: &Tables, days: &mut [u32], ring: &mut [u32], ru
         *value += u32::from(gain > 0);
     }
     Ok(())
+}
+
+pub fn ring_check(counts: &Counts, t: &mut Tables, list: &[u32], rule: Rule, verdict: &mut u32) -> u32 {
+    *verdict = 0;
+    number(try_ring_check(counts, t, list, rule).map(|ring| *verdict = u32::from(ring)))
+}
+
+fn try_ring_check(counts: &Counts, t: &Tables, list: &[u32], rule: Rule) -> Result<bool, u32> {
+    test(counts, t, &mut Chains::new())?;
+    test_rule(counts, rule, 0, RULES)?;
+    Ok(ring::is_ring(counts.steps as usize, counts.rules, t, rule, list))
 }
 
 pub fn consequences(counts: &Counts, t: &mut Tables, all: &mut [u32], none: &mut [u32], held: &mut u32, excluded: &mut u32) -> u32 {
@@ -222,4 +256,9 @@ fn try_consequences(counts: &Counts, t: &Tables, all: &mut [u32], none: &mut [u3
     test(counts, t, &mut chains)?;
     let spread = Spread::new(&t.days[..counts.steps as usize], t.ys, t.cs, &chains);
     Ok(split::split(spread, t, watched, all, none))
+}
+
+pub fn last_day(counts: &Counts, t: &mut Tables, day: &mut u32) -> u32 {
+    *day = 0;
+    number(test(counts, t, &mut Chains::new()).map(|()| *day = counts.last))
 }

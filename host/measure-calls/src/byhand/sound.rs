@@ -34,12 +34,18 @@ pub fn is_sound(counts: &Counts, t: &Tables, chains: &mut Chains<RULES>) -> bool
         chains.push(x, number);
     }
     let mut watch = t.wxs[..watched].iter().zip(&t.wys[..watched]).zip(&t.wcs[..watched]);
-    watch.all(|((&x, &y), &c)| in_bounds(x, y, c)) && marks_in(counts.rules, &t.marks[..marks]) && are_earliest(&t.days[..counts.steps as usize], t.ys, t.cs, chains)
+    let days = &t.days[..counts.steps as usize];
+    watch.all(|((&x, &y), &c)| in_bounds(x, y, c)) && marks_in(counts.rules, &t.marks[..marks]) && is_largest(counts.last, days) && are_earliest(days, t.ys, t.cs, chains)
 }
 
 /// Whether the marks never fall and none exceeds the rule count.
 fn marks_in(rules: u32, marks: &[u32]) -> bool {
     marks.windows(2).all(|pair| pair[0] <= pair[1]) && marks.last().map_or(true, |newest| *newest <= rules)
+}
+
+/// Whether the last day is the largest of the days.
+fn is_largest(last: u32, days: &[u32]) -> bool {
+    days.iter().fold(0, |so_far, day| so_far.max(*day)) == last
 }
 
 /// Whether the days are the earliest plan of the rules in the chains: they keep every rule, and every step has day 0 or is reached from

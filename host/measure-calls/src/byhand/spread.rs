@@ -64,7 +64,7 @@ impl<'a> Spread<'a> {
         }
     }
 
-    /// Writes the ring of a refused rule that leads from `x` to `y`: its would-be number, then the rules by which the gain at `y` has
+    /// Writes some ring of a refused rule that leads from `x` to `y`: its would-be number, then the rules by which the gain at `y` has
     /// reached `x`. Returns its length.
     pub fn ring(&self, xs: &[u16], x: usize, y: usize, number: u32, list: &mut [u32]) -> usize {
         list[0] = number;

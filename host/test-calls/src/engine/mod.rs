@@ -1,19 +1,19 @@
 //! An independent engine for the calls, written from the definitions: it keeps nothing between calls and plans from scratch, by rounds over all rules, at each
-//! of them. It is meant to be obviously right, and slow. What it gives and leaves is determined but for the choice among several rings.
+//! of them. It is meant to be obviously right, and slow. What it gives and leaves is determined, the ring of a conflict too.
 
 mod bounds;
 mod rings;
 mod scripts;
 mod sound;
 
-pub use rings::refutes;
+pub use rings::{reason, refutes};
 pub use sound::{is_sound, rules};
 
 use crate::acts::Act;
-use crate::office::{Office, Place, STEPS, WATCHED};
+use crate::office::{Lent, Office, Place, STEPS, WATCHED};
 use planner::calls::{Counts, Rule};
 use reader::{earliest, AMOUNT, DONE, FULL, LARGEST, MARKS, NOMARK, RULES, SHORT};
-use sound::{held, planned};
+use sound::{held, largest, planned};
 
 /// Numbers given back that scripts do not have of their own.
 pub const DAMAGED: u32 = 2;
@@ -28,16 +28,10 @@ pub struct Given {
     pub two: u64,
 }
 
-/// What must come back: exactly this; or CONFLICT, with some ring of the refused rule in the list, and its length.
-pub enum Wanted {
-    Exactly(Given),
-    Ring(Rule, Place),
-}
+type Outcome = Result<Given, u32>;
 
-type Outcome = Result<Wanted, u32>;
-
-/// Carries the call out on what is lent. A ring is not written: the caller chooses it.
-pub fn carry_out(office: &mut Office, act: &Act) -> Wanted {
+/// Carries the call out on what is lent.
+pub fn carry_out(office: &mut Office, act: &Act) -> Given {
     let outcome = match act {
         Act::Open(steps) => open(office, *steps),
         Act::Watch(rule) => watch(office, *rule),
@@ -47,6 +41,7 @@ pub fn carry_out(office: &mut Office, act: &Act) -> Wanted {
         Act::Trial(rule) => trial(office, *rule),
         Act::Consequences => consequences(office),
         Act::RingCheck(rule, list) => ring_check(office, *rule, list),
+        Act::LastDay => last_day(office),
         Act::Start => scripts::start(office),
         Act::Command(text) => scripts::command(office, text),
         Act::Set(..) | Act::SetField(..) | Act::Lend(..) | Act::Hold(..) | Act::Follow(..) => {
@@ -54,11 +49,17 @@ pub fn carry_out(office: &mut Office, act: &Act) -> Wanted {
             done(0, 0)
         }
     };
-    outcome.unwrap_or_else(|number| Wanted::Exactly(Given { number, one: 0, two: 0 }))
+    outcome.unwrap_or_else(|number| Given { number, one: 0, two: 0 })
 }
 
 fn done(one: usize, two: usize) -> Outcome {
-    Ok(Wanted::Exactly(Given { number: DONE, one: one as u64, two: two as u64 }))
+    Ok(Given { number: DONE, one: one as u64, two: two as u64 })
+}
+
+/// CONFLICT: the ring stands in the list, and its length is given.
+fn conflict(list: &mut Lent<u32>, ring: &[u32]) -> Outcome {
+    list.part_mut()[..ring.len()].copy_from_slice(ring);
+    Ok(Given { number: CONFLICT, one: ring.len() as u64, two: 0 })
 }
 
 /// The number is given where the need is not met.
@@ -86,7 +87,7 @@ fn rule_in_bounds(office: &Office, rule: Rule) -> Result<(), u32> {
 fn open(office: &mut Office, steps: u32) -> Outcome {
     need(room(office), SHORT)?;
     need(1 <= steps && steps as usize <= STEPS, STEP)?;
-    office.counts[1] = Counts { steps, rules: 0, marks: 0, watched: 0 };
+    office.counts[1] = Counts { steps, rules: 0, marks: 0, watched: 0, last: 0 };
     office.shelf.days.part_mut()[..steps as usize].fill(0);
     done(0, 0)
 }
@@ -123,7 +124,10 @@ fn moved(office: &Office, days: &[i64]) -> usize {
 fn add(office: &mut Office, rule: Rule) -> Outcome {
     need(room(office) && office.lent(Place::One) >= STEPS, SHORT)?;
     match with_rule(office, rule)? {
-        None => Ok(Wanted::Ring(rule, Place::One)),
+        None => {
+            let ring = reason(office, rule);
+            conflict(&mut office.one, &ring)
+        }
         Some(days) => {
             let count = moved(office, &days);
             hold(office, rule, &days);
@@ -140,7 +144,13 @@ fn hold(office: &mut Office, rule: Rule, days: &[i64]) {
     shelf.ys.part_mut()[number] = rule.second as u16;
     shelf.cs.part_mut()[number] = rule.amount;
     office.counts[1].rules += 1;
+    plan_is(office, days);
+}
+
+/// These are the days, and the largest of them is the last day.
+fn plan_is(office: &mut Office, days: &[i64]) {
     write_days(office.shelf.days.part_mut(), days);
+    office.counts[1].last = largest(days) as u32;
 }
 
 fn write_days(list: &mut [u32], days: &[i64]) {
@@ -181,13 +191,16 @@ fn drop_marks(office: &mut Office, fewer: usize) {
         office.counts[1].marks = newest as u32;
     }
     let days = planned(office).expect("fewer rules than sound tables had");
-    write_days(office.shelf.days.part_mut(), &days);
+    plan_is(office, &days);
 }
 
 fn trial(office: &mut Office, rule: Rule) -> Outcome {
     need(room(office) && office.lent(Place::One) >= STEPS && office.lent(Place::Two) >= STEPS, SHORT)?;
     match with_rule(office, rule)? {
-        None => Ok(Wanted::Ring(rule, Place::Two)),
+        None => {
+            let ring = reason(office, rule);
+            conflict(&mut office.two, &ring)
+        }
         Some(days) => {
             write_days(office.one.part_mut(), &days);
             done(moved(office, &days), 0)
@@ -211,4 +224,12 @@ fn ring_check(office: &Office, rule: Rule, list: &[u32]) -> Outcome {
     need(is_sound(office), DAMAGED)?;
     rule_in_bounds(office, rule)?;
     done(usize::from(refutes(office, rule, list)), 0)
+}
+
+/// From the plan, and not from what the record says of it.
+fn last_day(office: &Office) -> Outcome {
+    need(room(office), SHORT)?;
+    need(is_sound(office), DAMAGED)?;
+    let days = planned(office).expect("sound tables have a plan");
+    done(largest(&days) as usize, 0)
 }

@@ -15,7 +15,7 @@ fn names_room(office: &Office) -> bool {
 /// The tables are opened with all steps, and the record is emptied.
 pub fn start(office: &mut Office) -> Outcome {
     need(room(office) && names_room(office), SHORT)?;
-    office.counts[1] = Counts { steps: STEPS as u32, rules: 0, marks: 0, watched: 0 };
+    office.counts[1] = Counts { steps: STEPS as u32, rules: 0, marks: 0, watched: 0, last: 0 };
     office.shelf.days.part_mut()[..STEPS].fill(0);
     office.record[1] = Record { names: 0, logic: 0, broken: 0, sat: 0 };
     done(0, 0)

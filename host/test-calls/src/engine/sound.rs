@@ -19,7 +19,13 @@ pub fn planned(office: &Office) -> Option<Vec<i64>> {
     earliest(office.counts().steps as usize, rules(office).iter().copied())
 }
 
-/// The counts are within bounds, every held and watched rule too, marks never fall and none exceeds the rule count, and the days are the earliest plan.
+/// The largest of the days; 0 where there is none.
+pub fn largest(days: &[i64]) -> i64 {
+    days.iter().fold(0, |so_far, day| if so_far < *day { *day } else { so_far })
+}
+
+/// The counts are within bounds, every held and watched rule too, marks never fall and none exceeds the rule count, the days are the earliest plan, and the last
+/// day is the largest of them.
 pub fn is_sound(office: &Office) -> bool {
     let counts = office.counts();
     let (steps, held, open, watched) = (counts.steps as usize, counts.rules as usize, counts.marks as usize, counts.watched as usize);
@@ -32,5 +38,7 @@ pub fn is_sound(office: &Office) -> bool {
         && (0..watched).all(|number| good(office.watched_rule(number)))
         && marks.windows(2).all(|two| two[0] <= two[1])
         && marks.iter().all(|mark| *mark <= counts.rules)
-        && planned(office).map_or(false, |days| days.iter().zip(office.shelf.days.part()).all(|(day, cell)| *day == i64::from(*cell)))
+        && planned(office).map_or(false, |days| {
+            days.iter().zip(office.shelf.days.part()).all(|(day, cell)| *day == i64::from(*cell)) && i64::from(counts.last) == largest(&days)
+        })
 }

@@ -1,0 +1,158 @@
+-- The list that is written holds the reason: the refused rule's number, then the least of the shortest ways from y to x.
+use Prim.Native.Nat.{ℕ, zero, suc, _+_, _*_, _-_, _≤_, _<_}
+use native.Mathlib.Omega.{arith}
+use mathlib.Core.Path.{_≡_, refl, sym, _∙_, ap, subst}
+use mathlib.Core.List.{List, [], _∷_}
+use mathlib.Core.Logic.{inl, inr}
+use lib.ListN.{length, set, length-set, take}
+use lib.Seq.{getD-set-same, getD-set-other}
+use lib.IntN.{ℤ}
+use Rattle.meaning.specs.Bounds.{STEPS}
+use Rattle.meaning.specs.Tables.{at}
+use Rattle.meaning.specs.Rules.{rule, Reason}
+use Rattle.meaning.specs.Reckoning.{up, dn}
+use Rattle.lent.specs.Lent.{first, Biased, BIAS}
+use Rattle.chains.specs.Chains.{number, ChainsOf, Buildable}
+use Rattle.shortest.specs.Walks.{Open, Least, part}
+use Rattle.shortest.specs.Layers.{Begun}
+use Rattle.shortest.specs.Contracts.{LAYERS, rules, spares, from, Chained, Descendable, Descended, Seekable, Fewest, Refuted, ReasonIn}
+use Rattle.shortest.proofs.Cells.{from-first}
+use Rattle.shortest.proofs.Layers.{layer-none, layer-same}
+use Rattle.shortest.proofs.Picking.{least-none}
+use Rattle.shortest.proofs.Descending.{joins-all}
+use Rattle.shortest.proofs.Reasons.{some-way, least-reason}
+
+-- The first numbers of a list, by their places.
+part-behind : (a : ℕ) (l : List ℕ) (j k : ℕ) → part (at (a ∷ l)) (suc j) k ≡ part (at l) j k
+part-behind a l j zero = refl
+part-behind a l j (suc k) = ap (λ (o : List ℕ). at l j ∷ o) (part-behind a l (suc j) k)
+
+take-part : (k : ℕ) (l : List ℕ) → k ≤ length l → take k l ≡ part (at l) 0 k
+take-part zero l within = refl
+take-part (suc k) [] within = absurd (omega arith)
+take-part (suc k) (a ∷ l) within = ap (λ (o : List ℕ). a ∷ o) (take-part k l (omega (arith, within)) ∙ sym (part-behind a l 0 k))
+
+module _ (n : ℕ) (H : ℕ → Type 0) (k : ℕ) (xs ys : List ℕ) (cs : List ℤ) (days heads nexts : List ℕ) (x y : ℕ) (c : ℤ) (list : List ℕ)
+    (refuted : Refuted n H k xs ys cs days heads nexts x y c list) where
+  -- What the days lack for the rule.
+  abbrev pub short : ℕ
+  short = at days x + dn c - (at days y + up c)
+
+  -- A way of fewer rules than there are steps stays below it.
+  some : (h : ℕ) × (h < n) × Open (rules xs ys cs) H (spares xs ys cs days) x y h short
+  some =
+      let (l, refutes) = refuted .refuted in
+      some-way n (rules xs ys cs) H (refuted .kept .in-steps) (at days) (refuted .kept .plan) k (refuted .free) x y c (refuted .first-in) (refuted .second-in) l refutes
+
+  -- So it is no 0, and the machine reckons it.
+  pub lacks : at days y + up c < at days x + dn c
+  lacks =
+      let (h, few, way) = some in
+      omega (arith, way .1 .below)
+
+  pub short-is : (dx dy b : ℕ) → dx ≡ at days x → dy ≡ at days y → Biased c b → (dy + b ≤ dx + BIAS) × (dx + BIAS - (dy + b) ≡ short)
+  short-is dx dy b dx-is dy-is biased = (omega (arith, lacks, biased .is), omega (arith, lacks, biased .is))
+
+  -- A way can be looked for.
+  pub seekable : (t : ℕ) (cells : List ℕ) → t ≡ short → 2 * STEPS ≤ length cells → Seekable n H xs ys cs days t x y cells
+  seekable t cells is room = record {
+    first-in = refuted .first-in;
+    second-in = refuted .second-in;
+    narrow = omega (arith, is, refuted .small);
+    cells-room = room;
+    some = subst (λ (s : ℕ). (h : ℕ) × (h < n) × Open (rules xs ys cs) H (spares xs ys cs days) x y h s) (sym is) some;
+  }
+
+  -- The shortest has fewer rules than there are steps.
+  pub few-rules : (t h : ℕ) → t ≡ short → Fewest (rules xs ys cs) H (spares xs ys cs days) t x y h → h < n
+  few-rules t h is few =
+      let (j, below, way) = some in
+      omega (arith, below, few .fewest j (subst (Open (rules xs ys cs) H (spares xs ys cs days) x y j) (sym is) way))
+
+  -- With layer 0 in the first cells, its rules can be looked for.
+  pub all-descendable :
+      (t h : ℕ) (cells list′ : List ℕ) → t ≡ short → Fewest (rules xs ys cs) H (spares xs ys cs days) t x y h → 0 < h → LAYERS * STEPS ≤ length cells → length list′ ≡ length list →
+      Begun n x t (at cells) → Descendable n H xs ys cs days t 0 h y t 1 0 cells list′
+  all-descendable t h cells list′ is few some-rules room long begun = record {
+    some = some-rules;
+    step-in = refuted .second-in;
+    bound-in = omega arith;
+    narrow = omega (arith, is, refuted .small);
+    list-room = omega (arith, few-rules t h is few, long, refuted .list-room);
+    depth = LAYERS - 2;
+    span-in = omega (arith, few-rules t h is few, refuted .kept .steps-in);
+    cells-room = omega (arith, room);
+    goal = x;
+    layer = layer-same (rules xs ys cs) H (spares xs ys cs days) x n t (refuted .kept .in-steps) 0 (at cells) (from 0 cells) (λ v v-in. sym (from-first cells v))
+        (layer-none (rules xs ys cs) H (spares xs ys cs days) x n t (refuted .kept .in-steps) (at cells) begun);
+    way = few .way;
+  }
+
+  -- The rule's number and the least of the shortest ways behind it are the reason.
+  written :
+      (t h : ℕ) (list′ : List ℕ) → t ≡ short → Fewest (rules xs ys cs) H (spares xs ys cs days) t x y h → Least (rules xs ys cs) H (spares xs ys cs days) x y h t (part (at list′) 1 h) →
+      length list′ ≡ length list → at list′ 0 ≡ k → ((i : ℕ) → h + 1 ≤ i → at list′ i ≡ at list i) → ReasonIn H k xs ys cs x y c (h + 1) list list′
+  written t h list′ is few least long named past = record {
+    within = omega (arith, few-rules t h is few, refuted .list-room);
+    holds = subst (Reason (rules xs ys cs) H k (rule x y c)) (sym whole)
+        (least-reason n (rules xs ys cs) H (refuted .kept .in-steps) (at days) (refuted .kept .plan) k (refuted .free) x y c h (part (at list′) 1 h)
+        (subst (λ (s : ℕ). Least (rules xs ys cs) H (spares xs ys cs days) x y h s (part (at list′) 1 h)) is least)
+        (subst (λ (s : ℕ). Fewest (rules xs ys cs) H (spares xs ys cs days) s x y h) is few));
+    past = record { same-length = long; kept = past };
+  }
+    where
+      counted : h + 1 ≡ suc h
+      counted = omega arith
+
+      whole : take (h + 1) list′ ≡ k ∷ part (at list′) 1 h
+      whole =
+          ap (λ (j : ℕ). take j list′) counted ∙ take-part (suc h) list′ (omega (arith, few-rules t h is few, long, refuted .list-room))
+          ∙ ap (λ (j : ℕ). j ∷ part (at list′) 1 h) named
+
+  -- Where no rule leads from y to x since they are one step, the number alone is.
+  pub written-alone : (t h : ℕ) → t ≡ short → Fewest (rules xs ys cs) H (spares xs ys cs days) t x y h → h ≡ 0 → ReasonIn H k xs ys cs x y c 1 list (set list 0 k)
+  written-alone t h is few none =
+      written t 0 (set list 0 k) is few′ (least-none (rules xs ys cs) H (spares xs ys cs days) x y t (few′ .way)) (length-set list 0 k)
+      (getD-set-same list 0 k 0 (omega (arith, refuted .first-in, refuted .list-room)))
+      (λ i past. getD-set-other list 0 i k 0 (λ e. omega arith))
+    where
+      few′ : Fewest (rules xs ys cs) H (spares xs ys cs days) t x y 0
+      few′ = subst (Fewest (rules xs ys cs) H (spares xs ys cs days) t x y) none few
+
+  -- Where rules do, they stand behind it.
+  pub written-all :
+      (t h : ℕ) (cells cells′ list′ : List ℕ) (v′ bound′ : ℕ) → t ≡ short → Fewest (rules xs ys cs) H (spares xs ys cs days) t x y h → Begun n x t (at cells) →
+      length list′ ≡ length list → Descended n H xs ys cs days t 0 h y t 1 0 cells (set list 0 k) cells′ list′ v′ bound′ → ReasonIn H k xs ys cs x y c (h + 1) list list′
+  written-all t h cells cells′ list′ v′ bound′ is few begun long descended =
+      written t h list′ is few
+      (joins-all (rules xs ys cs) H (spares xs ys cs days) x h y t 1 (at list′) v′ bound′
+      (descended .joins x
+      (layer-same (rules xs ys cs) H (spares xs ys cs days) x n t (refuted .kept .in-steps) 0 (at cells) (from 0 cells) (λ v v-in. sym (from-first cells v))
+      (layer-none (rules xs ys cs) H (spares xs ys cs days) x n t (refuted .kept .in-steps) (at cells) begun))))
+      long
+      (descended .others 0 (inl (omega arith)) ∙ getD-set-same list 0 k 0 (omega (arith, refuted .first-in, refuted .list-room)))
+      (λ i past. descended .others i (inr (omega arith)) ∙ getD-set-other list 0 i k 0 (λ e. omega arith))
+
+-- ---- the chains
+
+pub buildable :
+    (n m : ℕ) (xs ys : List ℕ) (cs : List ℤ) (days heads nexts : List ℕ) (x y : ℕ) (c : ℤ) (list : List ℕ) → Refuted n (first m) m xs ys cs days heads nexts x y c list →
+    Buildable n m ys heads nexts
+buildable n m xs ys cs days heads nexts x y c list refuted = record {
+  heads-room = refuted .heads-room;
+  firsts-room = refuted .seconds-room;
+  nexts-room = refuted .nexts-room;
+  links-fit = omega (arith, refuted .free-in);
+  firsts-in = λ i held. refuted .kept .in-steps i held .second-in;
+}
+
+pub built :
+    (n m : ℕ) (xs ys : List ℕ) (cs : List ℤ) (days heads nexts : List ℕ) (x y : ℕ) (c : ℤ) (list : List ℕ) → Refuted n (first m) m xs ys cs days heads nexts x y c list →
+    (heads′ nexts′ : List ℕ) → length heads′ ≡ length heads → length nexts′ ≡ length nexts → ChainsOf n (first m) number ys heads′ nexts′ →
+    Chained n (first m) number xs ys cs days heads′ nexts′
+built n m xs ys cs days heads nexts x y c list refuted heads′ nexts′ heads-long nexts-long chained = record {
+  kept = refuted .kept;
+  heads-room = omega (arith, heads-long, refuted .heads-room);
+  next-place = λ i held. omega (arith, nexts-long, refuted .nexts-room);
+  chained = chained;
+}
