@@ -7,8 +7,9 @@ PROGRAM=program
 ARCHIVE=target/staticlib/lib$ENTRY.a
 PROGRAM_ARCHIVE=target/staticlib/lib$PROGRAM.a
 
-# The program that ./dates runs, which tools/build links.
+# The program that tools/build links, for x86-64; and the same compiled for this machine, where it is another one and has a C compiler. ./dates runs the latter where it is there.
 BARE=target/dates
+OWN=target/dates-own
 
 # The stamps that tools/build writes when the program, or the archive, is built.
 PROGRAM_STAMP=target/built

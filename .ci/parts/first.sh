@@ -24,7 +24,7 @@ echo 'unsigned dates_main(unsigned char *text, unsigned long length) { return te
 # Where it makes an archive under another kit, it gives that kit's compiler a module.
 tree=$work/tree
 mkdir -p "$tree/tools" "$tree/host/c" "$tree/crates/program" "$work/bin"
-cp dates "$tree/" && cp tools/build "$tree/tools/" && cp host/tools.sh host/native.sh "$tree/host/" && cp host/c/bare.c "$tree/host/c/" && cp -r include examples "$tree/" ||
+cp dates "$tree/" && cp tools/build "$tree/tools/" && cp host/tools.sh host/native.sh "$tree/host/" && cp host/c/bare.c host/c/errno.c "$tree/host/c/" && cp -r include examples "$tree/" ||
     stop "no copy of the command"
 printf '%s\n' '# Words.' 'meaning:' 'lent: meaning # here too' 'text:' 'export_record: lent' 'exports: export_record' 'program: lent text io' 'dates: program' >"$tree/crates.txt"
 echo one >"$tree/crates/program/source"
@@ -54,7 +54,9 @@ for crate in \$crates; do
     echo "rt: \$crate proved (1 s)"
 done
 if [ "\$1" = staticlib ]; then
-    [ -z "\${RATTLE_HOME:-}" ] || "\$RATTLE_HOME/on/$machine/toolchain/bin/clang" --target=x86_64-unknown-linux-gnu -w -c -x ir '$work/other.bc' -o target/staticlib/other.o || exit
+    module='$work/other.bc'
+    [ "\${DO:-}" = other ] || [ \$2 != program ] || module='$PWD/$(module_of "$PROGRAM")'
+    [ -z "\${RATTLE_HOME:-}" ] || "\$RATTLE_HOME/on/$machine/toolchain/bin/clang" --target=x86_64-unknown-linux-gnu -w -c -x ir "\$module" -o target/staticlib/other.o || exit
     case \$2 in
     exports) echo archive >target/staticlib/libexports.a ;;
     *) if [ "\${DO:-}" = other ]; then cp '$work/other.a' target/staticlib/libprogram.a; else cp '$PWD/$PROGRAM_ARCHIVE' target/staticlib/; fi ;;
@@ -145,7 +147,7 @@ library_is_there() { "$tree/tools/build" library 2>"$work/err" && diff "$work/er
 one "and not again where no source is newer" library_is_there
 # Whether the module that the compiler was given stands beside both archives, on Arm; where one has changed or is gone, its archive is made again.
 modules_kept() {
-    cmp "$tree/target/staticlib/libprogram.bc" "$work/other.bc" && cmp "$tree/target/staticlib/libexports.bc" "$work/other.bc"
+    cmp "$tree/target/staticlib/libprogram.bc" "$(module_of "$PROGRAM")" && cmp "$tree/target/staticlib/libexports.bc" "$work/other.bc"
 }
 made_again() { # CALLS
     forget
@@ -269,6 +271,18 @@ words() {
 }
 on_words() { "$@" <"$season"; }
 one "by the words that --words prints" words
+# On another processor than x86-64 the program is compiled for that, where there is a C compiler; without one it runs under the toolchain's emulator.
+if [ "$machine" != x86_64 ]; then
+    runs_own() { [ -x "$tree/$OWN" ] && mv "$tree/$BARE" "$work/bare" && : >"$tree/$BARE" && chmod +x "$tree/$BARE" && answers "$tree/dates" "$season" && mv "$work/bare" "$tree/$BARE"; }
+    one "on this processor it runs what was compiled for it" runs_own
+    rm -f "$tree/$OWN"
+    mkdir "$work/no-cc" && cp -as /usr/bin/. "$work/no-cc/" && rm -f "$work/no-cc/cc"
+    without_cc() { PATH=$work/bin:$work/no-cc "$tree/dates" --build 2>/dev/null && [ ! -e "$tree/$OWN" ] && answers "$tree/dates" "$season"; }
+    one "without a C compiler it runs under the emulator" without_cc
+    with_cc() { "$tree/dates" --build 2>/dev/null && runs_own; }
+    one "with one again as before" with_cc
+    forget
+fi
 cp -r "$tree" "$work/same-times" && find "$work/same-times" -exec touch -h -d 2001-01-01 {} +
 one "a copy whose files all have the same time" answers "$work/same-times/dates" "$season"
 mv "$work/same-times" "$work/moved tree"
@@ -308,8 +322,8 @@ run_once() { # COMMAND..
 }
 # Of 200 runs of each, in turn, the shortest: other work on the machine only lengthens one.
 quick() {
-    local took bare=1000000 way=1000000 list=()
-    mapfile -t list < <("$tree/dates" --words)
+    local took bare=1000000 way=1000000 list=("$tree/$OWN")
+    [ -x "$tree/$OWN" ] || mapfile -t list < <("$tree/dates" --words)
     for _ in {1..200}; do
         run_once "${list[@]}" && [ "$took" -ge "$bare" ] || bare=$took
         run_once "$tree/dates" "$season" && [ "$took" -ge "$way" ] || way=$took
