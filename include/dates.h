@@ -1,6 +1,6 @@
 #ifndef DATES_H
 #define DATES_H
-#define DATES_VERSION "3.1.0"
+#define DATES_VERSION "4.0.0"
 
 /*
  * The date engine's calls, for C (C99 and later) and C++ (C++11 and later). The library is libdates where it is installed (./install), in the
@@ -33,7 +33,7 @@ extern "C" {
 
 /* The bounds. */
 #define DATES_STEPS 1024        /* there are 1 to so many steps, numbered from 0; a list lent for days or for a ring has at least so many places */
-#define DATES_RULES 4096        /* at most so many rules are held, numbered from 0 in order of adding */
+#define DATES_RULES 4096        /* at most so many rules are held; the number of a rule is its place, from 0, and a new rule takes the lowest free place */
 #define DATES_LARGEST 1000000   /* the largest amount; the smallest is -DATES_LARGEST */
 #define DATES_MARKS 64          /* at most so many marks are open */
 #define DATES_WATCHED 1024      /* at most so many rules are watched, numbered from 0 */
@@ -58,11 +58,12 @@ extern "C" {
 #define DATES_MODE 9      /* a command at a place where it may not stand */
 #define DATES_NAME 10     /* a name unknown, or declared while it stands */
 #define DATES_SIZE 11     /* script over DATES_TEXT bytes, name over DATES_NAME_BYTES, terms over DATES_DEPTH deep, over DATES_ASKED names in one get-value */
+#define DATES_ABSENT 12   /* Withdraw of a number under which no rule is held */
 
 /* How many of each thing the tables hold, and the last day of the plan. Each call brings it up to date. */
 typedef struct dates_counts {
     uint32_t steps;    /* steps, numbered from 0 */
-    uint32_t rules;    /* rules held; the next one gets this number */
+    uint32_t rules;    /* rules held; the number of the next one is the lowest free place, which levels tells */
     uint32_t marks;    /* marks open */
     uint32_t watched;  /* watched rules */
     uint32_t last;     /* the last day: the largest day of all steps; any other value makes the tables DATES_DAMAGED */
@@ -79,32 +80,36 @@ typedef struct dates_record {
 /*
  * The tables, the same for every call. Each length counts elements and must be at least the bound, else the call is DATES_SHORT; room beyond is never touched.
  *
- *     counts            how many of each thing the tables hold, and the last day of the plan
- *     xs, xs_len        the first steps of the rules held, for at least DATES_RULES
- *     ys, ys_len        their second steps, for at least DATES_RULES
- *     cs, cs_len        their amounts, for at least DATES_RULES
- *     days, days_len    the day of each step, for at least DATES_STEPS
- *     marks, marks_len  for each open mark the number of rules held when it was set, the oldest first, for at least DATES_MARKS
- *     wxs, wxs_len      the first steps of the watched rules, for at least DATES_WATCHED
- *     wys, wys_len      their second steps, for at least DATES_WATCHED
- *     wcs, wcs_len      their amounts, for at least DATES_WATCHED
+ *     counts              how many of each thing the tables hold, and the last day of the plan
+ *     xs, xs_len          the first steps of the rules held, each at the place of its number, for at least DATES_RULES
+ *     ys, ys_len          their second steps, for at least DATES_RULES
+ *     cs, cs_len          their amounts, for at least DATES_RULES
+ *     days, days_len      the day of each step, for at least DATES_STEPS
+ *     levels, levels_len  0 for a free place, k + 1 for a rule that was added while k marks were open, for at least DATES_RULES
+ *     wxs, wxs_len        the first steps of the watched rules, for at least DATES_WATCHED
+ *     wys, wys_len        their second steps, for at least DATES_WATCHED
+ *     wcs, wcs_len        their amounts, for at least DATES_WATCHED
  *
- * They are sound when the counts are within bounds, every rule held or watched is within bounds, marks never fall and none exceeds the rule count, the days equal
- * the earliest plan of the rules held, and counts->last is the largest of them. dates_open and dates_start make them so, and every call leaves sound tables sound. Cells past the counts may hold anything, and past the
- * counts after a call they are as before it. What a call may write is a pointer without const.
+ * A rule is held under a number below DATES_RULES where levels is not 0 at that place, and keeps the number until it is withdrawn or goes with its level. The next rule gets
+ * the lowest free place; that is also the number that a refused rule would have had, DATES_RULES where no place is free.
+ *
+ * They are sound when the counts are within bounds, every rule held or watched is within bounds, no rule held is of a level with more marks than are open, counts->rules
+ * is the number of rules held, the days equal their earliest plan, and counts->last is the largest of these. dates_open and dates_start make them so, and every call leaves
+ * sound tables sound. Free places of xs, ys and cs, and cells past the counts of the other tables, may hold anything, and a call leaves there what it finds. What a call
+ * may write is a pointer without const.
  */
 
 /*
  * Open: sets that many steps, no rules, marks or watched rules, day 0 for every step, and 0 for the last day. What the tables held before does not matter.
  *     steps   how many steps there are to be
- * Writes counts, and the days of these steps.
+ * Writes counts, the days of these steps, and 0 into the first DATES_RULES places of levels.
  *     DATES_SHORT   a table has too few places
  *     DATES_STEP    steps is not 1 to DATES_STEPS
  */
 uint32_t dates_open(
     dates_counts *counts,
     const uint16_t *xs, size_t xs_len, const uint16_t *ys, size_t ys_len, const int32_t *cs, size_t cs_len,
-    uint32_t *days, size_t days_len, const uint32_t *marks, size_t marks_len,
+    uint32_t *days, size_t days_len, uint8_t *levels, size_t levels_len,
     const uint16_t *wxs, size_t wxs_len, const uint16_t *wys, size_t wys_len, const int32_t *wcs, size_t wcs_len,
     uint32_t steps);
 
@@ -121,13 +126,13 @@ uint32_t dates_open(
 uint32_t dates_watch(
     dates_counts *counts,
     const uint16_t *xs, size_t xs_len, const uint16_t *ys, size_t ys_len, const int32_t *cs, size_t cs_len,
-    const uint32_t *days, size_t days_len, const uint32_t *marks, size_t marks_len,
+    const uint32_t *days, size_t days_len, const uint8_t *levels, size_t levels_len,
     uint16_t *wxs, size_t wxs_len, uint16_t *wys, size_t wys_len, int32_t *wcs, size_t wcs_len,
     uint32_t x, uint32_t y, int32_t c);
 
 /*
- * Mark: the number of rules held is the newest mark.
- * Writes counts, and the new mark's place in marks.
+ * Mark: one more mark is open. The rules added from now on are of its level.
+ * Writes counts.
  *     DATES_SHORT     a table has too few places
  *     DATES_DAMAGED   the tables are not sound
  *     DATES_FULL      DATES_MARKS marks are open
@@ -135,12 +140,13 @@ uint32_t dates_watch(
 uint32_t dates_mark(
     dates_counts *counts,
     const uint16_t *xs, size_t xs_len, const uint16_t *ys, size_t ys_len, const int32_t *cs, size_t cs_len,
-    const uint32_t *days, size_t days_len, uint32_t *marks, size_t marks_len,
+    const uint32_t *days, size_t days_len, const uint8_t *levels, size_t levels_len,
     const uint16_t *wxs, size_t wxs_len, const uint16_t *wys, size_t wys_len, const int32_t *wcs, size_t wcs_len);
 
 /*
- * Back: drops the newest mark and every rule added after it, and brings the days to the earliest plan of the rules left. The watched list stays.
- * Writes counts, and the days of all steps.
+ * Back: drops the newest mark and every rule added after it, and brings the days to the earliest plan of the rules left, which are those held at the mark and not
+ * withdrawn since. The watched list stays.
+ * Writes counts, the days of all steps, and 0 into levels at the places of the rules that go, which are free then.
  *     DATES_SHORT     a table has too few places
  *     DATES_DAMAGED   the tables are not sound
  *     DATES_NOMARK    no mark is open
@@ -148,17 +154,33 @@ uint32_t dates_mark(
 uint32_t dates_back(
     dates_counts *counts,
     const uint16_t *xs, size_t xs_len, const uint16_t *ys, size_t ys_len, const int32_t *cs, size_t cs_len,
-    uint32_t *days, size_t days_len, const uint32_t *marks, size_t marks_len,
+    uint32_t *days, size_t days_len, uint8_t *levels, size_t levels_len,
     const uint16_t *wxs, size_t wxs_len, const uint16_t *wys, size_t wys_len, const int32_t *wcs, size_t wcs_len);
 
 /*
- * Add: holds one more rule and brings the days to the earliest plan.
+ * Withdraw: takes one rule away, whenever it was added, and brings the days to the earliest plan of the rest. The other rules keep their numbers, and the place is free for
+ * the next rule. Marks and the watched list stay; Back does not bring the rule back.
+ *     number   the rule's number
+ * Writes counts, the days of all steps, and 0 into levels at that place.
+ *     DATES_SHORT     a table has too few places
+ *     DATES_DAMAGED   the tables are not sound
+ *     DATES_ABSENT    no rule is held under the number; so it is for DATES_RULES and every number above
+ */
+uint32_t dates_withdraw(
+    dates_counts *counts,
+    const uint16_t *xs, size_t xs_len, const uint16_t *ys, size_t ys_len, const int32_t *cs, size_t cs_len,
+    uint32_t *days, size_t days_len, uint8_t *levels, size_t levels_len,
+    const uint16_t *wxs, size_t wxs_len, const uint16_t *wys, size_t wys_len, const int32_t *wcs, size_t wcs_len,
+    uint32_t number);
+
+/*
+ * Add: holds one more rule, under the lowest free number, and brings the days to the earliest plan.
  *     list, list_len   gets the ring on DATES_CONFLICT; at least DATES_STEPS places, and places past the ring's length keep what they had
  *     x, y, c          the rule: its first step, its second step, its amount
  *     value            gets how many steps have a day different from before; on DATES_CONFLICT the ring's length; on any other refusal 0
- * The ring is a negative one: first the refused rule, under the number it would have had (counts->rules), then rules held. Of all such rings it has the fewest rules,
+ * The ring is a negative one: first the refused rule, under the number it would have had (the lowest free place), then rules held. Of all such rings it has the fewest rules,
  * and of those with as few it is the one whose list of numbers is smallest at the first difference. So the same tables and the same rule always give the same ring.
- * Writes counts, the new rule's place in xs, ys and cs, the days of all steps, and value; on DATES_CONFLICT list and value alone.
+ * Writes counts, the new rule's place in xs, ys, cs and levels, the days of all steps, and value; on DATES_CONFLICT list and value alone.
  *     DATES_SHORT      a table or the list has too few places
  *     DATES_DAMAGED    the tables are not sound
  *     DATES_STEP       x or y is not below the step count
@@ -169,7 +191,7 @@ uint32_t dates_back(
 uint32_t dates_add(
     dates_counts *counts,
     uint16_t *xs, size_t xs_len, uint16_t *ys, size_t ys_len, int32_t *cs, size_t cs_len,
-    uint32_t *days, size_t days_len, const uint32_t *marks, size_t marks_len,
+    uint32_t *days, size_t days_len, uint8_t *levels, size_t levels_len,
     const uint16_t *wxs, size_t wxs_len, const uint16_t *wys, size_t wys_len, const int32_t *wcs, size_t wcs_len,
     uint32_t *list, size_t list_len, uint32_t x, uint32_t y, int32_t c, uint32_t *value);
 
@@ -190,7 +212,7 @@ uint32_t dates_add(
 uint32_t dates_trial(
     const dates_counts *counts,
     const uint16_t *xs, size_t xs_len, const uint16_t *ys, size_t ys_len, const int32_t *cs, size_t cs_len,
-    const uint32_t *days, size_t days_len, const uint32_t *marks, size_t marks_len,
+    const uint32_t *days, size_t days_len, const uint8_t *levels, size_t levels_len,
     const uint16_t *wxs, size_t wxs_len, const uint16_t *wys, size_t wys_len, const int32_t *wcs, size_t wcs_len,
     uint32_t *one, size_t one_len, uint32_t *two, size_t two_len, uint32_t x, uint32_t y, int32_t c, uint32_t *value);
 
@@ -207,12 +229,13 @@ uint32_t dates_trial(
 uint32_t dates_consequences(
     const dates_counts *counts,
     const uint16_t *xs, size_t xs_len, const uint16_t *ys, size_t ys_len, const int32_t *cs, size_t cs_len,
-    const uint32_t *days, size_t days_len, const uint32_t *marks, size_t marks_len,
+    const uint32_t *days, size_t days_len, const uint8_t *levels, size_t levels_len,
     const uint16_t *wxs, size_t wxs_len, const uint16_t *wys, size_t wys_len, const int32_t *wcs, size_t wcs_len,
     uint32_t *one, size_t one_len, uint32_t *two, size_t two_len, uint32_t *held, uint32_t *excluded);
 
 /*
- * Ring check: whether a list is a negative ring that starts with the rule under its would-be number and goes on over rules held. It need not be the one that Add gives.
+ * Ring check: whether a list is a negative ring that starts with the rule under its would-be number (the lowest free place, DATES_RULES where there is none) and goes on over
+ * rules held. It need not be the one that Add gives.
  *     list, list_len   any list of any numbers
  *     x, y, c          the rule: its first step, its second step, its amount
  *     verdict          gets 1 where the list is such a ring, else 0; on a refusal 0
@@ -225,7 +248,7 @@ uint32_t dates_consequences(
 uint32_t dates_ring_check(
     const dates_counts *counts,
     const uint16_t *xs, size_t xs_len, const uint16_t *ys, size_t ys_len, const int32_t *cs, size_t cs_len,
-    const uint32_t *days, size_t days_len, const uint32_t *marks, size_t marks_len,
+    const uint32_t *days, size_t days_len, const uint8_t *levels, size_t levels_len,
     const uint16_t *wxs, size_t wxs_len, const uint16_t *wys, size_t wys_len, const int32_t *wcs, size_t wcs_len,
     const uint32_t *list, size_t list_len, uint32_t x, uint32_t y, int32_t c, uint32_t *verdict);
 
@@ -239,7 +262,7 @@ uint32_t dates_ring_check(
 uint32_t dates_last_day(
     const dates_counts *counts,
     const uint16_t *xs, size_t xs_len, const uint16_t *ys, size_t ys_len, const int32_t *cs, size_t cs_len,
-    const uint32_t *days, size_t days_len, const uint32_t *marks, size_t marks_len,
+    const uint32_t *days, size_t days_len, const uint8_t *levels, size_t levels_len,
     const uint16_t *wxs, size_t wxs_len, const uint16_t *wys, size_t wys_len, const int32_t *wcs, size_t wcs_len,
     uint32_t *day);
 
@@ -248,13 +271,13 @@ uint32_t dates_last_day(
  *     record             the script's record
  *     names, names_len   the declared names, DATES_NAME_BYTES bytes for each; at least DATES_STEPS * DATES_NAME_BYTES
  *     lens, lens_len     how many bytes each name has; at least DATES_STEPS places
- * Writes counts, record, and the days of all steps.
+ * Writes counts, record, the days of all steps, and 0 into the first DATES_RULES places of levels.
  *     DATES_SHORT   a table has too few places
  */
 uint32_t dates_start(
     dates_counts *counts, dates_record *record,
     const uint16_t *xs, size_t xs_len, const uint16_t *ys, size_t ys_len, const int32_t *cs, size_t cs_len,
-    uint32_t *days, size_t days_len, const uint32_t *marks, size_t marks_len,
+    uint32_t *days, size_t days_len, uint8_t *levels, size_t levels_len,
     const uint16_t *wxs, size_t wxs_len, const uint16_t *wys, size_t wys_len, const int32_t *wcs, size_t wcs_len,
     const uint8_t *names, size_t names_len, const uint8_t *lens, size_t lens_len);
 
@@ -268,8 +291,8 @@ uint32_t dates_start(
  *     out, out_len       gets what the command prints, each line ended by a line feed; at least DATES_ROOM bytes
  *     read               gets how many bytes of the text the command has; on a refusal 0
  *     written            gets how many bytes it printed; on a refusal 0
- * A conflict at assert is DATES_DONE and marks the level as contradictory. A refusal prints nothing here, and whether to go on after one, or after exit, is the caller's
- * choice. Writes all but the text and the watched rules.
+ * A conflict at assert is DATES_DONE and marks the level as contradictory, until it is popped; Withdraw knows nothing of the record, so the level stays so whatever is
+ * withdrawn. A refusal prints nothing here, and whether to go on after one, or after exit, is the caller's choice. Writes all but the text and the watched rules.
  *     DATES_SHORT     a table or out has too few places
  *     DATES_DAMAGED   the tables or the record are not sound
  * and then, in the order in which the command is judged (docs/SCRIPTS.md), one of
@@ -284,7 +307,7 @@ uint32_t dates_start(
 uint32_t dates_command(
     const uint8_t *text, size_t text_len, dates_counts *counts, dates_record *record,
     uint16_t *xs, size_t xs_len, uint16_t *ys, size_t ys_len, int32_t *cs, size_t cs_len,
-    uint32_t *days, size_t days_len, uint32_t *marks, size_t marks_len,
+    uint32_t *days, size_t days_len, uint8_t *levels, size_t levels_len,
     const uint16_t *wxs, size_t wxs_len, const uint16_t *wys, size_t wys_len, const int32_t *wcs, size_t wcs_len,
     uint8_t *names, size_t names_len, uint8_t *lens, size_t lens_len, uint8_t *out, size_t out_len, size_t *read, size_t *written);
 
@@ -301,7 +324,7 @@ uint32_t dates_command(
 uint32_t dates_run_script(const uint8_t *script, size_t script_len, uint8_t *out, size_t out_len, size_t *written);
 
 /*
- * One set of all that is lent, each table at its bound. It is large (some 112,000 bytes): make it static or take it from the heap. It needs no setting up but
+ * One set of all that is lent, each table at its bound. It is large (some 116,000 bytes): make it static or take it from the heap. It needs no setting up but
  * dates_t_open or dates_t_start.
  */
 typedef struct dates_tables {
@@ -311,7 +334,7 @@ typedef struct dates_tables {
     uint16_t ys[DATES_RULES];
     int32_t cs[DATES_RULES];
     uint32_t days[DATES_STEPS];
-    uint32_t marks[DATES_MARKS];
+    uint8_t levels[DATES_RULES];
     uint16_t wxs[DATES_WATCHED];
     uint16_t wys[DATES_WATCHED];
     int32_t wcs[DATES_WATCHED];
@@ -325,7 +348,7 @@ typedef struct dates_tables {
 } dates_tables;
 
 #define DATES_LENT_(t) \
-    (t)->xs, DATES_RULES, (t)->ys, DATES_RULES, (t)->cs, DATES_RULES, (t)->days, DATES_STEPS, (t)->marks, DATES_MARKS, \
+    (t)->xs, DATES_RULES, (t)->ys, DATES_RULES, (t)->cs, DATES_RULES, (t)->days, DATES_STEPS, (t)->levels, DATES_RULES, \
     (t)->wxs, DATES_WATCHED, (t)->wys, DATES_WATCHED, (t)->wcs, DATES_WATCHED
 #define DATES_NAMES_(t) (t)->names, DATES_STEPS * DATES_NAME_BYTES, (t)->lens, DATES_STEPS
 
@@ -351,6 +374,12 @@ static inline uint32_t dates_t_mark(dates_tables *t)
 static inline uint32_t dates_t_back(dates_tables *t)
 {
     return dates_back(&t->counts, DATES_LENT_(t));
+}
+
+/* Withdraw the rule held under a number: dates_withdraw. */
+static inline uint32_t dates_t_withdraw(dates_tables *t, uint32_t number)
+{
+    return dates_withdraw(&t->counts, DATES_LENT_(t), number);
 }
 
 /* Add the rule x, y, c: dates_add. The value is how many steps moved; on DATES_CONFLICT the ring is in t->ring, and the value is its length. */

@@ -1,6 +1,6 @@
 /*
- * A caller of the library over include/dates.h, valid as C99 and as C++: worked cases, shortest reasons, the refusals of short tables, and a script command by command
- * and as a whole.
+ * A caller of the library over include/dates.h, valid as C99 and as C++: worked cases, shortest reasons, withdrawals, the refusals of short tables, and a script command by
+ * command and as a whole.
  * It checks all that it gets; the last line is `N passed, M failed`.
  */
 #include "dates.h"
@@ -84,7 +84,7 @@ static void worked_cases(void)
 
     dates_t_open(&t, 4);
     dates_t_add(&t, 0, 1, -2, &value);
-    count(dates_t_mark(&t) == DATES_DONE && t.counts.marks == 1 && t.marks[0] == 1, "case 9: Mark");
+    count(dates_t_mark(&t) == DATES_DONE && t.counts.marks == 1 && t.levels[0] == 1 && t.levels[1] == 0, "case 9: Mark");
     count(dates_t_add(&t, 1, 2, -3, &value) == DATES_DONE && days_are(0, 2, 5, 0), "case 9: 1,2,-3");
     count(dates_t_back(&t) == DATES_DONE && days_are(0, 2, 0, 0) && t.counts.rules == 1 && t.counts.marks == 0 && last_is(2), "case 9: Back");
     count(dates_t_back(&t) == DATES_NOMARK, "Back with no mark open");
@@ -158,6 +158,62 @@ static void reasons(void)
     count(dates_t_add(&t, DATES_STEPS - 1, 0, 0, &value) == DATES_CONFLICT && value == DATES_STEPS && memcmp(t.ring, longest, sizeof longest) == 0, "a ring over all steps");
 }
 
+/* Whether the first places have these levels, and as many rules are held as the record says. */
+static int levels_are(uint8_t a, uint8_t b, uint8_t c, uint8_t d)
+{
+    uint32_t i;
+    uint32_t held = 0;
+    for (i = 0; i < DATES_RULES; i++)
+        held += t.levels[i] != 0;
+    return t.levels[0] == a && t.levels[1] == b && t.levels[2] == c && t.levels[3] == d && t.counts.rules == held;
+}
+
+/* Rules are withdrawn by their numbers, and the next rule takes the lowest free one. */
+static void withdrawals(void)
+{
+    uint32_t value = 9;
+    uint32_t i;
+
+    case_3();
+    count(dates_t_add(&t, 2, 3, -1, &value) == DATES_DONE && days_are(0, 2, 5, 6), "three rules, before one is withdrawn");
+    count(dates_t_withdraw(&t, 1) == DATES_DONE && days_are(0, 2, 0, 1) && levels_are(1, 0, 1, 0) && last_is(2), "Withdraw 1");
+    count(dates_t_trial(&t, 1, 0, 1, &value) == DATES_CONFLICT && value == 2 && t.ring[0] == 1 && t.ring[1] == 0, "the ring has the free number, 1 0");
+    count(dates_t_ring_check(&t, t.ring, 2, 1, 0, 1, &value) == DATES_DONE && value == 1, "Ring check says yes to it");
+    count(dates_t_add(&t, 3, 0, 5, &value) == DATES_DONE && t.xs[1] == 3 && t.cs[1] == 5 && levels_are(1, 1, 1, 0), "3,0,5 takes number 1");
+    count(dates_t_trial(&t, 1, 0, 1, &value) == DATES_CONFLICT && value == 2 && t.ring[0] == 3 && t.ring[1] == 0, "then the ring is 3 0");
+    count(dates_t_withdraw(&t, 3) == DATES_ABSENT && dates_t_withdraw(&t, DATES_RULES - 1) == DATES_ABSENT, "Withdraw where no rule is held");
+    count(dates_t_withdraw(&t, DATES_RULES) == DATES_ABSENT && dates_t_withdraw(&t, 65536u) == DATES_ABSENT && dates_t_withdraw(&t, 4294967295u) == DATES_ABSENT, "Withdraw past the places");
+    count(levels_are(1, 1, 1, 0) && days_are(0, 2, 0, 1), "and nothing is changed by these");
+
+    dates_t_open(&t, 4);
+    dates_t_add(&t, 0, 1, -2, &value);
+    dates_t_mark(&t);
+    dates_t_add(&t, 1, 2, -3, &value);
+    count(dates_t_withdraw(&t, 0) == DATES_DONE && days_are(0, 0, 3, 0) && levels_are(0, 2, 0, 0), "Withdraw of a rule from before the mark");
+    count(dates_t_add(&t, 0, 3, -4, &value) == DATES_DONE && levels_are(2, 2, 0, 0) && days_are(0, 0, 3, 4), "its number goes to a rule of the newest level");
+    count(dates_t_back(&t) == DATES_DONE && levels_are(0, 0, 0, 0) && days_are(0, 0, 0, 0) && last_is(0), "Back drops both and does not bring the first one");
+
+    /* Levels that are not right. */
+    case_3();
+    t.levels[1] = 2;
+    count(dates_t_withdraw(&t, 0) == DATES_DAMAGED && dates_t_mark(&t) == DATES_DAMAGED, "a level deeper than the marks open");
+    t.levels[1] = 0;
+    count(dates_t_withdraw(&t, 0) == DATES_DAMAGED && t.levels[0] == 1, "a rule less than the record says");
+    t.levels[1] = t.levels[DATES_RULES - 1] = 1;
+    count(dates_t_withdraw(&t, DATES_RULES) == DATES_DAMAGED, "a rule more than the record says");
+    t.levels[DATES_RULES - 1] = 0;
+    count(dates_t_withdraw(&t, 0) == DATES_DONE && days_are(0, 0, 3, 0), "and right again");
+
+    /* Every place. */
+    dates_t_open(&t, 4);
+    for (i = 0; i < DATES_RULES; i++)
+        dates_t_add(&t, 0, 1, -2, &value);
+    count(dates_t_add(&t, 0, 1, -2, &value) == DATES_FULL && dates_t_withdraw(&t, DATES_RULES) == DATES_ABSENT, "every place is taken");
+    count(dates_t_withdraw(&t, 1234) == DATES_DONE && t.counts.rules == DATES_RULES - 1 && days_are(0, 2, 0, 0), "one of them is free");
+    count(dates_t_add(&t, 1, 0, 1, &value) == DATES_CONFLICT && value == 2 && t.ring[0] == 1234 && t.ring[1] == 0, "a refused rule would have had it");
+    count(dates_t_add(&t, 1, 0, 7, &value) == DATES_DONE && t.cs[1234] == 7 && dates_t_add(&t, 0, 1, -2, &value) == DATES_FULL, "the next one has it");
+}
+
 /* The last day through the cases, over what leaves it as it is, and with a wrong one in the record. */
 static void last_days(void)
 {
@@ -223,15 +279,22 @@ static void refusals(void)
     count(value == 1 && t.days[DATES_STEPS - 1] == DATES_LATEST && last_is(DATES_LATEST), "case 13: the last day of a chain");
 }
 
-/* Open, or Last day where there is a place for the day, with one table a place short; which is 0 to 7 in the order in which they are lent, 8 for none. */
-static uint32_t with_short(int which, uint32_t *day)
+enum short_call { OPEN, WITHDRAW, LAST_DAY };
+
+/* The call with one table a place short; which is 0 to 7 in the order in which they are lent, 8 for none. Open has seven steps, Withdraw the number 1. */
+static uint32_t with_short(int which, enum short_call call, uint32_t *day)
 {
-    size_t len[8] = {DATES_RULES, DATES_RULES, DATES_RULES, DATES_STEPS, DATES_MARKS, DATES_WATCHED, DATES_WATCHED, DATES_WATCHED};
+    size_t len[8] = {DATES_RULES, DATES_RULES, DATES_RULES, DATES_STEPS, DATES_RULES, DATES_WATCHED, DATES_WATCHED, DATES_WATCHED};
     if (which < 8)
         len[which]--;
-    if (day != NULL)
-        return dates_last_day(&t.counts, t.xs, len[0], t.ys, len[1], t.cs, len[2], t.days, len[3], t.marks, len[4], t.wxs, len[5], t.wys, len[6], t.wcs, len[7], day);
-    return dates_open(&t.counts, t.xs, len[0], t.ys, len[1], t.cs, len[2], t.days, len[3], t.marks, len[4], t.wxs, len[5], t.wys, len[6], t.wcs, len[7], 7);
+    switch (call) {
+    case LAST_DAY:
+        return dates_last_day(&t.counts, t.xs, len[0], t.ys, len[1], t.cs, len[2], t.days, len[3], t.levels, len[4], t.wxs, len[5], t.wys, len[6], t.wcs, len[7], day);
+    case WITHDRAW:
+        return dates_withdraw(&t.counts, t.xs, len[0], t.ys, len[1], t.cs, len[2], t.days, len[3], t.levels, len[4], t.wxs, len[5], t.wys, len[6], t.wcs, len[7], 1);
+    default:
+        return dates_open(&t.counts, t.xs, len[0], t.ys, len[1], t.cs, len[2], t.days, len[3], t.levels, len[4], t.wxs, len[5], t.wys, len[6], t.wcs, len[7], 7);
+    }
 }
 
 static void short_tables(void)
@@ -242,18 +305,24 @@ static void short_tables(void)
     case_3();
     for (which = 0; which < 8; which++) {
         day = 9;
-        count(with_short(which, &day) == DATES_SHORT && day == 0, "Last day with a table one place short");
-        count(with_short(which, NULL) == DATES_SHORT && days_are(0, 2, 5, 0), "Open with a table one place short");
+        count(with_short(which, LAST_DAY, &day) == DATES_SHORT && day == 0, "Last day with a table one place short");
+        count(with_short(which, WITHDRAW, &day) == DATES_SHORT && t.counts.rules == 2 && t.levels[1] == 1, "Withdraw with a table one place short");
+        count(with_short(which, OPEN, &day) == DATES_SHORT && days_are(0, 2, 5, 0), "Open with a table one place short");
     }
-    count(with_short(8, &day) == DATES_DONE && day == 5, "Last day with every table at its bound");
-    count(with_short(8, NULL) == DATES_DONE && t.counts.steps == 7, "Open with every table at its bound");
+    count(with_short(8, LAST_DAY, &day) == DATES_DONE && day == 5, "Last day with every table at its bound");
+    count(with_short(8, WITHDRAW, &day) == DATES_DONE && days_are(0, 2, 0, 0), "Withdraw with every table at its bound");
+    count(with_short(8, OPEN, &day) == DATES_DONE && t.counts.steps == 7, "Open with every table at its bound");
 }
 
 /* How many steps there could be in version 1.0.0. */
 enum { BEFORE = 256 };
 
 #define LENT(days_len) \
-    t.xs, DATES_RULES, t.ys, DATES_RULES, t.cs, DATES_RULES, t.days, days_len, t.marks, DATES_MARKS, t.wxs, DATES_WATCHED, t.wys, DATES_WATCHED, t.wcs, DATES_WATCHED
+    t.xs, DATES_RULES, t.ys, DATES_RULES, t.cs, DATES_RULES, t.days, days_len, t.levels, DATES_RULES, t.wxs, DATES_WATCHED, t.wys, DATES_WATCHED, t.wcs, DATES_WATCHED
+
+/* As many levels as there were marks in version 3.1.0. */
+#define LENT_MARKS \
+    t.xs, DATES_RULES, t.ys, DATES_RULES, t.cs, DATES_RULES, t.days, DATES_STEPS, t.levels, DATES_MARKS, t.wxs, DATES_WATCHED, t.wys, DATES_WATCHED, t.wcs, DATES_WATCHED
 
 /* Tables and lists as they were kept then are DATES_SHORT, whatever the step count; so many steps in tables of today are sound. */
 static void kept_before(void)
@@ -266,6 +335,9 @@ static void kept_before(void)
     case_3();
     count(dates_open(&t.counts, LENT(BEFORE), 4) == DATES_SHORT && t.counts.rules == 2, "Open with the days of before");
     count(dates_mark(&t.counts, LENT(BEFORE)) == DATES_SHORT && t.counts.marks == 0, "Mark with the days of before");
+    count(dates_open(&t.counts, LENT_MARKS, 4) == DATES_SHORT && t.counts.rules == 2, "Open with the room that the marks had");
+    count(dates_mark(&t.counts, LENT_MARKS) == DATES_SHORT && t.counts.marks == 0, "Mark with the room that the marks had");
+    count(dates_withdraw(&t.counts, LENT_MARKS, 0) == DATES_SHORT && t.counts.rules == 2, "Withdraw with the room that the marks had");
     count(dates_add(&t.counts, LENT(DATES_STEPS), t.ring, BEFORE, 2, 0, 5, &value) == DATES_SHORT && value == 0 && t.counts.rules == 2, "Add with the list of before");
     count(dates_trial(&t.counts, LENT(DATES_STEPS), t.tried, BEFORE, t.ring, DATES_STEPS, 2, 0, 5, &value) == DATES_SHORT, "Trial with the list of days of before");
     count(dates_trial(&t.counts, LENT(DATES_STEPS), t.tried, DATES_STEPS, t.ring, BEFORE, 2, 0, 5, &value) == DATES_SHORT, "Trial with the list for rings of before");
@@ -332,6 +404,7 @@ int main(void)
 {
     worked_cases();
     reasons();
+    withdrawals();
     last_days();
     refusals();
     short_tables();

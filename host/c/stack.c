@@ -11,7 +11,7 @@
 #include <sys/mman.h>
 #include <ucontext.h>
 
-enum { STACK = 98304, MOST = 66000, GUARD = 65536, HANDED = 64, PAINT = 0xA5, LAST = DATES_STEPS - 1 };
+enum { STACK = 98304, MOST = 60000, GUARD = 65536, HANDED = 64, PAINT = 0xA5, LAST = DATES_STEPS - 1 };
 
 static dates_tables t;
 static dates_tables script;
@@ -24,6 +24,8 @@ static void do_open(void) { number = dates_t_open(&t, DATES_STEPS); }
 static void do_watch(void) { number = dates_t_watch(&t, 1, 2, 3); }
 static void do_mark(void) { number = dates_t_mark(&t); }
 static void do_back(void) { number = dates_t_back(&t); }
+/* The first rule of the chain, under all the others: all steps move. */
+static void do_withdraw(void) { number = dates_t_withdraw(&t, 0); }
 static void do_add(void) { number = dates_t_add(&t, LAST, 0, 0, &value); }
 static void do_move(void) { number = dates_t_add(&t, 0, 1, -2, &value); }
 static void do_trial(void) { number = dates_t_trial(&t, LAST, 0, 0, &value); }
@@ -78,8 +80,8 @@ int main(void)
         { "Add, conflict", do_add, DATES_CONFLICT }, { "Ring check", do_ring_check, DATES_DONE }, { "Trial", do_trial, DATES_CONFLICT },
         { "Watch", do_watch, DATES_DONE },           { "Mark", do_mark, DATES_DONE },             { "Add, steps move", do_move, DATES_DONE },
         { "Consequences", do_consequences, DATES_DONE }, { "Back", do_back, DATES_DONE },         { "command, assert", do_command, DATES_DONE },
-        { "Last day", do_last_day, DATES_DONE },     { "command, pop", do_pop, DATES_DONE },      { "start", do_start, DATES_DONE },
-        { "Open", do_open, DATES_DONE },
+        { "Withdraw", do_withdraw, DATES_DONE },     { "Last day", do_last_day, DATES_DONE },     { "command, pop", do_pop, DATES_DONE },
+        { "start", do_start, DATES_DONE },           { "Open", do_open, DATES_DONE },
     };
     int passed = 0, failed = 0;
     size_t i, ring_check = 0, mark = 0;

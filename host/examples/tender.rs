@@ -59,7 +59,7 @@ fn main() -> Result<(), Refusal> {
     planner.back()?;
     show_plan(&planner);
     assert_eq!(planner.days(), before);
-    assert!(planner.rules().eq(season));
+    assert!(planner.rules().map(|(_, rule)| rule).eq(season));
     println!("Every day is the one that it was before the mark.");
     Ok(())
 }

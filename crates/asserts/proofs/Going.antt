@@ -4,7 +4,7 @@ use native.Mathlib.Omega.{arith}
 use mathlib.Core.Path.{_≡_, refl, sym, ap, _∙_, subst}
 use mathlib.Core.Bool.{Bool, true, false}
 use mathlib.Core.List.{List, [], _∷_, map}
-use mathlib.Core.Logic.{_⊎_, inl, inr}
+use mathlib.Core.Logic.{inl, inr}
 use lib.ListN.{length}
 use lib.IntN.{ℤ}
 use Rattle.meaning.specs.Bounds.{RULES, DONE}
@@ -12,7 +12,6 @@ use Rattle.meaning.specs.Rules.{Rule, InBounds, InAmount, rule}
 use Rattle.meaning.specs.Tables.{Tables}
 use Rattle.meaning.specs.Promise.{First}
 use Rattle.meaning.proofs.Sequences.{Kept}
-use Rattle.lent.specs.Idle.{idle}
 use Rattle.lent.specs.Promises.{Border}
 use Rattle.text.specs.Lexicon.{bytes}
 use Rattle.names.specs.Names.{Found, AllDifferent}
@@ -22,19 +21,18 @@ use Rattle.script_meaning.specs.Record.{KnownIn, step-in}
 use Rattle.script_meaning.specs.Effect.{resolved, HeldNow, AddsAll}
 use Rattle.script_meaning.specs.Commands.{term-needs}
 use Rattle.script_meaning.proofs.Adding.{holds-kept}
-use Rattle.script_meaning.proofs.Beside.{beside, adds-beside}
 use Rattle.script_meaning.proofs.Seeking.{step-is}
 use Rattle.asserts.specs.One.{AddsOne}
-use Rattle.asserts.specs.Within.{Within}
-use Rattle.asserts.proofs.Reach.{wider, held-within}
+use Rattle.asserts.proofs.Reach.{wider, AllWithin, held-within}
 
 -- The lists that are lent are as long as at start.
 pub record AsLong
-    (xs₀ ys₀ : List ℕ) (cs₀ : List ℤ) (days₀ heads₀ nexts₀ xs ys : List ℕ) (cs : List ℤ) (days heads nexts : List ℕ) : Type 0 where
+    (xs₀ ys₀ : List ℕ) (cs₀ : List ℤ) (days₀ levels₀ heads₀ nexts₀ xs ys : List ℕ) (cs : List ℤ) (days levels heads nexts : List ℕ) : Type 0 where
   pub xs-long : length xs ≡ length xs₀
   pub ys-long : length ys ≡ length ys₀
   pub cs-long : length cs ≡ length cs₀
   pub days-long : length days ≡ length days₀
+  pub levels-long : length levels ≡ length levels₀
   pub heads-long : length heads ≡ length heads₀
   pub nexts-long : length nexts ≡ length nexts₀
 
@@ -46,7 +44,7 @@ in-steps n names lens = resolved (step-in n names lens)
 pub record Left (n e : ℕ) (names lens : List ℕ) (all : List Named) (start : Tables) (rs : List Named) (t : Tables) : Type 0 where
   pub border : Border t
   pub named-in : n ≤ e
-  pub within : Within e (t .counts) (t .rules)
+  pub within : AllWithin e t
   pub needed : First (term-needs (KnownIn n names lens) rs []) DONE
   pub places : t .counts .rules + length rs ≤ RULES
   pub goes-on :
@@ -54,22 +52,19 @@ pub record Left (n e : ℕ) (names lens : List ℕ) (all : List Named) (start : 
 
 module _ (n e : ℕ) (names lens : List ℕ) where
   pub left-start :
-      (all : List Named) (start : Tables) → Border start → n ≤ e → Within e (start .counts) (start .rules) → First (term-needs (KnownIn n names lens) all []) DONE →
+      (all : List Named) (start : Tables) → Border start → n ≤ e → AllWithin e start → First (term-needs (KnownIn n names lens) all []) DONE →
       start .counts .rules + length all ≤ RULES → Left n e names lens all start all start
   left-start all start border named within needed places =
       record { border = border; named-in = named; within = within; needed = needed; places = places; goes-on = λ clash u h. h }
 
   module _ (all : List Named) (start : Tables) where
-    -- All are added from the start on: then so with any marks.
+    -- All are added from the start on.
     abbrev AllAdded : Bool → Tables → Type 0
-    AllAdded clash u = (marks : List ℕ) → AddsAll (map (in-steps n names lens) all) (beside (λ m. marks) idle start) clash (beside (λ m. marks) idle u)
-
-    with-any-marks : (clash : Bool) (u : Tables) → AddsAll (map (in-steps n names lens) all) start clash u → AllAdded clash u
-    with-any-marks clash u adds marks = adds-beside (λ m. marks) idle (map (in-steps n names lens) all) start clash u adds
+    AllAdded clash u = AddsAll (map (in-steps n names lens) all) start clash u
 
     -- With no rule left, all are added.
     pub left-none : (rs : List Named) (t : Tables) → rs ≡ [] → Left n e names lens all start rs t → AllAdded false t
-    left-none rs t none left = with-any-marks false t ((subst (λ (l : List Named). Left n e names lens all start l t) none left) .goes-on false t (refl, refl))
+    left-none rs t none left = (subst (λ (l : List Named). Left n e names lens all start l t) none left) .goes-on false t (refl, refl)
 
     module _ (a : Named) (rs : List Named) (t : Tables) (left : Left n e names lens all start (a ∷ rs) t) where
       -- The needs of the next rule are met.
@@ -97,7 +92,7 @@ module _ (n e : ℕ) (names lens : List ℕ) where
       -- The next rule does not fit: adding stops.
       pub left-clash :
           (clash : Bool) (u : Tables) → clash ≡ true → AddsOne (in-steps n names lens a) t clash u → AllAdded clash u
-      left-clash clash u is one = with-any-marks clash u (left .goes-on clash u (inl (one .unfit is, (one .unchanged is, is))))
+      left-clash clash u is one = left .goes-on clash u (inl (one .unfit is, (one .unchanged is, is)))
 
       -- The next rule is held: the others are left to add.
       pub left-held : (clash : Bool) (u : Tables) → clash ≡ false → AddsOne (in-steps n names lens a) t clash u → Left n e names lens all start rs u

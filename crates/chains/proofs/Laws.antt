@@ -1,16 +1,17 @@
 -- The chains as rules come and go.
 use Prim.Native.Nat.{ℕ, zero, suc, _+_, _≤_, _<_}
 use native.Mathlib.Omega.{arith}
-use native.Mathlib.Decide.{ℕ-discrete}
+use native.Mathlib.Decide.{ℕ-discrete, decLt}
 use mathlib.Core.Path.{_≡_, refl, sym, _∙_, ap, subst}
 use mathlib.Core.List.{List}
 use mathlib.Core.Logic.{_⊎_, inl, inr}
-use lib.ListN.{length, set}
+use lib.ListN.{length, set, length-set}
 use lib.Seq.{getD-set-same, getD-set-other}
+use Rattle.meaning.specs.Bounds.{RULES}
 use Rattle.meaning.specs.Rules.{plus}
 use Rattle.meaning.specs.Tables.{at}
 use Rattle.lent.specs.Lent.{first}
-use Rattle.chains.specs.Chains.{top, ChainsOf, number, Chained, Empty, Pushed, Dropped}
+use Rattle.chains.specs.Chains.{top, ChainsOf, number, Chained, OFF, linked, LentChains, Empty, Pushed, Dropped, OffFrom}
 
 -- Where every chain is empty, they are the chains of no rules.
 pub chained-none : (n : ℕ) (xs heads nexts : List ℕ) → Empty n heads → Chained n 0 xs heads nexts
@@ -33,6 +34,25 @@ empty-more a heads h empty b l = by-place (ℕ-discrete b a)
     by-place (yes e) = rw e (getD-set-same heads a 0 0 h)
     by-place (no apart) = getD-set-other heads a b 0 0 apart ∙ empty b (omega arith)
 
+-- From number m up to k no rule is on a chain now, and the places before m are as they were.
+pub record OffTo (m k : ℕ) (nexts nexts′ : List ℕ) : Type 0 where
+  pub before : (j : ℕ) → j < m → at nexts′ j ≡ at nexts j
+  pub off : (j : ℕ) → m ≤ j → j < k → at nexts′ j ≡ OFF
+
+pub off-none : (m : ℕ) (nexts : List ℕ) → OffTo m m nexts nexts
+off-none m nexts = record { before = λ j h. refl; off = λ j h l. absurd (omega arith) }
+
+-- Place k made so too.
+pub off-more : (m k : ℕ) (nexts nexts′ : List ℕ) → m ≤ k → k < length nexts′ → OffTo m k nexts nexts′ → OffTo m (k + 1) nexts (set nexts′ k OFF)
+off-more m k nexts nexts′ above place to = record {
+  before = λ j h. getD-set-other nexts′ k j OFF 0 (λ e. omega arith) ∙ to .before j h;
+  off = λ j h l. by-place j h l (ℕ-discrete j k);
+}
+  where
+    by-place : (j : ℕ) → m ≤ j → j < k + 1 → Dec (j ≡ k) → at (set nexts′ k OFF) j ≡ OFF
+    by-place j h l (yes e) = rw e (getD-set-same nexts′ k OFF 0 place)
+    by-place j h l (no apart) = getD-set-other nexts′ k j OFF 0 apart ∙ to .off j h (omega arith)
+
 -- Chains speak of the first steps of their own rules only, and of which numbers these are.
 pub chains-agree :
     (n : ℕ) (H G : ℕ → Type 0) (rank : ℕ → ℕ) (xs xs′ heads nexts : List ℕ) → ((k : ℕ) → H k → G k) → ((k : ℕ) → G k → H k) → ((k : ℕ) → H k → at xs′ k ≡ at xs k) →
@@ -46,6 +66,21 @@ chains-agree n H G rank xs xs′ heads nexts to from same ch = record {
   next-own = λ k j h e. same j (ch .next-held k j (from k h) e) ∙ ch .next-own k j (from k h) e ∙ sym (same k (from k h));
   next-older = λ k h. ch .next-older k (from k h);
   next-newest = λ k j h held l e. ch .next-newest k j (from k h) (from j held) l (sym (same j (from j held)) ∙ e ∙ same k (from k h));
+}
+
+-- And of the nexts of their own rules only.
+pub chains-nexts :
+    (n : ℕ) (H : ℕ → Type 0) (rank : ℕ → ℕ) (xs heads nexts nexts′ : List ℕ) → ((k : ℕ) → H k → at nexts′ k ≡ at nexts k) →
+    ChainsOf n H rank xs heads nexts → ChainsOf n H rank xs heads nexts′
+chains-nexts n H rank xs heads nexts nexts′ same ch = record {
+  ranks-differ = ch .ranks-differ;
+  head-held = ch .head-held;
+  head-own = ch .head-own;
+  head-newest = ch .head-newest;
+  next-held = λ k j h e. ch .next-held k j h (sym (same k h) ∙ e);
+  next-own = λ k j h e. ch .next-own k j h (sym (same k h) ∙ e);
+  next-older = λ k h. subst (λ (l : ℕ). top rank l ≤ rank k) (sym (same k h)) (ch .next-older k h);
+  next-newest = λ k j h held l e. subst (λ (t : ℕ). rank j < top rank t) (sym (same k h)) (ch .next-newest k j h held l e);
 }
 
 pub chained-agree : (n m : ℕ) (xs xs′ heads nexts : List ℕ) → ((k : ℕ) → k < m → at xs′ k ≡ at xs k) → Chained n m xs heads nexts → Chained n m xs′ heads nexts
@@ -212,22 +247,19 @@ or-last m k l = by-place (ℕ-discrete k m)
     by-place (no apart) = inr (omega arith)
 
 module _ (n m : ℕ) (xs : List ℕ) (first-in : at xs m < n) where
-  -- Rule m on its chain, and off it.
+  -- Rule m on its chain.
   pub chained-more : (heads nexts heads′ nexts′ : List ℕ) → Pushed m xs heads nexts heads′ nexts′ → Chained n m xs heads nexts → Chained n (m + 1) xs heads′ nexts′
   chained-more heads nexts heads′ nexts′ p ch =
       chains-agree n (plus (first m) m) (first (m + 1)) number xs xs heads′ nexts′ (one-more m) (or-last m) (λ k h. refl)
       (rw (p .heads-are, p .nexts-are) (chains-more n (first m) number m xs heads nexts first-in (λ k l. l) (p .head-place) (p .next-place) ch))
 
-  pub chained-less : (heads nexts heads′ : List ℕ) → Dropped m xs heads nexts heads′ → Chained n (m + 1) xs heads nexts → Chained n m xs heads′ nexts
-  chained-less heads nexts heads′ d ch =
-      rw (d .heads-are)
-      (chains-less n (first m) number m xs heads nexts first-in (λ k l. l) (d .head-place)
-      (chains-agree n (first (m + 1)) (plus (first m) m) number xs xs heads nexts (or-last m) (one-more m) (λ k h. refl) ch))
-
 -- A link reaches up to itself, and leads to a rule held.
 pub top-number : (l : ℕ) → top number l ≡ l
 top-number zero = refl
 top-number (suc k) = refl
+
+pub next-lower : (n : ℕ) (H : ℕ → Type 0) (xs heads nexts : List ℕ) → ChainsOf n H number xs heads nexts → (k : ℕ) → H k → at nexts k ≤ k
+next-lower n H xs heads nexts ch k h = subst (λ (t : ℕ). t ≤ k) (top-number (at nexts k)) (ch .next-older k h)
 
 module _ (n m : ℕ) (xs heads nexts : List ℕ) (ch : Chained n m xs heads nexts) where
   pub head-in : (a : ℕ) → a < n → at heads a ≤ m
@@ -241,7 +273,139 @@ module _ (n m : ℕ) (xs heads nexts : List ℕ) (ch : Chained n m xs heads next
   head-newest a k h l own = subst (λ (t : ℕ). k < t) (top-number (at heads a)) (ch .head-newest a k h l own)
 
   pub next-in : (k : ℕ) → k < m → at nexts k ≤ k
-  next-in k h = subst (λ (t : ℕ). t ≤ k) (top-number (at nexts k)) (ch .next-older k h)
+  next-in = next-lower n (first m) xs heads nexts ch
 
   pub next-newest : (k j : ℕ) → k < m → j < k → at xs j ≡ at xs k → j < at nexts k
   next-newest k j h l own = subst (λ (t : ℕ). j < t) (top-number (at nexts k)) (ch .next-newest k j h (omega arith) l own)
+
+-- ---- chains that say which rules are on them
+
+-- Chains of the rules that H holds of, where these and no others have a link.
+pub lent-chains :
+    (n : ℕ) (H : ℕ → Type 0) (xs heads nexts : List ℕ) → ((k : ℕ) → H k → linked nexts k) → ((k : ℕ) → linked nexts k → H k) → n ≤ length heads → RULES ≤ length nexts →
+    ChainsOf n H number xs heads nexts → LentChains n H xs heads nexts
+lent-chains n H xs heads nexts on only heads-room nexts-room ch = record {
+  chained = chains-agree n H (linked nexts) number xs xs heads nexts on only (λ k h. refl) ch;
+  on = on;
+  only = only;
+  heads-room = heads-room;
+  nexts-room = nexts-room;
+}
+
+pub chains-lent : (n : ℕ) (H : ℕ → Type 0) (xs heads nexts : List ℕ) → LentChains n H xs heads nexts → ChainsOf n H number xs heads nexts
+chains-lent n H xs heads nexts lent = chains-agree n (linked nexts) H number xs xs heads nexts (lent .only) (lent .on) (λ k h. refl) (lent .chained)
+
+-- They speak of the first steps of their own rules only, and of which numbers these are.
+pub lent-agree :
+    (n : ℕ) (H G : ℕ → Type 0) (xs xs′ heads nexts : List ℕ) → ((k : ℕ) → H k → G k) → ((k : ℕ) → G k → H k) → ((k : ℕ) → H k → at xs′ k ≡ at xs k) →
+    LentChains n H xs heads nexts → LentChains n G xs′ heads nexts
+lent-agree n H G xs xs′ heads nexts to from same lent = record {
+  chained = chains-agree n (linked nexts) (linked nexts) number xs xs′ heads nexts (λ k h. h) (λ k h. h) (λ k h. same k (lent .only k h)) (lent .chained);
+  on = λ k h. lent .on k (from k h);
+  only = λ k h. to k (lent .only k h);
+  heads-room = lent .heads-room;
+  nexts-room = lent .nexts-room;
+}
+
+-- So they are the chains of the rules on them.
+pub lent-own : (n : ℕ) (H : ℕ → Type 0) (xs heads nexts : List ℕ) → LentChains n H xs heads nexts → LentChains n (linked nexts) xs heads nexts
+lent-own n H xs heads nexts lent = lent-agree n H (linked nexts) xs xs heads nexts (lent .on) (lent .only) (λ k h. refl) lent
+
+-- Of the first m rules, where every place from m on is off.
+pub lent-first :
+    (n m : ℕ) (xs heads nexts : List ℕ) → m ≤ RULES → n ≤ length heads → RULES ≤ length nexts → ((k : ℕ) → m ≤ k → k < RULES → at nexts k ≡ OFF) →
+    Chained n m xs heads nexts → LentChains n (first m) xs heads nexts
+lent-first n m xs heads nexts in-rules heads-room nexts-room off ch = lent-chains n (first m) xs heads nexts on only heads-room nexts-room ch
+  where
+    on : (k : ℕ) → k < m → linked nexts k
+    on k h = (omega (arith, in-rules), omega (arith, next-in n m xs heads nexts ch k h, in-rules))
+
+    only : (k : ℕ) → linked nexts k → k < m
+    only k h = by-place (decLt k m)
+      where
+        by-place : Dec (k < m) → k < m
+        by-place (yes l) = l
+        by-place (no l) = absurd (omega (arith, h .1, off k (omega (arith, l)) (h .0)))
+
+-- So they are when the places from m on were just made so.
+pub lent-off :
+    (n m : ℕ) (xs heads nexts nexts′ : List ℕ) → m ≤ RULES → n ≤ length heads → RULES ≤ length nexts → length nexts′ ≡ length nexts → OffFrom m nexts nexts′ →
+    Chained n m xs heads nexts → LentChains n (first m) xs heads nexts′
+lent-off n m xs heads nexts nexts′ in-rules heads-room nexts-room same-length off ch =
+    lent-first n m xs heads nexts′ in-rules heads-room (omega (arith, nexts-room, same-length)) (λ k h l. off .off k h (omega (arith, l, nexts-room)))
+    (chains-nexts n (first m) number xs heads nexts nexts′ (off .before) ch)
+
+-- Every rule that H holds of is older than rule m.
+module _ (n : ℕ) (H : ℕ → Type 0) (m : ℕ) (xs : List ℕ) (first-in : at xs m < n) (older : (k : ℕ) → H k → k < m) (heads nexts heads′ nexts′ : List ℕ) where
+  -- With rule m put on its chain, they are the chains of these and of m.
+  pub lent-more : m < RULES → Pushed m xs heads nexts heads′ nexts′ → LentChains n H xs heads nexts → LentChains n (plus H m) xs heads′ nexts′
+  lent-more in-rules p lent =
+      lent-chains n (plus H m) xs heads′ nexts′ on only
+      (omega (arith, lent .heads-room, ap length (p .heads-are), length-set heads (at xs m) (m + 1)))
+      (omega (arith, lent .nexts-room, ap length (p .nexts-are), length-set nexts m (at heads (at xs m))))
+      (rw (p .heads-are, p .nexts-are) (chains-more n H number m xs heads nexts first-in older (p .head-place) (p .next-place) (chains-lent n H xs heads nexts lent)))
+    where
+      here : at nexts′ m ≡ at heads (at xs m)
+      here = ap (λ (l : List ℕ). at l m) (p .nexts-are) ∙ getD-set-same nexts m (at heads (at xs m)) 0 (p .next-place)
+
+      other : (k : ℕ) → (k ≡ m → ⊥) → at nexts′ k ≡ at nexts k
+      other k apart = ap (λ (l : List ℕ). at l k) (p .nexts-are) ∙ getD-set-other nexts m k (at heads (at xs m)) 0 apart
+
+      -- A head leads to a rule that is on a chain, so it is a link.
+      head-link : (l : ℕ) → at heads (at xs m) ≡ l → l < OFF
+      head-link zero e = omega arith
+      head-link (suc k) e = omega (arith, lent .chained .head-held (at xs m) k first-in e .0)
+
+      on : (k : ℕ) → plus H m k → linked nexts′ k
+      on k (inl is) = (omega (arith, is, in-rules), omega (arith, ap (at nexts′) is, here, head-link (at heads (at xs m)) refl))
+      on k (inr held) = (lent .on k held .0, omega (arith, other k (λ e. omega (arith, e, older k held)), lent .on k held .1))
+
+      only : (k : ℕ) → linked nexts′ k → plus H m k
+      only k h = by-place (ℕ-discrete k m)
+        where
+          by-place : Dec (k ≡ m) → plus H m k
+          by-place (yes e) = inl e
+          by-place (no apart) = inr (lent .only k (h .0, omega (arith, h .1, other k apart)))
+
+  -- With rule m taken off its chain, chains of these and of m are the chains of these.
+  pub lent-less : Dropped m xs heads nexts heads′ nexts′ → LentChains n (plus H m) xs heads nexts → LentChains n H xs heads′ nexts′
+  lent-less d lent =
+      lent-chains n H xs heads′ nexts′ on only
+      (omega (arith, lent .heads-room, ap length (d .heads-are), length-set heads (at xs m) (at nexts m)))
+      (omega (arith, lent .nexts-room, ap length (d .nexts-are), length-set nexts m OFF))
+      (chains-nexts n H number xs heads′ nexts nexts′ (λ k held. other k (apart-from k held))
+      (rw (d .heads-are) (chains-less n H number m xs heads nexts first-in older (d .head-place) (chains-lent n (plus H m) xs heads nexts lent))))
+    where
+      here : at nexts′ m ≡ OFF
+      here = ap (λ (l : List ℕ). at l m) (d .nexts-are) ∙ getD-set-same nexts m OFF 0 (d .next-place)
+
+      other : (k : ℕ) → (k ≡ m → ⊥) → at nexts′ k ≡ at nexts k
+      other k apart = ap (λ (l : List ℕ). at l k) (d .nexts-are) ∙ getD-set-other nexts m k OFF 0 apart
+
+      apart-from : (k : ℕ) → H k → k ≡ m → ⊥
+      apart-from k held e = omega (arith, e, older k held)
+
+      on : (k : ℕ) → H k → linked nexts′ k
+      on k held = (lent .on k (inr held) .0, omega (arith, other k (apart-from k held), lent .on k (inr held) .1))
+
+      only : (k : ℕ) → linked nexts′ k → H k
+      only k h = by-rule (lent .only k (h .0, omega (arith, h .1, other k apart)))
+        where
+          apart : k ≡ m → ⊥
+          apart e = omega (arith, h .1, ap (at nexts′) e, here)
+
+          by-rule : plus H m k → H k
+          by-rule (inl is) = absurd (apart is)
+          by-rule (inr held) = held
+
+module _ (n m : ℕ) (xs : List ℕ) (first-in : at xs m < n) (heads nexts heads′ nexts′ : List ℕ) where
+  -- The same of the first m rules.
+  pub first-more : m < RULES → Pushed m xs heads nexts heads′ nexts′ → LentChains n (first m) xs heads nexts → LentChains n (first (m + 1)) xs heads′ nexts′
+  first-more in-rules p lent =
+      lent-agree n (plus (first m) m) (first (m + 1)) xs xs heads′ nexts′ (one-more m) (or-last m) (λ k h. refl)
+      (lent-more n (first m) m xs first-in (λ k l. l) heads nexts heads′ nexts′ in-rules p lent)
+
+  pub first-less : Dropped m xs heads nexts heads′ nexts′ → LentChains n (first (m + 1)) xs heads nexts → LentChains n (first m) xs heads′ nexts′
+  first-less d lent =
+      lent-less n (first m) m xs first-in (λ k l. l) heads nexts heads′ nexts′ d
+      (lent-agree n (first (m + 1)) (plus (first m) m) xs xs heads nexts (or-last m) (one-more m) (λ k h. refl) lent)

@@ -4,6 +4,7 @@ use Prim.Native.Nat.{ℕ, zero, suc, _+_, _≤_, _<_}
 use mathlib.Core.Path.{_≡_}
 use mathlib.Core.List.{List}
 use lib.ListN.{length, set}
+use Rattle.meaning.specs.Bounds.{RULES}
 use Rattle.meaning.specs.Tables.{at}
 use Rattle.lent.specs.Lent.{first}
 
@@ -32,11 +33,25 @@ number i = i
 abbrev pub Chained : ℕ → ℕ → List ℕ → List ℕ → List ℕ → Type 0
 Chained n m = ChainsOf n (first m) number
 
--- The chains of the first m rules over n steps, with a place for each.
-pub record LentChains (n m : ℕ) (xs heads nexts : List ℕ) : Type 0 where
-  pub chained : Chained n m xs heads nexts
+-- In nexts the place of a rule that is on no chain has this, which is no link.
+abbrev pub OFF : ℕ
+OFF = 65535
+
+-- The rules on the chains: each has in nexts a link, or the 0 that ends its chain.
+abbrev pub linked : List ℕ → ℕ → Type 0
+linked nexts i = (i < RULES) × (at nexts i < OFF)
+
+-- The numbers held, but for k.
+abbrev pub minus : (ℕ → Type 0) → ℕ → ℕ → Type 0
+minus H k i = H i × (i ≡ k → ⊥)
+
+-- The chains of the rules whose numbers H holds of, over n steps, with a place for every rule; these and no others are on them.
+pub record LentChains (n : ℕ) (H : ℕ → Type 0) (xs heads nexts : List ℕ) : Type 0 where
+  pub chained : ChainsOf n (linked nexts) number xs heads nexts
+  pub on : (i : ℕ) → H i → linked nexts i
+  pub only : (i : ℕ) → linked nexts i → H i
   pub heads-room : n ≤ length heads
-  pub nexts-room : m ≤ length nexts
+  pub nexts-room : RULES ≤ length nexts
 
 -- Rule m can be put on its chain, or taken off it: it has a place in each list, its first step has a head, and its link fits a u16.
 pub record Linkable (m : ℕ) (xs heads nexts : List ℕ) : Type 0 where
@@ -56,10 +71,17 @@ pub record Pushed (m : ℕ) (xs heads nexts heads′ nexts′ : List ℕ) : Type
   pub heads-are : heads′ ≡ set heads (at xs m) (m + 1)
   pub nexts-are : nexts′ ≡ set nexts m (at heads (at xs m))
 
--- The rule in front, m, was taken off its chain: one cell changed. Chains of m and of older rules are now chains of the older rules (`chains-less`).
-pub record Dropped (m : ℕ) (xs heads nexts heads′ : List ℕ) : Type 0 where
+-- The rule in front, m, was taken off its chain: two cells changed. Chains of m and of older rules are now chains of the older rules (`chains-less`).
+pub record Dropped (m : ℕ) (xs heads nexts heads′ nexts′ : List ℕ) : Type 0 where
   pub head-place : at xs m < length heads
+  pub next-place : m < length nexts
   pub heads-are : heads′ ≡ set heads (at xs m) (at nexts m)
+  pub nexts-are : nexts′ ≡ set nexts m OFF
+
+-- From number m on no rule is on a chain now; the places before m are as they were.
+pub record OffFrom (m : ℕ) (nexts nexts′ : List ℕ) : Type 0 where
+  pub before : (k : ℕ) → k < m → at nexts′ k ≡ at nexts k
+  pub off : (k : ℕ) → m ≤ k → k < length nexts → at nexts′ k ≡ OFF
 
 -- The first m rules can be put on chains over n steps.
 pub record Buildable (n m : ℕ) (xs heads nexts : List ℕ) : Type 0 where
@@ -68,3 +90,39 @@ pub record Buildable (n m : ℕ) (xs heads nexts : List ℕ) : Type 0 where
   pub nexts-room : m ≤ length nexts
   pub links-fit : m ≤ 65535
   pub firsts-in : (k : ℕ) → k < m → at xs k < n
+
+-- The chains, where rule m can be put on its chain or taken off it: it has its places, and its first step is below n.
+pub record Amendable (n m : ℕ) (xs heads nexts : List ℕ) : Type 0 where
+  pub chained : ChainsOf n (linked nexts) number xs heads nexts
+  pub heads-room : n ≤ length heads
+  pub nexts-room : RULES ≤ length nexts
+  pub number-in : m < RULES
+  pub first-place : m < length xs
+  pub first-in : at xs m < n
+
+-- Each link of nexts leads to a rule of the same step on a chain, and to an older one; each rule on a chain has its place there.
+pub record Descends (xs nexts : List ℕ) : Type 0 where
+  pub next-held : (k j : ℕ) → linked nexts k → at nexts k ≡ suc j → linked nexts j
+  pub next-own : (k j : ℕ) → linked nexts k → at nexts k ≡ suc j → at xs j ≡ at xs k
+  pub next-down : (k : ℕ) → linked nexts k → at nexts k ≤ k
+  pub next-place : (k : ℕ) → linked nexts k → k < length nexts
+
+-- Of the rules of a's chain r is the last above number i.
+pub record LastAbove (xs nexts : List ℕ) (a i r : ℕ) : Type 0 where
+  pub on-chain : linked nexts r
+  pub own : at xs r ≡ a
+  pub above : i < r
+  pub last : at nexts r ≤ i + 1
+
+-- The rules on the chains are those that G holds of.
+pub record ChainsNow (n : ℕ) (G : ℕ → Type 0) (xs heads nexts : List ℕ) : Type 0 where
+  pub chained : ChainsOf n (linked nexts) number xs heads nexts
+  pub on : (i : ℕ) → G i → linked nexts i
+  pub only : (i : ℕ) → linked nexts i → G i
+
+-- The rules on the chains can be put on chains over n steps by their steps in ys.
+pub record Turnable (n : ℕ) (ys heads nexts : List ℕ) : Type 0 where
+  pub heads-room : n ≤ length heads
+  pub nexts-room : RULES ≤ length nexts
+  pub steps-room : RULES ≤ length ys
+  pub steps-in : (i : ℕ) → linked nexts i → at ys i < n

@@ -11,7 +11,6 @@ use Rattle.meaning.specs.Promise.{Need, needs, First, Meaning, Obeys, bare}
 use Rattle.meaning.proofs.Needs.{AllMet, done-met, not-given, obeys-refused}
 use Rattle.lent.specs.Decides.{Decides, yes-or-no}
 use Rattle.lent.specs.Promises.{Border}
-use Rattle.chains.specs.Chains.{LentChains}
 use Rattle.desk.specs.Entry.{entry-needs, Entered}
 
 -- What decides a thing that holds says yes.
@@ -31,13 +30,6 @@ module _ (lists : Bool) (t : Tables) (number : ℕ) (heads nexts : List ℕ) (e 
 
   pub lists-entered : {X : Type 0} → Decides lists X → number ≡ DONE → X
   lists-entered d is = d .so (met is .0 .0)
-
-  pub chains-entered : number ≡ DONE → LentChains (t .counts .steps) (t .counts .rules) (t .rules .firsts) heads nexts
-  chains-entered is = record {
-    chained = e .chained is;
-    heads-room = omega (arith, e .heads-room, met is .1 .0 .counts-in .steps-in);
-    nexts-room = omega (arith, e .nexts-room, met is .1 .0 .counts-in .rules-in);
-  }
 
   -- The same refusal, where room is asked for in other words.
   refusal :

@@ -23,11 +23,11 @@ use Rattle.lent.specs.Promises.{Tries}
 use Rattle.desk.specs.Part.{PartOf, TrialPart, Handed}
 
 module _
-    (counts : Counts) (xs ys : List ℕ) (cs : List ℤ) (days marks wxs wys : List ℕ) (wcs : List ℤ) (one two : List ℕ) (x y : ℕ) (c : ℤ) (r : Reply)
-    (one′ two′ : List ℕ) (kept : Tries counts xs ys cs days marks wxs wys wcs one two x y c r one′ two′)
+    (counts : Counts) (xs ys : List ℕ) (cs : List ℤ) (days levels wxs wys : List ℕ) (wcs : List ℤ) (one two : List ℕ) (x y : ℕ) (c : ℤ) (r : Reply)
+    (one′ two′ : List ℕ) (kept : Tries counts xs ys cs days levels wxs wys wcs one two x y c r one′ two′)
     {P : Type 0} (one-start two-start start : P) (part : List ℕ) (is : TrialPart one-start two-start one′ two′ r start part) where
   abbrev t : Tables
-  t = tables counts xs ys cs days marks wxs wys wcs
+  t = tables counts xs ys cs days levels wxs wys wcs
 
   abbrev lent : WithLists
   lent = record { tables = t; one = one; two = two }

@@ -1,13 +1,13 @@
 -- What every call but Open begins with.
-use Prim.Native.Nat.{ℕ, _≤_}
+use Prim.Native.Nat.{ℕ}
 use mathlib.Core.Path.{_≡_}
 use mathlib.Core.Bool.{Bool, true}
 use mathlib.Core.List.{List, [], _∷_}
-use lib.ListN.{length}
-use Rattle.meaning.specs.Bounds.{STEPS, RULES, DONE, SHORT, DAMAGED}
+use Rattle.meaning.specs.Bounds.{DONE, SHORT, DAMAGED}
 use Rattle.meaning.specs.Tables.{Tables, Room, Sound}
 use Rattle.meaning.specs.Promise.{Need, needs, First}
-use Rattle.chains.specs.Chains.{Chained}
+use Rattle.lent.specs.Lent.{held-by}
+use Rattle.chains.specs.Chains.{LentChains}
 
 -- The tables have room, and the other lists that are lent have it too, as `lists` says; the tables are sound.
 abbrev pub entry-needs : Bool → Tables → List Need
@@ -16,6 +16,4 @@ entry-needs lists t = needs SHORT ((lists ≡ true) × Room t) ∷ needs DAMAGED
 -- The number is that of the first of these needs that is not met; where both are met, heads and nexts hold the chains of the rules held.
 pub record Entered (lists : Bool) (t : Tables) (number : ℕ) (heads nexts : List ℕ) : Type 0 where
   pub first-unmet : First (entry-needs lists t) number
-  pub chained : number ≡ DONE → Chained (t .counts .steps) (t .counts .rules) (t .rules .firsts) heads nexts
-  pub heads-room : STEPS ≤ length heads
-  pub nexts-room : RULES ≤ length nexts
+  pub chained : number ≡ DONE → LentChains (t .counts .steps) (held-by (t .levels)) (t .rules .firsts) heads nexts

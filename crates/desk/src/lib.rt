@@ -1,4 +1,4 @@
-// The nine public calls. Each takes whatever it is lent, has no condition on it, and keeps the promise that its contract states: it tests the
+// The ten public calls. Each takes whatever it is lent, has no condition on it, and keeps the promise that its contract states: it tests the
 // room, then whether the tables are sound, and then does its work.
 ghost use Prim.Native.Nat.{_≤_};
 ghost use lib.ListN.{length};
@@ -7,7 +7,7 @@ ghost use Rattle.lent.specs.Decides.{Decides};
 ghost use Rattle.desk.specs.Entry.{Entered};
 ghost use Rattle.desk.specs.Part.{PartOf, TrialPart};
 ghost use Rattle.lent.specs.Lent.{tables};
-ghost use Rattle.lent.specs.Promises.{Opens, Watches, Adds, Marks, GoesBack, Tries, Splits, ChecksRing, TellsLastDay};
+ghost use Rattle.lent.specs.Promises.{Opens, Watches, Adds, Marks, GoesBack, Withdraws, Tries, Splits, ChecksRing, TellsLastDay};
 use meaning::Counts;
 use meaning::Reply;
 
@@ -37,7 +37,7 @@ fn verdict(
     ys: &[u16],
     cs: &[i32],
     days: &[u32],
-    marks: &[u32],
+    levels: &[u8],
     wxs: &[u16],
     wys: &[u16],
     wcs: &[i32],
@@ -46,36 +46,48 @@ fn verdict(
 ) -> u32
     requires { ⌜ STEPS ≤ length (now heads) ⌝ }
     requires { ⌜ RULES ≤ length (now nexts) ⌝ }
-    ensures { λ r. ⌜ Entered lists (tables counts (now (xs .entry)) (now (ys .entry)) (now (cs .entry)) (now (days .entry)) (now (marks .entry)) (now (wxs .entry)) (now (wys .entry)) (now (wcs .entry))) r (now (heads .exit)) (now (nexts .exit)) ⌝ }
+    ensures { λ r. ⌜ Entered lists (tables counts (now (xs .entry)) (now (ys .entry)) (now (cs .entry)) (now (days .entry)) (now (levels .entry)) (now (wxs .entry)) (now (wys .entry)) (now (wcs .entry))) r (now (heads .exit)) (now (nexts .exit)) ⌝ }
 {
     if !lists {
         return meaning::SHORT;
     }
-    if !sound::has_room(xs, ys, cs, days, marks, wxs, wys, wcs) {
+    if !sound::has_room(xs, ys, cs, days, levels, wxs, wys, wcs) {
         return meaning::SHORT;
     }
-    if !sound::is_sound(counts, xs, ys, cs, days, marks, wxs, wys, wcs, heads, nexts) {
+    if !sound::is_sound(
+        counts,
+        xs,
+        ys,
+        cs,
+        days,
+        levels,
+        wxs,
+        wys,
+        wcs,
+        heads,
+        nexts,
+    ) {
         return meaning::DAMAGED;
     }
     0
 }
 
-// Open: SHORT; STEP where the count is outside 1 to STEPS; else that many steps, no rules, marks or watched rules, and day 0 for every step.
+// Open: SHORT; STEP where the count is outside 1 to STEPS; else that many steps, no rules, marks or watched rules, every place free, and day 0 for every step.
 pub fn open(
     counts: Counts,
     xs: &[u16],
     ys: &[u16],
     cs: &[i32],
     days: &mut [u32],
-    marks: &[u32],
+    levels: &mut [u8],
     wxs: &[u16],
     wys: &[u16],
     wcs: &[i32],
     steps: u32,
 ) -> Reply
-    ensures { λ r. ⌜ Opens counts (now (xs .entry)) (now (ys .entry)) (now (cs .entry)) (now (days .entry)) (now (marks .entry)) (now (wxs .entry)) (now (wys .entry)) (now (wcs .entry)) steps r (now (days .exit)) ⌝ }
+    ensures { λ r. ⌜ Opens counts (now (xs .entry)) (now (ys .entry)) (now (cs .entry)) (now (days .entry)) (now (levels .entry)) (now (wxs .entry)) (now (wys .entry)) (now (wcs .entry)) steps r (now (days .exit)) (now (levels .exit)) ⌝ }
 {
-    if !sound::has_room(xs, ys, cs, days, marks, wxs, wys, wcs) {
+    if !sound::has_room(xs, ys, cs, days, levels, wxs, wys, wcs) {
         return meaning::refused(counts, meaning::SHORT);
     }
     if steps < 1 {
@@ -85,6 +97,7 @@ pub fn open(
         return meaning::refused(counts, meaning::STEP);
     }
     inner_watch::clear_days(steps as usize, days);
+    inner_watch::free_all(levels);
     meaning::done(meaning::steps_alone(steps), 0, 0)
 }
 
@@ -95,7 +108,7 @@ pub fn watch(
     ys: &[u16],
     cs: &[i32],
     days: &[u32],
-    marks: &[u32],
+    levels: &[u8],
     wxs: &mut [u16],
     wys: &mut [u16],
     wcs: &mut [i32],
@@ -103,7 +116,7 @@ pub fn watch(
     y: u32,
     c: i32,
 ) -> Reply
-    ensures { λ r. ⌜ Watches counts (now (xs .entry)) (now (ys .entry)) (now (cs .entry)) (now (days .entry)) (now (marks .entry)) (now (wxs .entry)) (now (wys .entry)) (now (wcs .entry)) x y c r (now (wxs .exit)) (now (wys .exit)) (now (wcs .exit)) ⌝ }
+    ensures { λ r. ⌜ Watches counts (now (xs .entry)) (now (ys .entry)) (now (cs .entry)) (now (days .entry)) (now (levels .entry)) (now (wxs .entry)) (now (wys .entry)) (now (wcs .entry)) x y c r (now (wxs .exit)) (now (wys .exit)) (now (wcs .exit)) ⌝ }
 {
     let mut heads = [0u16; meaning::STEPS];
     let mut nexts = [0u16; meaning::RULES];
@@ -114,7 +127,7 @@ pub fn watch(
         ys,
         cs,
         days,
-        marks,
+        levels,
         wxs,
         wys,
         wcs,
@@ -124,22 +137,22 @@ pub fn watch(
     if 0 < number {
         return meaning::refused(counts, number);
     }
-    inner_watch::watch(counts, xs, ys, cs, days, marks, wxs, wys, wcs, x, y, c)
+    inner_watch::watch(counts, xs, ys, cs, days, levels, wxs, wys, wcs, x, y, c)
 }
 
-// Mark: SHORT, DAMAGED, FULL; else the rule count is the newest mark.
+// Mark: SHORT, DAMAGED, FULL; else one more mark is open.
 pub fn mark(
     counts: Counts,
     xs: &[u16],
     ys: &[u16],
     cs: &[i32],
     days: &[u32],
-    marks: &mut [u32],
+    levels: &[u8],
     wxs: &[u16],
     wys: &[u16],
     wcs: &[i32],
 ) -> Reply
-    ensures { λ r. ⌜ Marks counts (now (xs .entry)) (now (ys .entry)) (now (cs .entry)) (now (days .entry)) (now (marks .entry)) (now (wxs .entry)) (now (wys .entry)) (now (wcs .entry)) r (now (marks .exit)) ⌝ }
+    ensures { λ r. ⌜ Marks counts (now (xs .entry)) (now (ys .entry)) (now (cs .entry)) (now (days .entry)) (now (levels .entry)) (now (wxs .entry)) (now (wys .entry)) (now (wcs .entry)) r ⌝ }
 {
     let mut heads = [0u16; meaning::STEPS];
     let mut nexts = [0u16; meaning::RULES];
@@ -150,7 +163,7 @@ pub fn mark(
         ys,
         cs,
         days,
-        marks,
+        levels,
         wxs,
         wys,
         wcs,
@@ -160,22 +173,22 @@ pub fn mark(
     if 0 < number {
         return meaning::refused(counts, number);
     }
-    inner_watch::mark(counts, xs, ys, cs, days, marks, wxs, wys, wcs)
+    inner_watch::mark(counts, xs, ys, cs, days, levels, wxs, wys, wcs)
 }
 
-// Back: SHORT, DAMAGED, NOMARK; else the newest mark and the rules after it are dropped, and the days are the earliest plan of the rest.
+// Back: SHORT, DAMAGED, NOMARK; else the newest mark and the rules added while it was open are dropped, and the days are the earliest plan of the rest.
 pub fn back(
     counts: Counts,
     xs: &[u16],
     ys: &[u16],
     cs: &[i32],
     days: &mut [u32],
-    marks: &[u32],
+    levels: &mut [u8],
     wxs: &[u16],
     wys: &[u16],
     wcs: &[i32],
 ) -> Reply
-    ensures { λ r. ⌜ GoesBack counts (now (xs .entry)) (now (ys .entry)) (now (cs .entry)) (now (days .entry)) (now (marks .entry)) (now (wxs .entry)) (now (wys .entry)) (now (wcs .entry)) r (now (days .exit)) ⌝ }
+    ensures { λ r. ⌜ GoesBack counts (now (xs .entry)) (now (ys .entry)) (now (cs .entry)) (now (days .entry)) (now (levels .entry)) (now (wxs .entry)) (now (wys .entry)) (now (wcs .entry)) r (now (days .exit)) (now (levels .exit)) ⌝ }
 {
     let mut heads = [0u16; meaning::STEPS];
     let mut nexts = [0u16; meaning::RULES];
@@ -186,7 +199,7 @@ pub fn back(
         ys,
         cs,
         days,
-        marks,
+        levels,
         wxs,
         wys,
         wcs,
@@ -202,12 +215,62 @@ pub fn back(
         ys,
         cs,
         days,
-        marks,
+        levels,
         wxs,
         wys,
         wcs,
         &mut heads,
-        &nexts,
+        &mut nexts,
+    )
+}
+
+// Withdraw: SHORT, DAMAGED, ABSENT; else the rule under that number is no longer held, and the days are the earliest plan of the rest.
+pub fn withdraw(
+    counts: Counts,
+    xs: &[u16],
+    ys: &[u16],
+    cs: &[i32],
+    days: &mut [u32],
+    levels: &mut [u8],
+    wxs: &[u16],
+    wys: &[u16],
+    wcs: &[i32],
+    number: u32,
+) -> Reply
+    ensures { λ r. ⌜ Withdraws counts (now (xs .entry)) (now (ys .entry)) (now (cs .entry)) (now (days .entry)) (now (levels .entry)) (now (wxs .entry)) (now (wys .entry)) (now (wcs .entry)) number r (now (days .exit)) (now (levels .exit)) ⌝ }
+{
+    let mut heads = [0u16; meaning::STEPS];
+    let mut nexts = [0u16; meaning::RULES];
+    let refusal = verdict(
+        true,
+        counts,
+        xs,
+        ys,
+        cs,
+        days,
+        levels,
+        wxs,
+        wys,
+        wcs,
+        &mut heads,
+        &mut nexts,
+    );
+    if 0 < refusal {
+        return meaning::refused(counts, refusal);
+    }
+    inner_back::withdraw(
+        counts,
+        xs,
+        ys,
+        cs,
+        days,
+        levels,
+        wxs,
+        wys,
+        wcs,
+        &mut heads,
+        &mut nexts,
+        number,
     )
 }
 
@@ -218,7 +281,7 @@ pub fn add(
     ys: &mut [u16],
     cs: &mut [i32],
     days: &mut [u32],
-    marks: &[u32],
+    levels: &mut [u8],
     wxs: &[u16],
     wys: &[u16],
     wcs: &[i32],
@@ -227,7 +290,7 @@ pub fn add(
     y: u32,
     c: i32,
 ) -> Reply
-    ensures { λ r. ⌜ Adds counts (now (xs .entry)) (now (ys .entry)) (now (cs .entry)) (now (days .entry)) (now (marks .entry)) (now (wxs .entry)) (now (wys .entry)) (now (wcs .entry)) (now (list .entry)) x y c r (now (xs .exit)) (now (ys .exit)) (now (cs .exit)) (now (days .exit)) (now (list .exit)) ⌝ }
+    ensures { λ r. ⌜ Adds counts (now (xs .entry)) (now (ys .entry)) (now (cs .entry)) (now (days .entry)) (now (levels .entry)) (now (wxs .entry)) (now (wys .entry)) (now (wcs .entry)) (now (list .entry)) x y c r (now (xs .exit)) (now (ys .exit)) (now (cs .exit)) (now (days .exit)) (now (levels .exit)) (now (list .exit)) ⌝ }
 {
     let mut heads = [0u16; meaning::STEPS];
     let mut nexts = [0u16; meaning::RULES];
@@ -238,7 +301,7 @@ pub fn add(
         ys,
         cs,
         days,
-        marks,
+        levels,
         wxs,
         wys,
         wcs,
@@ -254,6 +317,7 @@ pub fn add(
         ys,
         cs,
         days,
+        levels,
         &mut heads,
         &mut nexts,
         list,
@@ -270,7 +334,7 @@ pub fn trial(
     ys: &[u16],
     cs: &[i32],
     days: &[u32],
-    marks: &[u32],
+    levels: &[u8],
     wxs: &[u16],
     wys: &[u16],
     wcs: &[i32],
@@ -280,7 +344,7 @@ pub fn trial(
     y: u32,
     c: i32,
 ) -> Reply
-    ensures { λ r. ⌜ Tries counts (now (xs .entry)) (now (ys .entry)) (now (cs .entry)) (now (days .entry)) (now (marks .entry)) (now (wxs .entry)) (now (wys .entry)) (now (wcs .entry)) (now (one .entry)) (now (two .entry)) x y c r (now (one .exit)) (now (two .exit)) ⌝ }
+    ensures { λ r. ⌜ Tries counts (now (xs .entry)) (now (ys .entry)) (now (cs .entry)) (now (days .entry)) (now (levels .entry)) (now (wxs .entry)) (now (wys .entry)) (now (wcs .entry)) (now (one .entry)) (now (two .entry)) x y c r (now (one .exit)) (now (two .exit)) ⌝ }
 {
     let mut heads = [0u16; meaning::STEPS];
     let mut nexts = [0u16; meaning::RULES];
@@ -291,7 +355,7 @@ pub fn trial(
         ys,
         cs,
         days,
-        marks,
+        levels,
         wxs,
         wys,
         wcs,
@@ -307,6 +371,7 @@ pub fn trial(
         ys,
         cs,
         days,
+        levels,
         &mut heads,
         &mut nexts,
         one,
@@ -324,14 +389,14 @@ pub fn consequences(
     ys: &[u16],
     cs: &[i32],
     days: &[u32],
-    marks: &[u32],
+    levels: &[u8],
     wxs: &[u16],
     wys: &[u16],
     wcs: &[i32],
     one: &mut [u32],
     two: &mut [u32],
 ) -> Reply
-    ensures { λ r. ⌜ Splits counts (now (xs .entry)) (now (ys .entry)) (now (cs .entry)) (now (days .entry)) (now (marks .entry)) (now (wxs .entry)) (now (wys .entry)) (now (wcs .entry)) (now (one .entry)) (now (two .entry)) r (now (one .exit)) (now (two .exit)) ⌝ }
+    ensures { λ r. ⌜ Splits counts (now (xs .entry)) (now (ys .entry)) (now (cs .entry)) (now (days .entry)) (now (levels .entry)) (now (wxs .entry)) (now (wys .entry)) (now (wcs .entry)) (now (one .entry)) (now (two .entry)) r (now (one .exit)) (now (two .exit)) ⌝ }
 {
     let mut heads = [0u16; meaning::STEPS];
     let mut nexts = [0u16; meaning::RULES];
@@ -342,7 +407,7 @@ pub fn consequences(
         ys,
         cs,
         days,
-        marks,
+        levels,
         wxs,
         wys,
         wcs,
@@ -358,7 +423,7 @@ pub fn consequences(
         ys,
         cs,
         days,
-        marks,
+        levels,
         wxs,
         wys,
         wcs,
@@ -376,7 +441,7 @@ pub fn ring_check(
     ys: &[u16],
     cs: &[i32],
     days: &[u32],
-    marks: &[u32],
+    levels: &[u8],
     wxs: &[u16],
     wys: &[u16],
     wcs: &[i32],
@@ -385,7 +450,7 @@ pub fn ring_check(
     y: u32,
     c: i32,
 ) -> Reply
-    ensures { λ r. ⌜ ChecksRing counts (now (xs .entry)) (now (ys .entry)) (now (cs .entry)) (now (days .entry)) (now (marks .entry)) (now (wxs .entry)) (now (wys .entry)) (now (wcs .entry)) (now (list .entry)) x y c r ⌝ }
+    ensures { λ r. ⌜ ChecksRing counts (now (xs .entry)) (now (ys .entry)) (now (cs .entry)) (now (days .entry)) (now (levels .entry)) (now (wxs .entry)) (now (wys .entry)) (now (wcs .entry)) (now (list .entry)) x y c r ⌝ }
 {
     let mut heads = [0u16; meaning::STEPS];
     let mut nexts = [0u16; meaning::RULES];
@@ -396,7 +461,7 @@ pub fn ring_check(
         ys,
         cs,
         days,
-        marks,
+        levels,
         wxs,
         wys,
         wcs,
@@ -410,12 +475,14 @@ pub fn ring_check(
     if 0 < unfit {
         return meaning::refused(counts, unfit);
     }
+    let next = lent::next_free(levels, counts.rules as usize);
     if ringcheck::is_ring(
         counts.steps as usize,
-        counts.rules as usize,
+        next,
         xs,
         ys,
         cs,
+        levels,
         x as u16,
         y as u16,
         c,
@@ -433,12 +500,12 @@ pub fn last_day(
     ys: &[u16],
     cs: &[i32],
     days: &[u32],
-    marks: &[u32],
+    levels: &[u8],
     wxs: &[u16],
     wys: &[u16],
     wcs: &[i32],
 ) -> Reply
-    ensures { λ r. ⌜ TellsLastDay counts (now (xs .entry)) (now (ys .entry)) (now (cs .entry)) (now (days .entry)) (now (marks .entry)) (now (wxs .entry)) (now (wys .entry)) (now (wcs .entry)) r ⌝ }
+    ensures { λ r. ⌜ TellsLastDay counts (now (xs .entry)) (now (ys .entry)) (now (cs .entry)) (now (days .entry)) (now (levels .entry)) (now (wxs .entry)) (now (wys .entry)) (now (wcs .entry)) r ⌝ }
 {
     let mut heads = [0u16; meaning::STEPS];
     let mut nexts = [0u16; meaning::RULES];
@@ -449,7 +516,7 @@ pub fn last_day(
         ys,
         cs,
         days,
-        marks,
+        levels,
         wxs,
         wys,
         wcs,

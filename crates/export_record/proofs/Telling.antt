@@ -56,7 +56,7 @@ module _ {S : Type 0} (tables : S → Tables) (recounted : Counts → S) where
       (subst (Obeys m before g) (sym same) o)
 
 abbrev recount : Tables → Counts → Tables
-recount t k = record { counts = k; rules = t .rules; days = t .days; marks = t .marks; watched = t .watched }
+recount t k = record { counts = k; rules = t .rules; days = t .days; levels = t .levels; watched = t .watched }
 
 -- A call that is lent two lists, one that is lent one, and one that is lent none.
 pub at-counts-2 : (s : WithLists) (m : Meaning WithLists) (before : WithLists) (g : Given) → Obeys m before g s

@@ -63,8 +63,8 @@ command-by-c text before = record {
 
 -- The lists and the record that C lends.
 abbrev pub lent-by-c : Counts → List ℕ → List ℕ → List ℤ → List ℕ → List ℕ → List ℕ → List ℕ → List ℤ → Record → List ℕ → List ℕ → List ℕ → LentByC
-lent-by-c counts xs ys cs days marks wxs wys wcs kept names lens out =
-    record { tables = tables counts xs ys cs days marks wxs wys wcs; kept = kept; names = names; lens = lens; out = out }
+lent-by-c counts xs ys cs days levels wxs wys wcs kept names lens out =
+    record { tables = tables counts xs ys cs days levels wxs wys wcs; kept = kept; names = names; lens = lens; out = out }
 
 -- The notes that a command is handed for a record: what it says where its flags fit, else more names than there may be, which no sound record has.
 abbrev pub Handed : Record → Notes → Type 0

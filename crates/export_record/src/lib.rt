@@ -86,7 +86,7 @@ pub fn start(
     ys: &[u16],
     cs: &[i32],
     days: &mut [u32],
-    marks: &[u32],
+    levels: &mut [u8],
     wxs: &[u16],
     wys: &[u16],
     wcs: &[i32],
@@ -95,10 +95,10 @@ pub fn start(
 ) -> ScriptTold
     ensures { λ r. ⌜ ((out : List ℕ) →
         Obeys
-        (start-by-c (lent-by-c counts (now (xs .entry)) (now (ys .entry)) (now (cs .entry)) (now (days .entry)) (now (marks .entry)) (now (wxs .entry)) (now (wys .entry)) (now (wcs .entry)) kept (now (names .entry)) (now (lens .entry)) out))
-        (lent-by-c counts (now (xs .entry)) (now (ys .entry)) (now (cs .entry)) (now (days .entry)) (now (marks .entry)) (now (wxs .entry)) (now (wys .entry)) (now (wcs .entry)) kept (now (names .entry)) (now (lens .entry)) out)
+        (start-by-c (lent-by-c counts (now (xs .entry)) (now (ys .entry)) (now (cs .entry)) (now (days .entry)) (now (levels .entry)) (now (wxs .entry)) (now (wys .entry)) (now (wcs .entry)) kept (now (names .entry)) (now (lens .entry)) out))
+        (lent-by-c counts (now (xs .entry)) (now (ys .entry)) (now (cs .entry)) (now (days .entry)) (now (levels .entry)) (now (wxs .entry)) (now (wys .entry)) (now (wcs .entry)) kept (now (names .entry)) (now (lens .entry)) out)
         (bare (r .number))
-        (lent-by-c (r .counts) (now (xs .entry)) (now (ys .entry)) (now (cs .entry)) (now (days .exit)) (now (marks .entry)) (now (wxs .entry)) (now (wys .entry)) (now (wcs .entry)) (r .kept) (now (names .entry)) (now (lens .entry)) out)) ⌝ }
+        (lent-by-c (r .counts) (now (xs .entry)) (now (ys .entry)) (now (cs .entry)) (now (days .exit)) (now (levels .exit)) (now (wxs .entry)) (now (wys .entry)) (now (wcs .entry)) (r .kept) (now (names .entry)) (now (lens .entry)) out)) ⌝ }
 {
     let notes = script_meaning::no_notes();
     let reply = script_calls::start(
@@ -108,7 +108,7 @@ pub fn start(
         ys,
         cs,
         days,
-        marks,
+        levels,
         wxs,
         wys,
         wcs,
@@ -136,7 +136,7 @@ pub fn command(
     ys: &mut [u16],
     cs: &mut [i32],
     days: &mut [u32],
-    marks: &mut [u32],
+    levels: &mut [u8],
     wxs: &[u16],
     wys: &[u16],
     wcs: &[i32],
@@ -148,10 +148,10 @@ pub fn command(
 ) -> ScriptTold
     ensures { λ r. ⌜
         Obeys
-        (command-by-c (now (text .entry)) (lent-by-c counts (now (xs .entry)) (now (ys .entry)) (now (cs .entry)) (now (days .entry)) (now (marks .entry)) (now (wxs .entry)) (now (wys .entry)) (now (wcs .entry)) kept (now (names .entry)) (now (lens .entry)) (now (out .entry))))
-        (lent-by-c counts (now (xs .entry)) (now (ys .entry)) (now (cs .entry)) (now (days .entry)) (now (marks .entry)) (now (wxs .entry)) (now (wys .entry)) (now (wcs .entry)) kept (now (names .entry)) (now (lens .entry)) (now (out .entry)))
+        (command-by-c (now (text .entry)) (lent-by-c counts (now (xs .entry)) (now (ys .entry)) (now (cs .entry)) (now (days .entry)) (now (levels .entry)) (now (wxs .entry)) (now (wys .entry)) (now (wcs .entry)) kept (now (names .entry)) (now (lens .entry)) (now (out .entry))))
+        (lent-by-c counts (now (xs .entry)) (now (ys .entry)) (now (cs .entry)) (now (days .entry)) (now (levels .entry)) (now (wxs .entry)) (now (wys .entry)) (now (wcs .entry)) kept (now (names .entry)) (now (lens .entry)) (now (out .entry)))
         (gave (r .number) (now (read .exit)) (now (written .exit)))
-        (lent-by-c (r .counts) (now (xs .exit)) (now (ys .exit)) (now (cs .exit)) (now (days .exit)) (now (marks .exit)) (now (wxs .entry)) (now (wys .entry)) (now (wcs .entry)) (r .kept) (now (names .exit)) (now (lens .exit)) (now (out .exit))) ⌝ }
+        (lent-by-c (r .counts) (now (xs .exit)) (now (ys .exit)) (now (cs .exit)) (now (days .exit)) (now (levels .exit)) (now (wxs .entry)) (now (wys .entry)) (now (wcs .entry)) (r .kept) (now (names .exit)) (now (lens .exit)) (now (out .exit))) ⌝ }
 {
     let notes = notes_for(kept);
     let reply = script_calls::command(
@@ -162,7 +162,7 @@ pub fn command(
         ys,
         cs,
         days,
-        marks,
+        levels,
         wxs,
         wys,
         wcs,

@@ -2,7 +2,7 @@
 ghost use mathlib.Core.List.{List};
 ghost use Prim.Native.Nat.{ℕ};
 ghost use Rattle.meaning.specs.Promise.{Obeys, bare, gave};
-ghost use Rattle.lent.specs.Promises.{OpensTo, WatchesTo, AddsTo, MarksTo, GoesBackTo, TriesTo, SplitsTo, ChecksRingTo, TellsLastDayTo};
+ghost use Rattle.lent.specs.Promises.{OpensTo, WatchesTo, AddsTo, MarksTo, GoesBackTo, WithdrawsTo, TriesTo, SplitsTo, ChecksRingTo, TellsLastDayTo};
 ghost use Rattle.export_record.specs.Records.{lent-by-c, start-by-c, command-by-c};
 ghost use Rattle.script_meaning.specs.Whole.{RunsScript};
 use export_record::Record;
@@ -26,15 +26,15 @@ pub extern "C" fn dates_open(
     ys: &[u16],
     cs: &[i32],
     days: &mut [u32],
-    marks: &[u32],
+    levels: &mut [u8],
     wxs: &[u16],
     wys: &[u16],
     wcs: &[i32],
     steps: u32,
 ) -> u32
-    ensures { λ r. ⌜ OpensTo (now (counts .entry)) (now (xs .entry)) (now (ys .entry)) (now (cs .entry)) (now (days .entry)) (now (marks .entry)) (now (wxs .entry)) (now (wys .entry)) (now (wcs .entry)) steps (bare r) (now (counts .exit)) (now (days .exit)) ⌝ }
+    ensures { λ r. ⌜ OpensTo (now (counts .entry)) (now (xs .entry)) (now (ys .entry)) (now (cs .entry)) (now (days .entry)) (now (levels .entry)) (now (wxs .entry)) (now (wys .entry)) (now (wcs .entry)) steps (bare r) (now (counts .exit)) (now (days .exit)) (now (levels .exit)) ⌝ }
 {
-    let out = desk::open(*counts, xs, ys, cs, days, marks, wxs, wys, wcs, steps);
+    let out = desk::open(*counts, xs, ys, cs, days, levels, wxs, wys, wcs, steps);
     *counts = out.counts;
     out.number
 }
@@ -47,7 +47,7 @@ pub extern "C" fn dates_watch(
     ys: &[u16],
     cs: &[i32],
     days: &[u32],
-    marks: &[u32],
+    levels: &[u8],
     wxs: &mut [u16],
     wys: &mut [u16],
     wcs: &mut [i32],
@@ -55,9 +55,9 @@ pub extern "C" fn dates_watch(
     y: u32,
     c: i32,
 ) -> u32
-    ensures { λ r. ⌜ WatchesTo (now (counts .entry)) (now (xs .entry)) (now (ys .entry)) (now (cs .entry)) (now (days .entry)) (now (marks .entry)) (now (wxs .entry)) (now (wys .entry)) (now (wcs .entry)) x y c (bare r) (now (counts .exit)) (now (wxs .exit)) (now (wys .exit)) (now (wcs .exit)) ⌝ }
+    ensures { λ r. ⌜ WatchesTo (now (counts .entry)) (now (xs .entry)) (now (ys .entry)) (now (cs .entry)) (now (days .entry)) (now (levels .entry)) (now (wxs .entry)) (now (wys .entry)) (now (wcs .entry)) x y c (bare r) (now (counts .exit)) (now (wxs .exit)) (now (wys .exit)) (now (wcs .exit)) ⌝ }
 {
-    let out = desk::watch(*counts, xs, ys, cs, days, marks, wxs, wys, wcs, x, y, c);
+    let out = desk::watch(*counts, xs, ys, cs, days, levels, wxs, wys, wcs, x, y, c);
     *counts = out.counts;
     out.number
 }
@@ -70,14 +70,14 @@ pub extern "C" fn dates_mark(
     ys: &[u16],
     cs: &[i32],
     days: &[u32],
-    marks: &mut [u32],
+    levels: &[u8],
     wxs: &[u16],
     wys: &[u16],
     wcs: &[i32],
 ) -> u32
-    ensures { λ r. ⌜ MarksTo (now (counts .entry)) (now (xs .entry)) (now (ys .entry)) (now (cs .entry)) (now (days .entry)) (now (marks .entry)) (now (wxs .entry)) (now (wys .entry)) (now (wcs .entry)) (bare r) (now (counts .exit)) (now (marks .exit)) ⌝ }
+    ensures { λ r. ⌜ MarksTo (now (counts .entry)) (now (xs .entry)) (now (ys .entry)) (now (cs .entry)) (now (days .entry)) (now (levels .entry)) (now (wxs .entry)) (now (wys .entry)) (now (wcs .entry)) (bare r) (now (counts .exit)) ⌝ }
 {
-    let out = desk::mark(*counts, xs, ys, cs, days, marks, wxs, wys, wcs);
+    let out = desk::mark(*counts, xs, ys, cs, days, levels, wxs, wys, wcs);
     *counts = out.counts;
     out.number
 }
@@ -90,14 +90,35 @@ pub extern "C" fn dates_back(
     ys: &[u16],
     cs: &[i32],
     days: &mut [u32],
-    marks: &[u32],
+    levels: &mut [u8],
     wxs: &[u16],
     wys: &[u16],
     wcs: &[i32],
 ) -> u32
-    ensures { λ r. ⌜ GoesBackTo (now (counts .entry)) (now (xs .entry)) (now (ys .entry)) (now (cs .entry)) (now (days .entry)) (now (marks .entry)) (now (wxs .entry)) (now (wys .entry)) (now (wcs .entry)) (bare r) (now (counts .exit)) (now (days .exit)) ⌝ }
+    ensures { λ r. ⌜ GoesBackTo (now (counts .entry)) (now (xs .entry)) (now (ys .entry)) (now (cs .entry)) (now (days .entry)) (now (levels .entry)) (now (wxs .entry)) (now (wys .entry)) (now (wcs .entry)) (bare r) (now (counts .exit)) (now (days .exit)) (now (levels .exit)) ⌝ }
 {
-    let out = desk::back(*counts, xs, ys, cs, days, marks, wxs, wys, wcs);
+    let out = desk::back(*counts, xs, ys, cs, days, levels, wxs, wys, wcs);
+    *counts = out.counts;
+    out.number
+}
+
+// Withdraw: its number; the counts are brought up to date.
+#[no_mangle]
+pub extern "C" fn dates_withdraw(
+    counts: &mut Counts,
+    xs: &[u16],
+    ys: &[u16],
+    cs: &[i32],
+    days: &mut [u32],
+    levels: &mut [u8],
+    wxs: &[u16],
+    wys: &[u16],
+    wcs: &[i32],
+    number: u32,
+) -> u32
+    ensures { λ r. ⌜ WithdrawsTo (now (counts .entry)) (now (xs .entry)) (now (ys .entry)) (now (cs .entry)) (now (days .entry)) (now (levels .entry)) (now (wxs .entry)) (now (wys .entry)) (now (wcs .entry)) number (bare r) (now (counts .exit)) (now (days .exit)) (now (levels .exit)) ⌝ }
+{
+    let out = desk::withdraw(*counts, xs, ys, cs, days, levels, wxs, wys, wcs, number);
     *counts = out.counts;
     out.number
 }
@@ -110,7 +131,7 @@ pub extern "C" fn dates_add(
     ys: &mut [u16],
     cs: &mut [i32],
     days: &mut [u32],
-    marks: &[u32],
+    levels: &mut [u8],
     wxs: &[u16],
     wys: &[u16],
     wcs: &[i32],
@@ -120,7 +141,7 @@ pub extern "C" fn dates_add(
     c: i32,
     value: &mut u32,
 ) -> u32
-    ensures { λ r. ⌜ AddsTo (now (counts .entry)) (now (xs .entry)) (now (ys .entry)) (now (cs .entry)) (now (days .entry)) (now (marks .entry)) (now (wxs .entry)) (now (wys .entry)) (now (wcs .entry)) (now (list .entry)) x y c (gave r (now (value .exit)) 0) (now (counts .exit)) (now (xs .exit)) (now (ys .exit)) (now (cs .exit)) (now (days .exit)) (now (list .exit)) ⌝ }
+    ensures { λ r. ⌜ AddsTo (now (counts .entry)) (now (xs .entry)) (now (ys .entry)) (now (cs .entry)) (now (days .entry)) (now (levels .entry)) (now (wxs .entry)) (now (wys .entry)) (now (wcs .entry)) (now (list .entry)) x y c (gave r (now (value .exit)) 0) (now (counts .exit)) (now (xs .exit)) (now (ys .exit)) (now (cs .exit)) (now (days .exit)) (now (levels .exit)) (now (list .exit)) ⌝ }
 {
     let out = desk::add(
         *counts,
@@ -128,7 +149,7 @@ pub extern "C" fn dates_add(
         ys,
         cs,
         days,
-        marks,
+        levels,
         wxs,
         wys,
         wcs,
@@ -150,7 +171,7 @@ pub extern "C" fn dates_trial(
     ys: &[u16],
     cs: &[i32],
     days: &[u32],
-    marks: &[u32],
+    levels: &[u8],
     wxs: &[u16],
     wys: &[u16],
     wcs: &[i32],
@@ -161,7 +182,7 @@ pub extern "C" fn dates_trial(
     c: i32,
     value: &mut u32,
 ) -> u32
-    ensures { λ r. ⌜ TriesTo (now (counts .entry)) (now (xs .entry)) (now (ys .entry)) (now (cs .entry)) (now (days .entry)) (now (marks .entry)) (now (wxs .entry)) (now (wys .entry)) (now (wcs .entry)) (now (one .entry)) (now (two .entry)) x y c (gave r (now (value .exit)) 0) (now (counts .entry)) (now (one .exit)) (now (two .exit)) ⌝ }
+    ensures { λ r. ⌜ TriesTo (now (counts .entry)) (now (xs .entry)) (now (ys .entry)) (now (cs .entry)) (now (days .entry)) (now (levels .entry)) (now (wxs .entry)) (now (wys .entry)) (now (wcs .entry)) (now (one .entry)) (now (two .entry)) x y c (gave r (now (value .exit)) 0) (now (counts .entry)) (now (one .exit)) (now (two .exit)) ⌝ }
 {
     let out = desk::trial(
         *counts,
@@ -169,7 +190,7 @@ pub extern "C" fn dates_trial(
         ys,
         cs,
         days,
-        marks,
+        levels,
         wxs,
         wys,
         wcs,
@@ -191,7 +212,7 @@ pub extern "C" fn dates_consequences(
     ys: &[u16],
     cs: &[i32],
     days: &[u32],
-    marks: &[u32],
+    levels: &[u8],
     wxs: &[u16],
     wys: &[u16],
     wcs: &[i32],
@@ -200,9 +221,9 @@ pub extern "C" fn dates_consequences(
     held: &mut u32,
     excluded: &mut u32,
 ) -> u32
-    ensures { λ r. ⌜ SplitsTo (now (counts .entry)) (now (xs .entry)) (now (ys .entry)) (now (cs .entry)) (now (days .entry)) (now (marks .entry)) (now (wxs .entry)) (now (wys .entry)) (now (wcs .entry)) (now (one .entry)) (now (two .entry)) (gave r (now (held .exit)) (now (excluded .exit))) (now (counts .entry)) (now (one .exit)) (now (two .exit)) ⌝ }
+    ensures { λ r. ⌜ SplitsTo (now (counts .entry)) (now (xs .entry)) (now (ys .entry)) (now (cs .entry)) (now (days .entry)) (now (levels .entry)) (now (wxs .entry)) (now (wys .entry)) (now (wcs .entry)) (now (one .entry)) (now (two .entry)) (gave r (now (held .exit)) (now (excluded .exit))) (now (counts .entry)) (now (one .exit)) (now (two .exit)) ⌝ }
 {
-    let out = desk::consequences(*counts, xs, ys, cs, days, marks, wxs, wys, wcs, one, two);
+    let out = desk::consequences(*counts, xs, ys, cs, days, levels, wxs, wys, wcs, one, two);
     *held = out.one;
     *excluded = out.two;
     out.number
@@ -216,7 +237,7 @@ pub extern "C" fn dates_ring_check(
     ys: &[u16],
     cs: &[i32],
     days: &[u32],
-    marks: &[u32],
+    levels: &[u8],
     wxs: &[u16],
     wys: &[u16],
     wcs: &[i32],
@@ -226,7 +247,7 @@ pub extern "C" fn dates_ring_check(
     c: i32,
     verdict: &mut u32,
 ) -> u32
-    ensures { λ r. ⌜ ChecksRingTo (now (counts .entry)) (now (xs .entry)) (now (ys .entry)) (now (cs .entry)) (now (days .entry)) (now (marks .entry)) (now (wxs .entry)) (now (wys .entry)) (now (wcs .entry)) (now (list .entry)) x y c (gave r (now (verdict .exit)) 0) (now (counts .entry)) ⌝ }
+    ensures { λ r. ⌜ ChecksRingTo (now (counts .entry)) (now (xs .entry)) (now (ys .entry)) (now (cs .entry)) (now (days .entry)) (now (levels .entry)) (now (wxs .entry)) (now (wys .entry)) (now (wcs .entry)) (now (list .entry)) x y c (gave r (now (verdict .exit)) 0) (now (counts .entry)) ⌝ }
 {
     let out = desk::ring_check(
         *counts,
@@ -234,7 +255,7 @@ pub extern "C" fn dates_ring_check(
         ys,
         cs,
         days,
-        marks,
+        levels,
         wxs,
         wys,
         wcs,
@@ -255,15 +276,15 @@ pub extern "C" fn dates_last_day(
     ys: &[u16],
     cs: &[i32],
     days: &[u32],
-    marks: &[u32],
+    levels: &[u8],
     wxs: &[u16],
     wys: &[u16],
     wcs: &[i32],
     day: &mut u32,
 ) -> u32
-    ensures { λ r. ⌜ TellsLastDayTo (now (counts .entry)) (now (xs .entry)) (now (ys .entry)) (now (cs .entry)) (now (days .entry)) (now (marks .entry)) (now (wxs .entry)) (now (wys .entry)) (now (wcs .entry)) (gave r (now (day .exit)) 0) (now (counts .entry)) ⌝ }
+    ensures { λ r. ⌜ TellsLastDayTo (now (counts .entry)) (now (xs .entry)) (now (ys .entry)) (now (cs .entry)) (now (days .entry)) (now (levels .entry)) (now (wxs .entry)) (now (wys .entry)) (now (wcs .entry)) (gave r (now (day .exit)) 0) (now (counts .entry)) ⌝ }
 {
-    let out = desk::last_day(*counts, xs, ys, cs, days, marks, wxs, wys, wcs);
+    let out = desk::last_day(*counts, xs, ys, cs, days, levels, wxs, wys, wcs);
     *day = out.one;
     out.number
 }
@@ -277,7 +298,7 @@ pub extern "C" fn dates_start(
     ys: &[u16],
     cs: &[i32],
     days: &mut [u32],
-    marks: &[u32],
+    levels: &mut [u8],
     wxs: &[u16],
     wys: &[u16],
     wcs: &[i32],
@@ -286,10 +307,10 @@ pub extern "C" fn dates_start(
 ) -> u32
     ensures { λ r. ⌜ ((out : List ℕ) →
         Obeys
-        (start-by-c (lent-by-c (now (counts .entry)) (now (xs .entry)) (now (ys .entry)) (now (cs .entry)) (now (days .entry)) (now (marks .entry)) (now (wxs .entry)) (now (wys .entry)) (now (wcs .entry)) (now (kept .entry)) (now (names .entry)) (now (lens .entry)) out))
-        (lent-by-c (now (counts .entry)) (now (xs .entry)) (now (ys .entry)) (now (cs .entry)) (now (days .entry)) (now (marks .entry)) (now (wxs .entry)) (now (wys .entry)) (now (wcs .entry)) (now (kept .entry)) (now (names .entry)) (now (lens .entry)) out)
+        (start-by-c (lent-by-c (now (counts .entry)) (now (xs .entry)) (now (ys .entry)) (now (cs .entry)) (now (days .entry)) (now (levels .entry)) (now (wxs .entry)) (now (wys .entry)) (now (wcs .entry)) (now (kept .entry)) (now (names .entry)) (now (lens .entry)) out))
+        (lent-by-c (now (counts .entry)) (now (xs .entry)) (now (ys .entry)) (now (cs .entry)) (now (days .entry)) (now (levels .entry)) (now (wxs .entry)) (now (wys .entry)) (now (wcs .entry)) (now (kept .entry)) (now (names .entry)) (now (lens .entry)) out)
         (bare r)
-        (lent-by-c (now (counts .exit)) (now (xs .entry)) (now (ys .entry)) (now (cs .entry)) (now (days .exit)) (now (marks .entry)) (now (wxs .entry)) (now (wys .entry)) (now (wcs .entry)) (now (kept .exit)) (now (names .entry)) (now (lens .entry)) out)) ⌝ }
+        (lent-by-c (now (counts .exit)) (now (xs .entry)) (now (ys .entry)) (now (cs .entry)) (now (days .exit)) (now (levels .exit)) (now (wxs .entry)) (now (wys .entry)) (now (wcs .entry)) (now (kept .exit)) (now (names .entry)) (now (lens .entry)) out)) ⌝ }
 {
     let out = export_record::start(
         *counts,
@@ -298,7 +319,7 @@ pub extern "C" fn dates_start(
         ys,
         cs,
         days,
-        marks,
+        levels,
         wxs,
         wys,
         wcs,
@@ -320,7 +341,7 @@ pub extern "C" fn dates_command(
     ys: &mut [u16],
     cs: &mut [i32],
     days: &mut [u32],
-    marks: &mut [u32],
+    levels: &mut [u8],
     wxs: &[u16],
     wys: &[u16],
     wcs: &[i32],
@@ -332,10 +353,10 @@ pub extern "C" fn dates_command(
 ) -> u32
     ensures { λ r. ⌜
         Obeys
-        (command-by-c (now (text .entry)) (lent-by-c (now (counts .entry)) (now (xs .entry)) (now (ys .entry)) (now (cs .entry)) (now (days .entry)) (now (marks .entry)) (now (wxs .entry)) (now (wys .entry)) (now (wcs .entry)) (now (kept .entry)) (now (names .entry)) (now (lens .entry)) (now (out .entry))))
-        (lent-by-c (now (counts .entry)) (now (xs .entry)) (now (ys .entry)) (now (cs .entry)) (now (days .entry)) (now (marks .entry)) (now (wxs .entry)) (now (wys .entry)) (now (wcs .entry)) (now (kept .entry)) (now (names .entry)) (now (lens .entry)) (now (out .entry)))
+        (command-by-c (now (text .entry)) (lent-by-c (now (counts .entry)) (now (xs .entry)) (now (ys .entry)) (now (cs .entry)) (now (days .entry)) (now (levels .entry)) (now (wxs .entry)) (now (wys .entry)) (now (wcs .entry)) (now (kept .entry)) (now (names .entry)) (now (lens .entry)) (now (out .entry))))
+        (lent-by-c (now (counts .entry)) (now (xs .entry)) (now (ys .entry)) (now (cs .entry)) (now (days .entry)) (now (levels .entry)) (now (wxs .entry)) (now (wys .entry)) (now (wcs .entry)) (now (kept .entry)) (now (names .entry)) (now (lens .entry)) (now (out .entry)))
         (gave r (now (read .exit)) (now (written .exit)))
-        (lent-by-c (now (counts .exit)) (now (xs .exit)) (now (ys .exit)) (now (cs .exit)) (now (days .exit)) (now (marks .exit)) (now (wxs .entry)) (now (wys .entry)) (now (wcs .entry)) (now (kept .exit)) (now (names .exit)) (now (lens .exit)) (now (out .exit))) ⌝ }
+        (lent-by-c (now (counts .exit)) (now (xs .exit)) (now (ys .exit)) (now (cs .exit)) (now (days .exit)) (now (levels .exit)) (now (wxs .entry)) (now (wys .entry)) (now (wcs .entry)) (now (kept .exit)) (now (names .exit)) (now (lens .exit)) (now (out .exit))) ⌝ }
 {
     let reply = export_record::command(
         text,
@@ -345,7 +366,7 @@ pub extern "C" fn dates_command(
         ys,
         cs,
         days,
-        marks,
+        levels,
         wxs,
         wys,
         wcs,

@@ -4,3 +4,4 @@ pub mod Fitting
 pub mod Answers
 pub mod Holding
 pub mod Extent
+pub mod Linked

@@ -8,15 +8,15 @@ ghost use Rattle.meaning.specs.Bounds.{STEPS, RULES};
 ghost use Rattle.meaning.specs.Promise.{First};
 ghost use Rattle.meaning.specs.Rules.{largest};
 ghost use Rattle.meaning.specs.Tables.{at};
-ghost use Rattle.lent.specs.Lent.{columns, first};
+ghost use Rattle.lent.specs.Lent.{columns, held-by};
 ghost use Rattle.meaning.specs.Rules.{Fits, rule};
-ghost use Rattle.chains.specs.Chains.{number};
+ghost use Rattle.chains.specs.Chains.{number, linked, LentChains};
 ghost use Rattle.inner_add.specs.Planning.{Lack, Base, NoGains, Plannable, RulePlanned, Raised, Raisable};
 ghost use Rattle.inner_add.specs.Lending.{Holdable};
 ghost use Rattle.inner_add.specs.Fit.{Tells, TellsWhy, Shows, one-more};
 ghost use Rattle.spread.specs.Ground.{rules};
 ghost use Rattle.shortest.specs.Contracts.{ReasonIn};
-ghost use Rattle.inner_add.specs.Kept.{BothRoom, hold-needs, TrialKept, AddKept};
+ghost use Rattle.inner_add.specs.Kept.{BothRoom, Counted, hold-needs, TrialKept, AddKept};
 use meaning::Counts;
 use meaning::Reply;
 
@@ -51,14 +51,14 @@ fn plan(
     gains: &mut [u64],
     by: &mut [u16],
 ) -> bool
-    requires { ⌜ Plannable n (first m) number m (now xs) (now ys) (now cs) (now days) (now heads) (now nexts) (now gains) (now by) x y c ⌝ }
-    ensures { λ r. ⌜ RulePlanned n (first m) m (now (xs .entry)) (now (ys .entry)) (now (cs .entry)) (now (days .entry)) (now (gains .exit)) (now (by .exit)) x y c r ⌝ }
+    requires { ⌜ Plannable n (linked (now nexts)) number m (now xs) (now ys) (now cs) (now days) (now heads) (now nexts) (now gains) (now by) x y c ⌝ }
+    ensures { λ r. ⌜ RulePlanned n (linked (now (nexts .entry))) m (now (xs .entry)) (now (ys .entry)) (now (cs .entry)) (now (days .entry)) (now (gains .exit)) (now (by .exit)) x y c r ⌝ }
 {
     let lacks = lack(days, x, y, c);
     if lacks == 0 {
         return true;
     }
-    spread::spread_one(n, m, xs, ys, cs, days, heads, nexts, y, lacks, x, gains, by);
+    spread::spread_one(n, xs, ys, cs, days, heads, nexts, y, lacks, x, gains, by);
     gains[x] == 0
 }
 
@@ -135,10 +135,10 @@ fn fit_with(
     gains: &mut [u64],
     by: &mut [u16],
 ) -> Fitted
-    requires { ⌜ Holdable n (first m) number m (now xs) (now ys) (now cs) (now days) (now heads) (now nexts) x y c ⌝ }
+    requires { ⌜ Holdable n (linked (now nexts)) number m (now xs) (now ys) (now cs) (now days) (now heads) (now nexts) x y c ⌝ }
     requires { ⌜ NoGains n (now gains) (now by) ⌝ }
     ensures { λ r. ⌜
-        TellsWhy n (first m) m (now (xs .entry)) (now (ys .entry)) (now (cs .entry)) (now (days .entry)) x y c last (r .fits) (r .moved) (r .last)
+        TellsWhy n (linked (now (nexts .entry))) m (now (xs .entry)) (now (ys .entry)) (now (cs .entry)) (now (days .entry)) x y c last (r .fits) (r .moved) (r .last)
         (now (xs .exit)) (now (ys .exit)) (now (cs .exit)) (now (days .exit)) (now (gains .exit)) (now (by .exit)) ⌝ }
 {
     if !plan(
@@ -171,7 +171,7 @@ fn fit_with(
     }
 }
 
-// Says whether the rule x, y, c fits the first m rules over n steps, whose days have that last day. Where it does it is held under number m and the days are
+// Says whether the rule x, y, c fits the rules on the chains over n steps, whose days have that last day. Where it does it is held under number m and the days are
 // brought to the earliest plan with it; where it does not nothing changes. The last day then is told.
 pub fn fit(
     n: usize,
@@ -187,9 +187,9 @@ pub fn fit(
     c: i32,
     last: u32,
 ) -> Fitted
-    requires { ⌜ Holdable n (first m) number m (now xs) (now ys) (now cs) (now days) (now heads) (now nexts) x y c ⌝ }
+    requires { ⌜ Holdable n (linked (now nexts)) number m (now xs) (now ys) (now cs) (now days) (now heads) (now nexts) x y c ⌝ }
     ensures { λ r. ⌜
-        Tells n (first m) m (rule x y c) (columns (now (xs .entry)) (now (ys .entry)) (now (cs .entry))) (now (days .entry)) last (r .fits) (r .moved)
+        Tells n (linked (now (nexts .entry))) m (rule x y c) (columns (now (xs .entry)) (now (ys .entry)) (now (cs .entry))) (now (days .entry)) last (r .fits) (r .moved)
         (columns (now (xs .exit)) (now (ys .exit)) (now (cs .exit))) (now (days .exit)) (r .last) ⌝ }
 {
     // A rule that the days keep already is held before any list is cleared.
@@ -284,10 +284,10 @@ fn show(
     c: i32,
     list: &mut [u32],
 ) -> Shown
-    requires { ⌜ Holdable n (first m) number m (now xs) (now ys) (now cs) (now days) (now heads) (now nexts) x y c ⌝ }
+    requires { ⌜ Holdable n (linked (now nexts)) number m (now xs) (now ys) (now cs) (now days) (now heads) (now nexts) x y c ⌝ }
     requires { ⌜ STEPS ≤ length (now list) ⌝ }
     ensures { λ r. ⌜
-        Shows n (first m) m (rule x y c) (columns (now (xs .entry)) (now (ys .entry)) (now (cs .entry))) (now (days .entry)) (now (list .entry)) (r .fits) (r .moved)
+        Shows n (linked (now (nexts .entry))) m (rule x y c) (columns (now (xs .entry)) (now (ys .entry)) (now (cs .entry))) (now (days .entry)) (now (list .entry)) (r .fits) (r .moved)
         (now (list .exit)) ⌝ }
 {
     let mut gains = [0u64; meaning::STEPS];
@@ -334,11 +334,11 @@ fn why(
     c: i32,
     list: &mut [u32],
 ) -> u32
-    requires { ⌜ Holdable n (first m) number m (now xs) (now ys) (now cs) (now days) (now heads) (now nexts) x y c ⌝ }
-    requires { ⌜ (Fits (rules (now xs) (now ys) (now cs)) (first m) (rule x y c) → ⊥) ⌝ }
-    requires { ⌜ m ≤ length (now nexts) ⌝ }
+    requires { ⌜ Holdable n (linked (now nexts)) number m (now xs) (now ys) (now cs) (now days) (now heads) (now nexts) x y c ⌝ }
+    requires { ⌜ (Fits (rules (now xs) (now ys) (now cs)) (linked (now nexts)) (rule x y c) → ⊥) ⌝ }
+    requires { ⌜ RULES ≤ length (now nexts) ⌝ }
     requires { ⌜ STEPS ≤ length (now list) ⌝ }
-    ensures { λ r. ⌜ ReasonIn (first m) m (now (xs .entry)) (now (ys .entry)) (now (cs .entry)) x y c r (now (list .entry)) (now (list .exit)) ⌝ }
+    ensures { λ r. ⌜ ReasonIn (linked (now (nexts .entry))) m (now (xs .entry)) (now (ys .entry)) (now (cs .entry)) x y c r (now (list .entry)) (now (list .exit)) ⌝ }
 {
     let k = shortest::reason(
         n,
@@ -365,6 +365,7 @@ pub fn trial(
     ys: &[u16],
     cs: &[i32],
     days: &[u32],
+    levels: &[u8],
     heads: &mut [u16],
     nexts: &mut [u16],
     one: &mut [u32],
@@ -373,11 +374,12 @@ pub fn trial(
     y: u32,
     c: i32,
 ) -> Reply
-    requires { ⌜ Base (counts .steps) (first (counts .rules)) number (now xs) (now ys) (now cs) (now days) (now heads) (now nexts) ⌝ }
-    requires { ⌜ counts .rules ≤ length (now nexts) ⌝ }
+    requires { ⌜ Base (counts .steps) (held-by (now levels)) number (now xs) (now ys) (now cs) (now days) (now heads) (now nexts) ⌝ }
+    requires { ⌜ LentChains (counts .steps) (held-by (now levels)) (now xs) (now heads) (now nexts) ⌝ }
+    requires { ⌜ Counted counts (now levels) ⌝ }
     requires { ⌜ BothRoom (now one) (now two) ⌝ }
     ensures { λ r. ⌜
-        TrialKept counts (now (xs .entry)) (now (ys .entry)) (now (cs .entry)) (now (days .entry)) (now (one .entry)) (now (two .entry))
+        TrialKept counts (now (xs .entry)) (now (ys .entry)) (now (cs .entry)) (now (days .entry)) (now (levels .entry)) (now (one .entry)) (now (two .entry))
         x y c r (now (one .exit)) (now (two .exit)) ⌝ }
 {
     let number = hold_verdict(counts, x, y, c);
@@ -385,7 +387,7 @@ pub fn trial(
         return meaning::refused(counts, number);
     }
     let n = counts.steps as usize;
-    let m = counts.rules as usize;
+    let m = lent::next_free(levels, counts.rules as usize);
     let shown = show(
         n,
         m,
@@ -420,14 +422,15 @@ pub fn trial(
     meaning::conflict(counts, k)
 }
 
-// Add: STEP, AMOUNT, FULL in this order where the rule cannot be asked for; where it fits it is held and the days are brought up to date; else
-// the reason why it does not is in the list. The chains are used up.
+// Add: STEP, AMOUNT, FULL in this order where the rule cannot be asked for; where it fits it is held, under the lowest free number, and the days are brought up to date;
+// else the reason why it does not is in the list. The chains are used up.
 pub fn add(
     counts: Counts,
     xs: &mut [u16],
     ys: &mut [u16],
     cs: &mut [i32],
     days: &mut [u32],
+    levels: &mut [u8],
     heads: &mut [u16],
     nexts: &mut [u16],
     list: &mut [u32],
@@ -435,19 +438,20 @@ pub fn add(
     y: u32,
     c: i32,
 ) -> Reply
-    requires { ⌜ Base (counts .steps) (first (counts .rules)) number (now xs) (now ys) (now cs) (now days) (now heads) (now nexts) ⌝ }
-    requires { ⌜ counts .rules ≤ length (now nexts) ⌝ }
+    requires { ⌜ Base (counts .steps) (held-by (now levels)) number (now xs) (now ys) (now cs) (now days) (now heads) (now nexts) ⌝ }
+    requires { ⌜ LentChains (counts .steps) (held-by (now levels)) (now xs) (now heads) (now nexts) ⌝ }
+    requires { ⌜ Counted counts (now levels) ⌝ }
     requires { ⌜ STEPS ≤ length (now list) ⌝ }
     ensures { λ r. ⌜
-        AddKept counts (now (xs .entry)) (now (ys .entry)) (now (cs .entry)) (now (days .entry)) (now (list .entry)) x y c r
-        (now (xs .exit)) (now (ys .exit)) (now (cs .exit)) (now (days .exit)) (now (list .exit)) ⌝ }
+        AddKept counts (now (xs .entry)) (now (ys .entry)) (now (cs .entry)) (now (days .entry)) (now (levels .entry)) (now (list .entry)) x y c r
+        (now (xs .exit)) (now (ys .exit)) (now (cs .exit)) (now (days .exit)) (now (levels .exit)) (now (list .exit)) ⌝ }
 {
     let number = hold_verdict(counts, x, y, c);
     if 0 < number {
         return meaning::refused(counts, number);
     }
     let n = counts.steps as usize;
-    let m = counts.rules as usize;
+    let m = lent::next_free(levels, counts.rules as usize);
     let fitted = fit(
         n,
         m,
@@ -463,6 +467,7 @@ pub fn add(
         counts.last,
     );
     if fitted.fits {
+        levels[m] = (counts.marks + 1) as u8;
         return meaning::done(one_more(counts, fitted.last), fitted.moved, 0);
     }
     let k = why(

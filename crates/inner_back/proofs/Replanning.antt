@@ -1,5 +1,5 @@
 -- From days that keep the rules to their earliest plan: what holds before and after the gains are spread.
-use Prim.Native.Nat.{ℕ, zero, suc, _+_, _-_, _^_, _≤_, _<_}
+use Prim.Native.Nat.{ℕ, _+_, _-_, _^_, _≤_, _<_}
 use native.Mathlib.Omega.{arith}
 use mathlib.Core.Path.{sym}
 use mathlib.Core.List.{List}
@@ -71,11 +71,6 @@ module _ {n : ℕ} {H : ℕ → Type 0} {xs ys : List ℕ} {cs : List ℤ} {days
           (λ v v-in. sym (brought .moved v v-in)) earliest-less;
       past = brought .past;
     }
-
--- Where every number below m is below k, m is at most k.
-pub all-below : (m k : ℕ) → ((i : ℕ) → i < m → i < k) → m ≤ k
-all-below zero k below = omega arith
-all-below (suc m) k below = below m (omega arith)
 
 -- Gains that bring each day to k can be spread.
 pub askable : {n k : ℕ} (days : List ℕ) {gains by : List ℕ} → k < 2 ^ 32 → n ≤ length gains → n ≤ length by → Reaches n k days gains → Askable n gains by

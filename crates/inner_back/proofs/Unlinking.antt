@@ -5,21 +5,19 @@ use mathlib.Core.Path.{_≡_, subst}
 use mathlib.Core.List.{List}
 use lib.ListN.{length}
 use Rattle.meaning.specs.Tables.{at}
-use Rattle.chains.specs.Chains.{Chained, Linkable, Dropped, LentChains}
-use Rattle.chains.proofs.Laws.{chained-less}
+use Rattle.lent.specs.Lent.{first}
+use Rattle.chains.specs.Chains.{Linkable, Dropped, LentChains}
+use Rattle.chains.proofs.Laws.{first-less}
 
-module _ {n m i : ℕ} {xs heads nexts : List ℕ} (newest : m ≡ i + 1) (chains : LentChains n m xs heads nexts) (first-in : at xs i < n) where
-  pub linkable : i < length xs → i < 65535 → Linkable i xs heads nexts
-  linkable first-place link-fits = record {
+module _ {n m i : ℕ} {xs heads nexts : List ℕ} (newest : m ≡ i + 1) (chains : LentChains n (first m) xs heads nexts) (first-in : at xs i < n) where
+  pub linkable : i < length xs → Linkable i xs heads nexts
+  linkable first-place = record {
     first-place = first-place;
-    next-place = omega (arith, chains .nexts-room);
+    next-place = omega (arith, chains .on i (omega arith) .0, chains .nexts-room);
     head-place = omega (arith, chains .heads-room);
-    link-fits = link-fits;
+    link-fits = omega (arith, chains .on i (omega arith) .0);
   }
 
-  pub one-fewer : {heads′ : List ℕ} → length heads′ ≡ length heads → Dropped i xs heads nexts heads′ → LentChains n i xs heads′ nexts
-  one-fewer {heads′} same-length dropped = record {
-    chained = chained-less n i xs first-in heads nexts heads′ dropped (subst (λ (k : ℕ). Chained n k xs heads nexts) newest (chains .chained));
-    heads-room = omega (arith, chains .heads-room, same-length);
-    nexts-room = omega (arith, chains .nexts-room);
-  }
+  pub one-fewer : {heads′ nexts′ : List ℕ} → Dropped i xs heads nexts heads′ nexts′ → LentChains n (first i) xs heads′ nexts′
+  one-fewer {heads′} {nexts′} dropped =
+      first-less n i xs first-in heads nexts heads′ nexts′ dropped (subst (λ (k : ℕ). LentChains n (first k) xs heads nexts) newest chains)

@@ -1,2 +1,3 @@
--- What the contracts of going back cite.
+-- What the contracts of going back and of withdrawing cite.
 pub mod Replan
+pub mod Freeing

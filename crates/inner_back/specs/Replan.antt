@@ -5,7 +5,7 @@ use mathlib.Core.List.{List}
 use lib.ListN.{length}
 use lib.IntN.{ℤ}
 use Rattle.meaning.specs.Bounds.{STEPS, RULES}
-use Rattle.meaning.specs.Rules.{InBounds, Plan, Earliest}
+use Rattle.meaning.specs.Rules.{InBounds, Plan}
 use Rattle.meaning.specs.Tables.{at}
 use Rattle.meaning.specs.Promise.{Past}
 use Rattle.lent.specs.Lent.{Placed}
@@ -19,12 +19,6 @@ pub record Plannable (n : ℕ) (H : ℕ → Type 0) (xs ys : List ℕ) (cs : Lis
   pub days-room : n ≤ length days
   pub in-bounds : (i : ℕ) → H i → InBounds n (rules xs ys cs i)
   pub plan : Plan (rules xs ys cs) H (at days)
-
--- The days are the earliest plan of the rules held, of which those stay whose numbers S holds of.
-pub record Droppable (n : ℕ) (H S : ℕ → Type 0) (xs ys : List ℕ) (cs : List ℤ) (days : List ℕ) : Type 0 where
-  pub plannable : Plannable n H xs ys cs days
-  pub earliest : Earliest n (rules xs ys cs) H (at days)
-  pub stay : (i : ℕ) → S i → H i
 
 -- The gains and the rules they come by have a place for each of n steps.
 pub record PlanRoom (n : ℕ) (gains by : List ℕ) : Type 0 where

@@ -5,6 +5,7 @@ use native.Mathlib.Decide.{ℕ-discrete}
 use mathlib.Core.Path.{_≡_, refl, _∙_, ap}
 use mathlib.Core.List.{List}
 use mathlib.Core.Logic.{_↔_}
+use lib.IntN.{ℤ}
 use lib.ListN.{length, set, length-set}
 use lib.Seq.{getD-set-same, getD-set-other}
 use Rattle.meaning.specs.Tables.{at}
@@ -12,6 +13,7 @@ use Rattle.lent.specs.Lent.{first}
 use Rattle.chains.specs.Chains.{Chained, number}
 use Rattle.chains.proofs.Walk.{Link, link-head, link-next, Met, met-head, met-next}
 use Rattle.inner_split.specs.Verdicts.{Verdict, Judged}
+use Rattle.inner_split.specs.Contracts.{JudgedAll}
 
 -- Equivalence: a verdict on X is one on each Y that holds exactly when X does.
 pub verdict-same : {v : ℕ} {X Y : Type 0} → X ↔ Y → Verdict v Y → Verdict v X
@@ -109,3 +111,12 @@ below-judged P w steps a before after below judged j j-in step-in = by-step (ℕ
     by-step : Dec (at steps j ≡ a) → Verdict (at after j) (P j)
     by-step (yes e) = judged .decided j j-in e
     by-step (no other) = rw (judged .others j other) (below j j-in (omega arith))
+
+-- Verdicts on the watched rules are the same of rules held that are told by other words.
+pub judged-held :
+    (H G : ℕ → Type 0) (xs ys : List ℕ) (cs : List ℤ) (wxs wys : List ℕ) (wcs : List ℤ) (w : ℕ) (always never : List ℕ) → ((i : ℕ) → H i → G i) → ((i : ℕ) → G i → H i) →
+    JudgedAll G xs ys cs wxs wys wcs w always never → JudgedAll H xs ys cs wxs wys wcs w always never
+judged-held H G xs ys cs wxs wys wcs w always never to from judged = record {
+  in-all = λ j j-in. verdict-same ((λ all d a. all d (λ i h. a i (to i h))), (λ all d a. all d (λ i g. a i (from i g)))) (judged .in-all j j-in);
+  in-none = λ j j-in. verdict-same ((λ none d a. none d (λ i h. a i (to i h))), (λ none d a. none d (λ i g. a i (from i g)))) (judged .in-none j j-in);
+}

@@ -5,12 +5,12 @@ use mathlib.Core.List.{List}
 use lib.ListN.{length}
 use lib.IntN.{ℤ}
 use Rattle.meaning.specs.declared.Counts.{Counts}
-use Rattle.meaning.specs.Bounds.{STEPS, RULES, WATCHED}
+use Rattle.meaning.specs.Bounds.{STEPS, WATCHED}
 use Rattle.meaning.specs.Tables.{Columns, ColumnsRoom, rule-at, at}
 use Rattle.meaning.proofs.DayBound.{day-bound}
-use Rattle.lent.specs.Lent.{columns, tables, first}
+use Rattle.lent.specs.Lent.{columns, tables, held-by}
 use Rattle.lent.specs.Promises.{Border}
-use Rattle.chains.specs.Chains.{Chained, number, Buildable}
+use Rattle.chains.specs.Chains.{Chained, number, linked, LentChains, Buildable}
 use Rattle.spread.specs.Ground.{Ground}
 use Rattle.inner_split.specs.Carries.{Near}
 use Rattle.inner_split.specs.Contracts.{ChainsBy, Watching}
@@ -24,26 +24,26 @@ fewer-room j k c fewer room = record {
 }
 
 module _
-    (counts : Counts) (xs ys : List ℕ) (cs : List ℤ) (days marks wxs wys : List ℕ) (wcs : List ℤ)
-    (border : Border (tables counts xs ys cs days marks wxs wys wcs)) where
+    (counts : Counts) (xs ys : List ℕ) (cs : List ℤ) (days levels wxs wys : List ℕ) (wcs : List ℤ)
+    (border : Border (tables counts xs ys cs days levels wxs wys wcs)) where
   -- A spread can stand on them, with the chains of the rules.
   pub ground :
-      (heads nexts : List ℕ) → Chained (counts .steps) (counts .rules) xs heads nexts → STEPS ≤ length heads → RULES ≤ length nexts →
-      Ground (counts .steps) (first (counts .rules)) number xs ys cs days heads nexts
-  ground heads nexts chained heads-room nexts-room = record {
+      (heads nexts : List ℕ) → LentChains (counts .steps) (held-by levels) xs heads nexts →
+      Ground (counts .steps) (linked nexts) number xs ys cs days heads nexts
+  ground heads nexts chains = record {
     steps-in = border .sound .counts-in .steps-in;
-    number-in = λ i h. omega (arith, border .sound .counts-in .rules-in);
-    placed = λ i h. record {
-      first-place = omega (arith, border .sound .counts-in .rules-in, border .room .rules-room .firsts-room);
-      second-place = omega (arith, border .sound .counts-in .rules-in, border .room .rules-room .seconds-room);
-      amount-place = omega (arith, border .sound .counts-in .rules-in, border .room .rules-room .amounts-room);
+    number-in = λ i on. on .0;
+    placed = λ i on. record {
+      first-place = omega (arith, on .0, border .room .rules-room .firsts-room);
+      second-place = omega (arith, on .0, border .room .rules-room .seconds-room);
+      amount-place = omega (arith, on .0, border .room .rules-room .amounts-room);
     };
-    next-place = λ i h. omega (arith, border .sound .counts-in .rules-in);
+    next-place = λ i on. omega (arith, on .0, chains .nexts-room);
     days-room = omega (arith, border .sound .counts-in .steps-in, border .room .days-room);
-    heads-room = omega (arith, border .sound .counts-in .steps-in);
-    in-steps = λ i i-in. border .sound .rules-good i i-in .steps-in;
-    plan = border .sound .days-earliest .plan;
-    chained = chained;
+    heads-room = chains .heads-room;
+    in-steps = λ i on. border .sound .rules-good i (chains .only i on) .steps-in;
+    plan = λ i on. border .sound .days-earliest .plan i (chains .only i on);
+    chained = chains .chained;
   }
 
   -- No day comes with an amount to the gain that is asked for.
@@ -52,7 +52,7 @@ module _
       omega (
         arith,
         border .sound .counts-in .steps-in,
-        day-bound (counts .steps) (rule-at (columns xs ys cs)) (first (counts .rules)) (at days) (border .sound .rules-good) (border .sound .days-earliest) v v-in,
+        day-bound (counts .steps) (rule-at (columns xs ys cs)) (held-by levels) (at days) (border .sound .rules-good) (border .sound .days-earliest) v v-in,
       )
 
   -- The watched rules can be put on chains by the steps given, in lists with places for the full bounds.

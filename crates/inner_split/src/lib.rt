@@ -5,12 +5,12 @@
 ghost use mathlib.Core.Path.{_≡_};
 ghost use Prim.Native.Nat.{ℕ, _^_, _<_, _≤_};
 ghost use lib.ListN.{length};
-ghost use Rattle.meaning.specs.Bounds.{STEPS, RULES, WATCHED};
+ghost use Rattle.meaning.specs.Bounds.{WATCHED};
 ghost use Rattle.meaning.specs.Rules.{negation};
 ghost use Rattle.meaning.specs.Tables.{at};
-ghost use Rattle.lent.specs.Lent.{tables, first};
+ghost use Rattle.lent.specs.Lent.{tables, held-by};
 ghost use Rattle.lent.specs.Promises.{Border, Splits};
-ghost use Rattle.chains.specs.Chains.{Chained, number};
+ghost use Rattle.chains.specs.Chains.{number, linked, LentChains};
 ghost use Rattle.spread.specs.Ground.{Ground, rules};
 ghost use Rattle.inner_split.specs.Carries.{GAIN, Carries, Near, Telling};
 ghost use Rattle.inner_split.specs.Verdicts.{Verdict, Judged, Picked};
@@ -35,7 +35,6 @@ fn clear(n: usize, gains: &mut [u64])
 // arrangement.
 fn gains_from(
     n: usize,
-    m: usize,
     xs: &[u16],
     ys: &[u16],
     cs: &[i32],
@@ -46,17 +45,17 @@ fn gains_from(
     gains: &mut [u64],
     by: &mut [u16],
 )
-    requires { ⌜ Ground n (first m) number (now xs) (now ys) (now cs) (now days) (now heads) (now nexts) ⌝ }
+    requires { ⌜ Ground n (linked (now nexts)) number (now xs) (now ys) (now cs) (now days) (now heads) (now nexts) ⌝ }
     requires { ⌜ Near n (now days) ⌝ }
     requires { ⌜ a < n ⌝ }
     requires { ⌜ n ≤ length (now gains) ⌝ }
     requires { ⌜ n ≤ length (now by) ⌝ }
     ensures { λ _. ⌜
-        Telling n (rules (now (xs .entry)) (now (ys .entry)) (now (cs .entry))) (first m) (at (now (days .entry))) a
+        Telling n (rules (now (xs .entry)) (now (ys .entry)) (now (cs .entry))) (linked (now (nexts .entry))) (at (now (days .entry))) a
         (at (now (gains .exit))) ⌝ }
 {
     clear(n, gains);
-    spread::spread_one(n, m, xs, ys, cs, days, heads, nexts, a, GAIN, n, gains, by);
+    spread::spread_one(n, xs, ys, cs, days, heads, nexts, a, GAIN, n, gains, by);
 }
 
 // The day of step v with its gain.
@@ -163,7 +162,6 @@ fn judge_seconds(
 // step it is holds in none. Where a is a step of no watched rule, nothing is spread and no verdict changes.
 fn judge(
     n: usize,
-    m: usize,
     xs: &[u16],
     ys: &[u16],
     cs: &[i32],
@@ -184,19 +182,19 @@ fn judge(
     always: &mut [u8],
     never: &mut [u8],
 )
-    requires { ⌜ Ground n (first m) number (now xs) (now ys) (now cs) (now days) (now heads) (now nexts) ⌝ }
+    requires { ⌜ Ground n (linked (now nexts)) number (now xs) (now ys) (now cs) (now days) (now heads) (now nexts) ⌝ }
     requires { ⌜ Near n (now days) ⌝ }
     requires { ⌜ Watching n w (now wxs) (now wys) (now wcs) (now wxheads) (now wxnexts) (now wyheads) (now wynexts) ⌝ }
     requires { ⌜ Places n w (now gains) (now by) (now always) (now never) ⌝ }
     requires { ⌜ a < n ⌝ }
     ensures { λ _. ⌜
-        JudgedStep (first m) (now (xs .entry)) (now (ys .entry)) (now (cs .entry)) (now (wxs .entry)) (now (wys .entry)) (now (wcs .entry)) w a
+        JudgedStep (linked (now (nexts .entry))) (now (xs .entry)) (now (ys .entry)) (now (cs .entry)) (now (wxs .entry)) (now (wys .entry)) (now (wcs .entry)) w a
         (now (always .entry)) (now (never .entry)) (now (always .exit)) (now (never .exit)) ⌝ }
 {
     if lent::number_at(wxheads, a) + lent::number_at(wyheads, a) == 0 {
         return;
     }
-    gains_from(n, m, xs, ys, cs, days, heads, nexts, a, gains, by);
+    gains_from(n, xs, ys, cs, days, heads, nexts, a, gains, by);
     judge_firsts(
         n,
         w,
@@ -216,7 +214,6 @@ fn judge(
 // Passes both verdicts on every watched rule, step by step.
 fn judge_all(
     n: usize,
-    m: usize,
     xs: &[u16],
     ys: &[u16],
     cs: &[i32],
@@ -236,18 +233,17 @@ fn judge_all(
     always: &mut [u8],
     never: &mut [u8],
 )
-    requires { ⌜ Ground n (first m) number (now xs) (now ys) (now cs) (now days) (now heads) (now nexts) ⌝ }
+    requires { ⌜ Ground n (linked (now nexts)) number (now xs) (now ys) (now cs) (now days) (now heads) (now nexts) ⌝ }
     requires { ⌜ Near n (now days) ⌝ }
     requires { ⌜ Watching n w (now wxs) (now wys) (now wcs) (now wxheads) (now wxnexts) (now wyheads) (now wynexts) ⌝ }
     requires { ⌜ Places n w (now gains) (now by) (now always) (now never) ⌝ }
     ensures { λ _. ⌜
-        JudgedAll (first m) (now (xs .entry)) (now (ys .entry)) (now (cs .entry)) (now (wxs .entry)) (now (wys .entry)) (now (wcs .entry)) w
+        JudgedAll (linked (now (nexts .entry))) (now (xs .entry)) (now (ys .entry)) (now (cs .entry)) (now (wxs .entry)) (now (wys .entry)) (now (wcs .entry)) w
         (now (always .exit)) (now (never .exit)) ⌝ }
 {
     for a in 0..n {
         judge(
             n,
-            m,
             xs,
             ys,
             cs,
@@ -296,7 +292,7 @@ pub fn consequences(
     ys: &[u16],
     cs: &[i32],
     days: &[u32],
-    marks: &[u32],
+    levels: &[u8],
     wxs: &[u16],
     wys: &[u16],
     wcs: &[i32],
@@ -305,18 +301,15 @@ pub fn consequences(
     one: &mut [u32],
     two: &mut [u32],
 ) -> Reply
-    requires { ⌜ Border (tables counts (now xs) (now ys) (now cs) (now days) (now marks) (now wxs) (now wys) (now wcs)) ⌝ }
+    requires { ⌜ Border (tables counts (now xs) (now ys) (now cs) (now days) (now levels) (now wxs) (now wys) (now wcs)) ⌝ }
     requires { ⌜ counts .watched ≤ length (now one) ⌝ }
     requires { ⌜ counts .watched ≤ length (now two) ⌝ }
-    requires { ⌜ Chained (counts .steps) (counts .rules) (now xs) (now heads) (now nexts) ⌝ }
-    requires { ⌜ STEPS ≤ length (now heads) ⌝ }
-    requires { ⌜ RULES ≤ length (now nexts) ⌝ }
+    requires { ⌜ LentChains (counts .steps) (held-by (now levels)) (now xs) (now heads) (now nexts) ⌝ }
     ensures { λ r. ⌜
-        Splits counts (now (xs .entry)) (now (ys .entry)) (now (cs .entry)) (now (days .entry)) (now (marks .entry))
+        Splits counts (now (xs .entry)) (now (ys .entry)) (now (cs .entry)) (now (days .entry)) (now (levels .entry))
         (now (wxs .entry)) (now (wys .entry)) (now (wcs .entry)) (now (one .entry)) (now (two .entry)) r (now (one .exit)) (now (two .exit)) ⌝ }
 {
     let n = counts.steps as usize;
-    let m = counts.rules as usize;
     let w = counts.watched as usize;
     let mut wxheads = [0u16; meaning::STEPS];
     let mut wxnexts = [0u16; meaning::WATCHED];
@@ -330,7 +323,6 @@ pub fn consequences(
     let mut never = [0u8; meaning::WATCHED];
     judge_all(
         n,
-        m,
         xs,
         ys,
         cs,

@@ -3,7 +3,8 @@
 ghost use mathlib.Core.Path.{_≡_};
 ghost use Prim.Native.Nat.{_≤_};
 ghost use lib.ListN.{length};
-ghost use Rattle.inner_watch.specs.Cleared.{Cleared};
+ghost use Rattle.meaning.specs.Bounds.{RULES};
+ghost use Rattle.inner_watch.specs.Cleared.{Cleared, Freed};
 ghost use mathlib.Core.List.{[]};
 ghost use Rattle.meaning.specs.Promise.{First};
 ghost use Rattle.meaning.specs.Calls.{rule-needs};
@@ -48,7 +49,7 @@ pub fn watch(
     ys: &[u16],
     cs: &[i32],
     days: &[u32],
-    marks: &[u32],
+    levels: &[u8],
     wxs: &mut [u16],
     wys: &mut [u16],
     wcs: &mut [i32],
@@ -56,9 +57,9 @@ pub fn watch(
     y: u32,
     c: i32,
 ) -> Reply
-    requires { ⌜ Border (tables counts (now xs) (now ys) (now cs) (now days) (now marks) (now wxs) (now wys) (now wcs)) ⌝ }
+    requires { ⌜ Border (tables counts (now xs) (now ys) (now cs) (now days) (now levels) (now wxs) (now wys) (now wcs)) ⌝ }
     ensures { λ r. ⌜
-        Watches counts (now (xs .entry)) (now (ys .entry)) (now (cs .entry)) (now (days .entry)) (now (marks .entry))
+        Watches counts (now (xs .entry)) (now (ys .entry)) (now (cs .entry)) (now (days .entry)) (now (levels .entry))
         (now (wxs .entry)) (now (wys .entry)) (now (wcs .entry)) x y c r (now (wxs .exit)) (now (wys .exit)) (now (wcs .exit)) ⌝ }
 {
     let number = rule_verdict(counts.steps, x, y, c);
@@ -73,28 +74,26 @@ pub fn watch(
     meaning::done(meaning::watched_now(counts, counts.watched + 1), 0, 0)
 }
 
-// Mark: FULL where no place is left; else the rule count is the newest mark.
+// Mark: FULL where no more may be open; else one more mark is.
 pub fn mark(
     counts: Counts,
     xs: &[u16],
     ys: &[u16],
     cs: &[i32],
     days: &[u32],
-    marks: &mut [u32],
+    levels: &[u8],
     wxs: &[u16],
     wys: &[u16],
     wcs: &[i32],
 ) -> Reply
-    requires { ⌜ Border (tables counts (now xs) (now ys) (now cs) (now days) (now marks) (now wxs) (now wys) (now wcs)) ⌝ }
+    requires { ⌜ Border (tables counts (now xs) (now ys) (now cs) (now days) (now levels) (now wxs) (now wys) (now wcs)) ⌝ }
     ensures { λ r. ⌜
-        Marks counts (now (xs .entry)) (now (ys .entry)) (now (cs .entry)) (now (days .entry)) (now (marks .entry))
-        (now (wxs .entry)) (now (wys .entry)) (now (wcs .entry)) r (now (marks .exit)) ⌝ }
+        Marks counts (now (xs .entry)) (now (ys .entry)) (now (cs .entry)) (now (days .entry)) (now (levels .entry))
+        (now (wxs .entry)) (now (wys .entry)) (now (wcs .entry)) r ⌝ }
 {
-    let at = counts.marks as usize;
-    if meaning::MARKS <= at {
+    if meaning::MARKS <= counts.marks as usize {
         return meaning::refused(counts, meaning::FULL);
     }
-    marks[at] = counts.rules;
     meaning::done(meaning::marks_now(counts, counts.marks + 1), 0, 0)
 }
 
@@ -105,5 +104,15 @@ pub fn clear_days(n: usize, days: &mut [u32])
 {
     for v in 0..n {
         days[v] = 0;
+    }
+}
+
+// Frees every place: the first RULES cells are 0.
+pub fn free_all(levels: &mut [u8])
+    requires { ⌜ RULES ≤ length (now levels) ⌝ }
+    ensures { λ _. ⌜ Freed RULES (now (levels .entry)) (now (levels .exit)) ⌝ }
+{
+    for i in 0..meaning::RULES {
+        levels[i] = 0;
     }
 }

@@ -2,3 +2,4 @@
 pub mod Amounts
 pub mod Tests
 pub mod Watching
+pub mod Cells

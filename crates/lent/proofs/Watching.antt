@@ -1,4 +1,4 @@
--- Soundness in two parts: what is asked of the counts, the rules held, the days and the marks, and what is asked of the watched rules. Idle ones always have it,
+-- Soundness in two parts: what is asked of the counts, the rules held, the days and the levels, and what is asked of the watched rules. Idle ones always have it,
 -- so tables with idle watched rules are sound by the first part alone.
 use Prim.Native.Nat.{ℕ, _≤_, _<_}
 use native.Mathlib.Omega.{arith}
@@ -45,13 +45,13 @@ idle-fine c some few = record {
 -- The rest of it goes with any watched rules that are fine.
 pub watching-border : {t : Tables} {w : Columns} → Border t → WatchedFine (t .counts) w → Border (watching w t)
 watching-border b fine = record {
-  room = record { rules-room = b .room .rules-room; days-room = b .room .days-room; marks-room = b .room .marks-room; watched-room = fine .room };
+  room = record { rules-room = b .room .rules-room; days-room = b .room .days-room; levels-room = b .room .levels-room; watched-room = fine .room };
   sound = record {
     counts-in = b .sound .counts-in;
     rules-good = b .sound .rules-good;
     watched-good = fine .good;
-    marks-never-fall = b .sound .marks-never-fall;
-    marks-held = b .sound .marks-held;
+    levels-open = b .sound .levels-open;
+    rules-counted = b .sound .rules-counted;
     days-earliest = b .sound .days-earliest;
     last-largest = b .sound .last-largest;
   };

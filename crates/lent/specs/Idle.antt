@@ -16,11 +16,11 @@ idle = columns (replicate {A = ℕ} WATCHED 0) (replicate {A = ℕ} WATCHED 0) (
 
 -- The tables with other watched rules.
 abbrev pub watching : Columns → Tables → Tables
-watching w t = record { counts = t .counts; rules = t .rules; days = t .days; marks = t .marks; watched = w }
+watching w t = record { counts = t .counts; rules = t .rules; days = t .days; levels = t .levels; watched = w }
 
--- The counts, the rules held, the days and the marks that are lent, as tables with idle watched rules.
+-- The counts, the rules, the days and the levels that are lent, as tables with idle watched rules.
 abbrev pub unwatched : Counts → List ℕ → List ℕ → List ℤ → List ℕ → List ℕ → Tables
-unwatched counts xs ys cs days marks = record { counts = counts; rules = columns xs ys cs; days = days; marks = marks; watched = idle }
+unwatched counts xs ys cs days levels = record { counts = counts; rules = columns xs ys cs; days = days; levels = levels; watched = idle }
 
 -- The watched rules have room and are within bounds.
 pub record WatchedFine (c : Counts) (w : Columns) : Type 0 where

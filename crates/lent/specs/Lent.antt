@@ -1,10 +1,11 @@
 -- The lists that are lent to a function, as the tables of the meaning; and what must be in reach for a rule to be read.
-use Prim.Native.Nat.{ℕ, _+_, _<_}
+use Prim.Native.Nat.{ℕ, _+_, _≤_, _<_}
 use mathlib.Core.Path.{_≡_}
 use mathlib.Core.List.{List}
 use lib.ListN.{length, getD}
 use lib.IntN.{ℤ, pos}
 use Rattle.meaning.specs.declared.Counts.{Counts}
+use Rattle.meaning.specs.Bounds.{RULES}
 use Rattle.meaning.specs.Rules.{Keeps}
 use Rattle.meaning.specs.Reckoning.{up, dn}
 use Rattle.meaning.specs.Tables.{Columns, Tables, rule-at, at}
@@ -13,19 +14,31 @@ use Rattle.meaning.specs.Tables.{Columns, Tables, rule-at, at}
 abbrev pub columns : List ℕ → List ℕ → List ℤ → Columns
 columns xs ys cs = record { firsts = xs; seconds = ys; amounts = cs }
 
--- All that is lent, as the office tables: the counts, the rules held, the days, the marks and the watched rules.
+-- All that is lent, as the office tables: the counts, the rules, the days, the level of each rule and the watched rules.
 abbrev pub tables : Counts → List ℕ → List ℕ → List ℤ → List ℕ → List ℕ → List ℕ → List ℕ → List ℤ → Tables
-tables counts xs ys cs days marks wxs wys wcs = record {
+tables counts xs ys cs days levels wxs wys wcs = record {
   counts = counts;
   rules = columns xs ys cs;
   days = days;
-  marks = marks;
+  levels = levels;
   watched = columns wxs wys wcs;
 }
 
--- The numbers below m. Of m rules in order of adding these are the numbers held.
+-- The numbers below m: of m watched rules, and of places in order, those passed.
 abbrev pub first : ℕ → ℕ → Type 0
 first m i = i < m
+
+-- The numbers held, where the levels are lent: the places whose cell is not 0.
+abbrev pub held-by : List ℕ → ℕ → Type 0
+held-by levels i = (i < RULES) × (0 < at levels i)
+
+-- Every place below m is held.
+abbrev pub AllHeld : ℕ → List ℕ → Type 0
+AllHeld m levels = (i : ℕ) → i < m → 0 < at levels i
+
+-- Every place from number m on is free.
+abbrev pub FreeFrom : ℕ → List ℕ → Type 0
+FreeFrom m levels = (i : ℕ) → m ≤ i → i < RULES → at levels i ≡ 0
 
 -- An amount is counted from so far below 0: no i32 is lower, so that what is counted is a natural number.
 abbrev pub BIAS : ℕ

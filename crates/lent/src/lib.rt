@@ -5,9 +5,10 @@ ghost use Prim.Native.Nat.{_≤_, _<_};
 ghost use lib.ListN.{length, getD};
 ghost use lib.IntN.{pos};
 ghost use Rattle.meaning.specs.Rules.{InAmount, InBounds, largest};
-ghost use Rattle.meaning.specs.Tables.{rule-at, at};
+ghost use Rattle.meaning.specs.Bounds.{RULES};
+ghost use Rattle.meaning.specs.Tables.{rule-at, at, taken, lowest-free};
 ghost use Rattle.lent.specs.Decides.{Decides};
-ghost use Rattle.lent.specs.Lent.{columns, Biased, KeptAt, Placed, Limited, Dated, Limit, Spare};
+ghost use Rattle.lent.specs.Lent.{columns, AllHeld, FreeFrom, Biased, KeptAt, Placed, Limited, Dated, Limit, Spare};
 
 // An amount is counted from so far below 0; no i32 is lower.
 pub const BIAS: u64 = 2147483648;
@@ -28,6 +29,60 @@ pub fn day_at(list: &[u32], i: usize) -> u64
     ensures { λ r. ⌜ r ≡ getD (now (list .entry)) i 0 ⌝ }
 {
     list[i] as u64
+}
+
+// The level's cell at place i, which is 0 where the place is free.
+pub fn level_at(levels: &[u8], i: usize) -> usize
+    requires { ⌜ i < length (now levels) ⌝ }
+    ensures { λ r. ⌜ r ≡ at (now (levels .entry)) i ⌝ }
+{
+    levels[i] as usize
+}
+
+// Whether every place below m is held: their least cell is not 0. Every cell is looked at, so that many are at a time.
+pub fn all_held(levels: &[u8], m: usize) -> bool
+    requires { ⌜ m ≤ length (now levels) ⌝ }
+    ensures { λ r. ⌜ Decides r (AllHeld m (now (levels .entry))) ⌝ }
+{
+    let mut least: u8 = 255;
+    for i in 0..m {
+        let cell = levels[i];
+        if cell < least {
+            least = cell;
+        }
+    }
+    least != 0
+}
+
+// Whether every place from number m on is free: their largest cell is 0. Every cell is looked at, so that many are at a time.
+pub fn free_from(m: usize, levels: &[u8]) -> bool
+    requires { ⌜ RULES ≤ length (now levels) ⌝ }
+    ensures { λ r. ⌜ Decides r (FreeFrom m (now (levels .entry))) ⌝ }
+{
+    let mut most: u8 = 0;
+    for i in m..meaning::RULES {
+        let cell = levels[i];
+        if most < cell {
+            most = cell;
+        }
+    }
+    most == 0
+}
+
+// The lowest free place, RULES where none is, where so many are held: where these are the first, it is the one behind them; else it is looked for.
+pub fn next_free(levels: &[u8], rules: usize) -> usize
+    requires { ⌜ RULES ≤ length (now levels) ⌝ }
+    requires { ⌜ rules ≡ taken RULES (now levels) ⌝ }
+    ensures { λ r. ⌜ r ≡ lowest-free RULES (now (levels .entry)) ⌝ }
+{
+    if all_held(levels, rules) {
+        return rules;
+    }
+    let mut i: usize = 0;
+    while level_at(levels, i) != 0 {
+        i += 1;
+    }
+    i
 }
 
 // The last day: the largest of the first n days, and 0 where n is 0.

@@ -4,3 +4,4 @@ pub mod Filing
 pub mod Pushing
 pub mod Popping
 pub mod Laws
+pub mod Ordering

@@ -1,47 +1,53 @@
 -- Levels of a script: several marks set or dropped at once, and the days that are kept of open marks.
-use Prim.Native.Nat.{ℕ, zero, suc, _+_, _*_, _-_, _%_, _≤_, _<_}
+use Prim.Native.Nat.{ℕ, _+_, _*_, _-_, _%_, _≤_, _<_}
 use mathlib.Core.Path.{_≡_}
 use mathlib.Core.List.{List}
-use lib.ListN.{length, set}
+use lib.ListN.{length}
 use Rattle.meaning.specs.declared.Counts.{Counts}
-use Rattle.meaning.specs.Bounds.{STEPS}
+use Rattle.meaning.specs.Bounds.{STEPS, RULES}
 use Rattle.meaning.specs.Rules.{Rule, Earliest, largest}
-use Rattle.meaning.specs.Tables.{Columns, Tables, rule-at, at, Sound, with-mark, without-mark, with-days, marks-now}
+use Rattle.meaning.specs.Tables.{Columns, Tables, rule-at, at, Sound, down-to, with-days, marks-now}
 use Rattle.meaning.specs.Promise.{Planned}
 use Rattle.meaning.specs.Calls.{rules-of, held-in}
+use Rattle.lent.specs.Lent.{held-by}
 
--- The tables with n more marks: as n times Mark.
-unfoldable pub with-marks : ℕ → Tables → Tables
-with-marks zero t = t
-with-marks (suc n) t = with-marks n (with-mark t)
-
--- The marks with r written from place k on, n times; the counts with n more marks.
-unfoldable pub marked : (n r k : ℕ) → List ℕ → List ℕ
-marked zero r k marks = marks
-marked (suc n) r k marks = marked n r (k + 1) (set marks k r)
-
+-- The counts with n more marks open.
 abbrev pub more-marks : ℕ → Counts → Counts
 more-marks n c = marks-now (c .marks + n) c
 
--- The tables with the newest n marks forgotten, and no rule dropped.
-abbrev pub fewer-marks : ℕ → Tables → Tables
-fewer-marks n t = record {
-  counts = marks-now (t .counts .marks - n) (t .counts);
+-- The tables with n more marks open.
+abbrev pub with-marks : ℕ → Tables → Tables
+with-marks n t = record {
+  counts = more-marks n (t .counts);
   rules = t .rules;
   days = t .days;
-  marks = t .marks;
+  levels = t .levels;
   watched = t .watched;
 }
 
--- The tables without the newest n marks and every rule added after the oldest of them. The days are not yet brought up to date.
-abbrev pub without-marks : ℕ → Tables → Tables
-without-marks zero t = t
-without-marks (suc n) t = without-mark (fewer-marks n t)
-
--- n marks are dropped, and every rule added after the oldest of them; the days are the earliest plan of the rules left.
+-- n marks are dropped, and every rule added while one of them was open; the days are the earliest plan of the rules left.
 pub record Popped (n : ℕ) (before after : Tables) : Type 0 where
-  pub dropped : after ≡ with-days (after .days) (without-marks n before)
-  pub planned : Planned (before .counts .steps) (rules-of before) (held-in (without-marks n before)) (before .days) (after .days)
+  pub dropped : after ≡ with-days (after .days) (down-to (before .counts .marks - n) before)
+  pub planned : Planned (before .counts .steps) (rules-of before) (held-in (down-to (before .counts .marks - n) before)) (before .days) (after .days)
+
+-- Rules that were added one after the other, and none withdrawn but by dropping marks: the first m places are held and no other, and no rule has a lower level than one before it.
+pub record InOrder (m : ℕ) (levels : List ℕ) : Type 0 where
+  pub all-held : (i : ℕ) → i < m → 0 < at levels i
+  pub no-other : (i : ℕ) → m ≤ i → i < RULES → at levels i ≡ 0
+  pub never-fall : (i j : ℕ) → i ≤ j → j < m → at levels i ≤ at levels j
+
+-- Of m rules those from number c on have levels above k, and no other has.
+pub record CutAt (m k : ℕ) (levels : List ℕ) (c : ℕ) : Type 0 where
+  pub within : c ≤ m
+  pub low : (i : ℕ) → i < c → at levels i ≤ k + 1
+  pub high : (i : ℕ) → c ≤ i → i < m → k + 1 < at levels i
+
+-- The places from c up to m were freed; all others are as before.
+pub record FreedFrom (c m : ℕ) (levels levels′ : List ℕ) : Type 0 where
+  pub same-length : length levels′ ≡ length levels
+  pub freed : (i : ℕ) → c ≤ i → i < m → at levels′ i ≡ 0
+  pub below : (i : ℕ) → i < c → at levels′ i ≡ at levels i
+  pub above : (i : ℕ) → m ≤ i → at levels′ i ≡ at levels i
 
 -- Kept days stand in so many rows, which the marks use in turn.
 abbrev pub ROWS : ℕ
@@ -67,24 +73,28 @@ pub record RowNamed (k : ℕ) (kept : List ℕ) : Type 0 where
   pub has-row : HasRow k (length kept)
   pub named : at kept (row-of k + STEPS) ≡ k + 1
 
--- The days in the row of the mark at place k are the earliest plan of the first m rules, and the row has the last of them.
-pub record RowPlan (R : ℕ → Rule) (steps m k : ℕ) (kept : List ℕ) : Type 0 where
-  pub earliest : Earliest steps R (λ i. i < m) (λ v. at kept (row-of k + v))
+-- The rules held whose level is not above k: they were added before the mark at place k was set.
+abbrev pub held-to : ℕ → List ℕ → ℕ → Type 0
+held-to k levels i = held-by levels i × (at levels i ≤ k + 1)
+
+-- The days in the row of the mark at place k are the earliest plan of the rules that H holds of, and the row has the last of them.
+pub record RowPlan (R : ℕ → Rule) (steps : ℕ) (H : ℕ → Type 0) (k : ℕ) (kept : List ℕ) : Type 0 where
+  pub earliest : Earliest steps R H (λ v. at kept (row-of k + v))
   pub last-day : at kept (row-of k + LAST) ≡ largest steps (λ v. at kept (row-of k + v))
 
 -- They are where the row names the mark.
-abbrev pub KeptFor : (R : ℕ → Rule) (steps m k : ℕ) (kept : List ℕ) → Type 0
-KeptFor R steps m k kept = RowNamed k kept → RowPlan R steps m k kept
+abbrev pub KeptFor : (R : ℕ → Rule) (steps : ℕ) (H : ℕ → Type 0) (k : ℕ) (kept : List ℕ) → Type 0
+KeptFor R steps H k kept = RowNamed k kept → RowPlan R steps H k kept
 
--- Where the row of an open mark names it, the row has the earliest plan of the rules held when the mark was set. A row that names no open mark tells nothing.
-pub record KeptDays (R : ℕ → Rule) (steps open-marks : ℕ) (marks kept : List ℕ) : Type 0 where
-  pub kept-earliest : (k : ℕ) → k < open-marks → KeptFor R steps (at marks k) k kept
+-- Where the row of an open mark names it, the row has the earliest plan of the rules added before the mark was set. A row that names no open mark tells nothing.
+pub record KeptDays (R : ℕ → Rule) (steps open-marks : ℕ) (levels kept : List ℕ) : Type 0 where
+  pub kept-earliest : (k : ℕ) → k < open-marks → KeptFor R steps (held-to k levels) k kept
 
 -- Whatever rules the tables were sound with: where the days of the marks then open were kept, those of the marks now open are kept.
-abbrev pub KeepsDays : Counts → (days marks kept : List ℕ) → Counts → (marks′ kept′ : List ℕ) → Type 0
-KeepsDays c days marks kept c′ marks′ kept′ =
-    (rules watched : Columns) → Sound (record { counts = c; rules = rules; days = days; marks = marks; watched = watched }) →
-    KeptDays (rule-at rules) (c .steps) (c .marks) marks kept → KeptDays (rule-at rules) (c .steps) (c′ .marks) marks′ kept′
+abbrev pub KeepsDays : Counts → (days kept : List ℕ) → Counts → (kept′ : List ℕ) → Type 0
+KeepsDays c days kept c′ kept′ =
+    (rules watched : Columns) (levels : List ℕ) → Sound (record { counts = c; rules = rules; days = days; levels = levels; watched = watched }) →
+    KeptDays (rule-at rules) (c .steps) (c .marks) levels kept → KeptDays (rule-at rules) (c .steps) (c′ .marks) levels kept′
 
 -- n places of one list, from a on, were copied to another, from b on; its other places are as before.
 pub record Copied (n : ℕ) (from : List ℕ) (a : ℕ) (to : List ℕ) (b : ℕ) (to′ : List ℕ) : Type 0 where

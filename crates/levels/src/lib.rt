@@ -1,20 +1,22 @@
 // Levels of a script: setting and dropping several marks at once. Where the days of an open mark are kept a pop copies them, else it plans afresh.
 // A table of kept days has ROWS rows, which the marks use in turn: mark k has row k % ROWS, and a later mark takes it over.
 ghost use mathlib.Core.Path.{_≡_};
+ghost use mathlib.Core.Bool.{true, false};
 ghost use Prim.Native.Nat.{_+_, _-_, _*_, _≤_, _<_};
 ghost use lib.ListN.{length};
-ghost use Rattle.meaning.specs.Bounds.{STEPS, MARKS};
-ghost use Rattle.meaning.specs.Rules.{largest};
-ghost use Rattle.meaning.specs.Tables.{rule-at, at};
+ghost use Rattle.meaning.specs.Bounds.{STEPS, RULES, MARKS};
+ghost use Rattle.meaning.specs.Rules.{Earliest, largest};
+ghost use Rattle.meaning.specs.Tables.{rule-at, at, taken, freed-above};
 ghost use Rattle.meaning.specs.Promise.{Planned};
-ghost use Rattle.lent.specs.Lent.{columns, first};
+ghost use Rattle.lent.specs.Lent.{columns, held-by};
 ghost use Rattle.lent.specs.Idle.{unwatched};
 ghost use Rattle.lent.specs.Promises.{Border};
 ghost use Rattle.lent.specs.Decides.{Decides};
 ghost use Rattle.spread.specs.Ground.{rules};
-ghost use Rattle.chains.specs.Chains.{LentChains};
-ghost use Rattle.inner_back.specs.Replan.{Droppable};
-ghost use Rattle.levels.specs.Levels.{marked, more-marks, row-of, LAST, Popped, HasRow, RowNamed, KeptFor, KeptDays, KeepsDays, Copied, Filed};
+ghost use Rattle.chains.specs.Chains.{linked, LentChains};
+ghost use Rattle.inner_back.specs.Replan.{Plannable};
+ghost use Rattle.inner_back.specs.Freeing.{Freeable};
+ghost use Rattle.levels.specs.Levels.{more-marks, row-of, LAST, Popped, InOrder, CutAt, FreedFrom, HasRow, RowNamed, KeptFor, KeptDays, KeepsDays, Copied, Filed};
 use meaning::Counts;
 
 // So many rows of kept days are used in turn.
@@ -80,19 +82,16 @@ fn keep_days(n: usize, days: &[u32], last: u32, kept: &mut [u32], k: usize)
 }
 
 // Sets n marks. The days of those that have a row are kept there.
-pub fn push(counts: Counts, days: &[u32], marks: &mut [u32], kept: &mut [u32], n: usize) -> Counts
+pub fn push(counts: Counts, days: &[u32], kept: &mut [u32], n: usize) -> Counts
     requires { ⌜ counts .steps ≤ STEPS ⌝ }
     requires { ⌜ STEPS ≤ length (now days) ⌝ }
-    requires { ⌜ MARKS ≤ length (now marks) ⌝ }
     requires { ⌜ counts .marks + n ≤ MARKS ⌝ }
     ensures { λ r. ⌜ r ≡ more-marks n counts ⌝ }
-    ensures { λ r. ⌜ now (marks .exit) ≡ marked n (counts .rules) (counts .marks) (now (marks .entry)) ⌝ }
-    ensures { λ r. ⌜ KeepsDays counts (now (days .entry)) (now (marks .entry)) (now (kept .entry)) r (now (marks .exit)) (now (kept .exit)) ⌝ }
+    ensures { λ r. ⌜ KeepsDays counts (now (days .entry)) (now (kept .entry)) r (now (kept .exit)) ⌝ }
 {
     let first = counts.marks as usize;
     let steps = counts.steps as usize;
     for k in first..first + n {
-        marks[k] = counts.rules;
         if has_row(k, kept.len()) {
             keep_days(steps, days, counts.last, kept, k);
         }
@@ -100,40 +99,40 @@ pub fn push(counts: Counts, days: &[u32], marks: &mut [u32], kept: &mut [u32], n
     meaning::marks_now(counts, (first + n) as u32)
 }
 
-// Drops the newest n marks and every rule added after the oldest of them.
+// Drops the newest n marks and every rule added while one of them was open. Rules that are known to be in order are taken off from the newest on.
 pub fn pop(
     counts: Counts,
     xs: &[u16],
     ys: &[u16],
     cs: &[i32],
     days: &mut [u32],
-    marks: &[u32],
+    levels: &mut [u8],
     heads: &mut [u16],
-    nexts: &[u16],
+    nexts: &mut [u16],
     kept: &[u32],
     n: usize,
+    in_order: bool,
 ) -> Counts
-    requires { ⌜ Border (unwatched counts (now xs) (now ys) (now cs) (now days) (now marks)) ⌝ }
+    requires { ⌜ Border (unwatched counts (now xs) (now ys) (now cs) (now days) (now levels)) ⌝ }
     requires { ⌜ n ≤ counts .marks ⌝ }
-    requires { ⌜ LentChains (counts .steps) (counts .rules) (now xs) (now heads) (now nexts) ⌝ }
-    requires { ⌜ KeptDays (rule-at (columns (now xs) (now ys) (now cs))) (counts .steps) (counts .marks) (now marks) (now kept) ⌝ }
+    requires { ⌜ LentChains (counts .steps) (held-by (now levels)) (now xs) (now heads) (now nexts) ⌝ }
+    requires { ⌜ KeptDays (rule-at (columns (now xs) (now ys) (now cs))) (counts .steps) (counts .marks) (now levels) (now kept) ⌝ }
+    requires { ⌜ (in_order ≡ true → InOrder (counts .rules) (now levels)) ⌝ }
     ensures { λ r. ⌜
-        Popped n (unwatched counts (now (xs .entry)) (now (ys .entry)) (now (cs .entry)) (now (days .entry)) (now (marks .entry)))
-        (unwatched r (now (xs .entry)) (now (ys .entry)) (now (cs .entry)) (now (days .exit)) (now (marks .entry))) ⌝ }
-    ensures { λ r. ⌜ LentChains (r .steps) (r .rules) (now (xs .entry)) (now (heads .exit)) (now (nexts .entry)) ⌝ }
+        Popped n (unwatched counts (now (xs .entry)) (now (ys .entry)) (now (cs .entry)) (now (days .entry)) (now (levels .entry)))
+        (unwatched r (now (xs .entry)) (now (ys .entry)) (now (cs .entry)) (now (days .exit)) (now (levels .exit))) ⌝ }
+    ensures { λ r. ⌜ LentChains (r .steps) (held-by (now (levels .exit))) (now (xs .entry)) (now (heads .exit)) (now (nexts .exit)) ⌝ }
 {
     if n == 0 {
         return counts;
     }
     let k = counts.marks as usize - n;
-    let m = marks[k];
     let steps = counts.steps as usize;
     let rules = counts.rules as usize;
-    inner_back::drop_rules(m as usize, rules, steps, xs, heads, nexts);
+    let left = free(steps, k, rules, xs, levels, heads, nexts, in_order);
     let last = days_at(
         steps,
-        rules,
-        m as usize,
+        left < rules,
         xs,
         ys,
         cs,
@@ -145,17 +144,91 @@ pub fn pop(
         counts.last,
     );
     meaning::last_now(
-        meaning::marks_now(meaning::rules_now(counts, m), k as u32),
+        meaning::marks_now(meaning::rules_now(counts, left as u32), k as u32),
         last,
     )
 }
 
-// Brings the days of n steps, which are the earliest plan of m rules and have that last day, to the earliest plan of the first l rules, those held when mark k was
-// set, whose chains are lent. Gives back the last day then. Where the days of the mark are kept, they are copied.
+// Frees every place of a level above k, of m rules held over n steps, and leaves the chains of the rules that stay. Gives back how many these are.
+fn free(
+    n: usize,
+    k: usize,
+    m: usize,
+    xs: &[u16],
+    levels: &mut [u8],
+    heads: &mut [u16],
+    nexts: &mut [u16],
+    in_order: bool,
+) -> usize
+    requires { ⌜ Freeable n k m (now xs) (now levels) ⌝ }
+    requires { ⌜ LentChains n (held-by (now levels)) (now xs) (now heads) (now nexts) ⌝ }
+    requires { ⌜ (in_order ≡ true → InOrder m (now levels)) ⌝ }
+    ensures { λ _. ⌜ now (levels .exit) ≡ freed-above RULES k (now (levels .entry)) ⌝ }
+    ensures { λ r. ⌜ r ≡ taken RULES (now (levels .exit)) ⌝ }
+    ensures { λ _. ⌜ LentChains n (held-by (now (levels .exit))) (now (xs .entry)) (now (heads .exit)) (now (nexts .exit)) ⌝ }
+{
+    if in_order {
+        return free_newest(n, k, m, xs, levels, heads, nexts);
+    }
+    inner_back::free_above(n, k, m, xs, levels, heads, nexts)
+}
+
+// The same, where the rules are in order: those that go are the newest.
+fn free_newest(
+    n: usize,
+    k: usize,
+    m: usize,
+    xs: &[u16],
+    levels: &mut [u8],
+    heads: &mut [u16],
+    nexts: &mut [u16],
+) -> usize
+    requires { ⌜ Freeable n k m (now xs) (now levels) ⌝ }
+    requires { ⌜ LentChains n (held-by (now levels)) (now xs) (now heads) (now nexts) ⌝ }
+    requires { ⌜ InOrder m (now levels) ⌝ }
+    ensures { λ _. ⌜ now (levels .exit) ≡ freed-above RULES k (now (levels .entry)) ⌝ }
+    ensures { λ r. ⌜ r ≡ taken RULES (now (levels .exit)) ⌝ }
+    ensures { λ _. ⌜ LentChains n (held-by (now (levels .exit))) (now (xs .entry)) (now (heads .exit)) (now (nexts .exit)) ⌝ }
+{
+    let left = cut(k, m, levels);
+    inner_back::drop_rules(left, m, n, xs, heads, nexts);
+    free_from(left, m, levels);
+    left
+}
+
+// Of m rules in order, the number of the first whose level is above k; m where none is.
+fn cut(k: usize, m: usize, levels: &[u8]) -> usize
+    requires { ⌜ InOrder m (now levels) ⌝ }
+    requires { ⌜ m ≤ length (now levels) ⌝ }
+    requires { ⌜ k ≤ MARKS ⌝ }
+    ensures { λ r. ⌜ CutAt m k (now (levels .entry)) r ⌝ }
+{
+    let mut i = m;
+    while 0 < i {
+        if levels[i - 1] as usize <= k + 1 {
+            return i;
+        }
+        i -= 1;
+    }
+    0
+}
+
+// Frees the places from c up to m.
+fn free_from(c: usize, m: usize, levels: &mut [u8])
+    requires { ⌜ c ≤ m ⌝ }
+    requires { ⌜ m ≤ length (now levels) ⌝ }
+    ensures { λ _. ⌜ FreedFrom c m (now (levels .entry)) (now (levels .exit)) ⌝ }
+{
+    for i in c..m {
+        levels[i] = 0;
+    }
+}
+
+// Brings the days of n steps, which keep every rule on the chains, those added before mark k was set, and have that last day, to the earliest plan of these rules. Gives
+// back the last day then. Where the days of the mark are kept, they are copied; else, where nothing is loose, the days are that plan as they are.
 fn days_at(
     n: usize,
-    m: usize,
-    l: usize,
+    loose: bool,
     xs: &[u16],
     ys: &[u16],
     cs: &[i32],
@@ -166,12 +239,13 @@ fn days_at(
     k: usize,
     last: u32,
 ) -> u32
-    requires { ⌜ Droppable n (first m) (first l) (now xs) (now ys) (now cs) (now days) ⌝ }
-    requires { ⌜ LentChains n l (now xs) (now heads) (now nexts) ⌝ }
-    requires { ⌜ k < MARKS ⌝ }
-    requires { ⌜ KeptFor (rules (now xs) (now ys) (now cs)) n l k (now kept) ⌝ }
+    requires { ⌜ Plannable n (linked (now nexts)) (now xs) (now ys) (now cs) (now days) ⌝ }
+    requires { ⌜ (loose ≡ false → Earliest n (rules (now xs) (now ys) (now cs)) (linked (now nexts)) (at (now days))) ⌝ }
+    requires { ⌜ LentChains n (linked (now nexts)) (now xs) (now heads) (now nexts) ⌝ }
     requires { ⌜ last ≡ largest n (at (now days)) ⌝ }
-    ensures { λ _. ⌜ Planned n (rules (now (xs .entry)) (now (ys .entry)) (now (cs .entry))) (first l) (now (days .entry)) (now (days .exit)) ⌝ }
+    requires { ⌜ k < MARKS ⌝ }
+    requires { ⌜ KeptFor (rules (now xs) (now ys) (now cs)) n (linked (now nexts)) k (now kept) ⌝ }
+    ensures { λ _. ⌜ Planned n (rules (now (xs .entry)) (now (ys .entry)) (now (cs .entry))) (linked (now (nexts .entry))) (now (days .entry)) (now (days .exit)) ⌝ }
     ensures { λ r. ⌜ r ≡ largest n (at (now (days .exit))) ⌝ }
 {
     if holds(k, kept) {
@@ -179,5 +253,5 @@ fn days_at(
         copy_days(n, kept, row, days, 0);
         return kept[row + LAST];
     }
-    inner_back::keep_first(n, m, l, xs, ys, cs, days, heads, nexts, last)
+    inner_back::replan(n, loose, xs, ys, cs, days, heads, nexts, last)
 }

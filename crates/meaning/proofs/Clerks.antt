@@ -8,12 +8,13 @@ use lib.IntN.{ℤ, pos, negℤ}
 use Rattle.meaning.specs.Rules.{rule}
 use Rattle.meaning.specs.Tables.{Tables, Room}
 use Rattle.meaning.specs.Promise.{Given}
+use Rattle.meaning.specs.Calls.{held-in}
 use Rattle.meaning.specs.Runs.{Call, Made}
 use Rattle.meaning.specs.Screen.{HeldToo, SameQuestion, SameScreen}
 use Rattle.meaning.specs.Cases.{Row, Days, Done, Possible, Says}
 use Rattle.meaning.proofs.Tests.{both}
 use Rattle.meaning.proofs.Screens.{same-screen}
-use Rattle.meaning.proofs.Starred.{Shown, Shows, next-shown, fresh-shown, row-test, rows-test, row-holds, fresh-holds}
+use Rattle.meaning.proofs.Starred.{Shown, Shows, next-shown, fresh-shown, row-test, rows-test, row-holds, fresh-holds, shown-held}
 
 abbrev minus : ℕ → ℤ
 minus n = negℤ (pos n)
@@ -63,16 +64,28 @@ begun = fresh-shown (days 0 0 0 0)
 
 -- Tables that show what A has put in and tables that show what B has put in: the same question.
 module _ (t u : Tables) (a : Shows t (shown-after begun (clerk-a ++ both-ask))) (b : Shows u (shown-after begun (clerk-b ++ both-ask))) where
+  -- A number that A holds, and one that B holds, with its rule.
+  a-holds : (i : ℕ) → i < 3 → held-in t i
+  a-holds zero below = shown-held t (shown-after begun (clerk-a ++ both-ask)) a 0 (omega arith)
+  a-holds (suc zero) below = shown-held t (shown-after begun (clerk-a ++ both-ask)) a 1 (omega arith)
+  a-holds (suc (suc zero)) below = shown-held t (shown-after begun (clerk-a ++ both-ask)) a 2 (omega arith)
+  a-holds (suc (suc (suc i))) below = absurd (omega arith)
+
+  b-holds : (i : ℕ) → i < 2 → held-in u i
+  b-holds zero below = shown-held u (shown-after begun (clerk-b ++ both-ask)) b 0 (omega arith)
+  b-holds (suc zero) below = shown-held u (shown-after begun (clerk-b ++ both-ask)) b 1 (omega arith)
+  b-holds (suc (suc i)) below = absurd (omega arith)
+
   in-b : HeldToo t u
-  in-b zero held = (1, (omega (arith, b .rules), b .each-rule 1 (omega (arith, b .rules)) ∙ sym (a .each-rule 0 held)))
-  in-b (suc zero) held = (0, (omega (arith, b .rules), b .each-rule 0 (omega (arith, b .rules)) ∙ sym (a .each-rule 1 held)))
-  in-b (suc (suc zero)) held = (1, (omega (arith, b .rules), b .each-rule 1 (omega (arith, b .rules)) ∙ sym (a .each-rule 2 held)))
-  in-b (suc (suc (suc i))) held = absurd (omega (arith, a .rules))
+  in-b zero held = (1, (b-holds 1 (omega arith), b .each-rule 1 (b-holds 1 (omega arith)) ∙ sym (a .each-rule 0 held)))
+  in-b (suc zero) held = (0, (b-holds 0 (omega arith), b .each-rule 0 (b-holds 0 (omega arith)) ∙ sym (a .each-rule 1 held)))
+  in-b (suc (suc zero)) held = (1, (b-holds 1 (omega arith), b .each-rule 1 (b-holds 1 (omega arith)) ∙ sym (a .each-rule 2 held)))
+  in-b (suc (suc (suc i))) held = absurd (omega (arith, held .1, a .each-level (suc (suc (suc i))) (held .0)))
 
   in-a : HeldToo u t
-  in-a zero held = (1, (omega (arith, a .rules), a .each-rule 1 (omega (arith, a .rules)) ∙ sym (b .each-rule 0 held)))
-  in-a (suc zero) held = (0, (omega (arith, a .rules), a .each-rule 0 (omega (arith, a .rules)) ∙ sym (b .each-rule 1 held)))
-  in-a (suc (suc i)) held = absurd (omega (arith, b .rules))
+  in-a zero held = (1, (a-holds 1 (omega arith), a .each-rule 1 (a-holds 1 (omega arith)) ∙ sym (b .each-rule 0 held)))
+  in-a (suc zero) held = (0, (a-holds 0 (omega arith), a .each-rule 0 (a-holds 0 (omega arith)) ∙ sym (b .each-rule 1 held)))
+  in-a (suc (suc i)) held = absurd (omega (arith, held .1, b .each-level (suc (suc i)) (held .0)))
 
   question : SameQuestion t u
   question = record {

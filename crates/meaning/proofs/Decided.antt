@@ -1,6 +1,6 @@
 -- What the promises ask of their inputs can be told: it compares numbers, or says of every number below a bound what can be told of each. Only "the
 -- days are the earliest plan" speaks of all plans: where the days are a plan, the earliest plan is found and compared with them.
-use Prim.Native.Nat.{ℕ, suc, _≤_, _<_}
+use Prim.Native.Nat.{ℕ, _+_, _≤_, _<_}
 use native.Mathlib.Omega.{arith}
 use native.Mathlib.Decide.{ℕ-discrete, decLe, decLt}
 use mathlib.Core.Path.{_≡_}
@@ -10,11 +10,12 @@ use lib.ListN.{length}
 use Rattle.meaning.specs.declared.Counts.{Counts}
 use Rattle.meaning.specs.Bounds.{STEPS, RULES, MARKS, WATCHED, LARGEST}
 use Rattle.meaning.specs.Rules.{Rule, Keeps, InSteps, InAmount, InBounds, Earliest, Leads, All, Different, total, more, Refutes, largest}
-use Rattle.meaning.specs.Tables.{Tables, Columns, rule-at, at, ColumnsRoom, Room, InCounts, Sound}
+use Rattle.meaning.specs.Tables.{Tables, Columns, rule-at, at, held, taken, ColumnsRoom, Room, InCounts, Sound}
 use Rattle.meaning.proofs.Below.{both?, not?, leads?, in-words?, all-below?}
 use Rattle.meaning.proofs.Whole.{le?, lt?, keeps?}
 use Rattle.meaning.proofs.Theory.{earliest-unique, earliest-ext}
 use Rattle.meaning.proofs.Circle.{earliest-of-plan}
+use Rattle.meaning.proofs.Places.{held?}
 
 -- ---- rules and plans
 
@@ -57,9 +58,9 @@ columns-room? k c =
 pub room? : (t : Tables) → Dec (Room t)
 room? t =
     in-words?
-    (λ h. record { rules-room = h .0; days-room = h .1 .0; marks-room = h .1 .1 .0; watched-room = h .1 .1 .1 })
-    (λ s. (s .rules-room, (s .days-room, (s .marks-room, s .watched-room))))
-    (both? (columns-room? RULES (t .rules)) (both? (decLe STEPS (length (t .days))) (both? (decLe MARKS (length (t .marks))) (columns-room? WATCHED (t .watched)))))
+    (λ h. record { rules-room = h .0; days-room = h .1 .0; levels-room = h .1 .1 .0; watched-room = h .1 .1 .1 })
+    (λ s. (s .rules-room, (s .days-room, (s .levels-room, s .watched-room))))
+    (both? (columns-room? RULES (t .rules)) (both? (decLe STEPS (length (t .days))) (both? (decLe RULES (length (t .levels))) (columns-room? WATCHED (t .watched)))))
 
 in-counts? : (c : Counts) → Dec (InCounts c)
 in-counts? c =
@@ -68,32 +69,33 @@ in-counts? c =
     (λ s. (s .some-step, (s .steps-in, (s .rules-in, (s .marks-in, s .watched-in)))))
     (both? (decLe 1 (c .steps)) (both? (decLe (c .steps) STEPS) (both? (decLe (c .rules) RULES) (both? (decLe (c .marks) MARKS) (decLe (c .watched) WATCHED)))))
 
-never-fall? : (l : List ℕ) (k : ℕ) → Dec ((i j : ℕ) → i ≤ j → j < k → at l i ≤ at l j)
-never-fall? l k =
+-- Whether every held number has what can be told of each.
+all-held? : (t : Tables) (P : ℕ → Type 0) → ((i : ℕ) → Dec (P i)) → Dec ((i : ℕ) → held t i → P i)
+all-held? t P tell =
     in-words?
-    (λ h i j up-to below. h j below i (omega arith))
-    (λ h j below i up-to. h i j (omega arith) below)
-    (all-below? (λ j. (i : ℕ) → i < suc j → at l i ≤ at l j) (λ j. all-below? (λ i. at l i ≤ at l j) (λ i. decLe (at l i) (at l j)) (suc j)) k)
+    (λ h i there. h i (there .0) there)
+    (λ h i below there. h i there)
+    (all-below? (λ i. held t i → P i) (λ i. leads? (held? t i) (tell i)) RULES)
 
 pub sound? : (t : Tables) → Dec (Sound t)
-sound? t = tell (both? (in-counts? (t .counts)) (both? (good? (t .counts .rules) (t .rules)) (both? (good? (t .counts .watched) (t .watched)) (both? (never-fall? (t .marks) (t .counts .marks)) (all-below? (λ i. at (t .marks) i ≤ t .counts .rules) (λ i. decLe (at (t .marks) i) (t .counts .rules)) (t .counts .marks))))))
+sound? t =
+    tell
+    (both? (in-counts? (t .counts))
+    (both? (all-held? t (λ i. InBounds (t .counts .steps) (rule-at (t .rules) i)) (λ i. in-bounds? (t .counts .steps) (rule-at (t .rules) i)))
+    (both? (all-held? t (λ i. at (t .levels) i ≤ t .counts .marks + 1) (λ i. decLe (at (t .levels) i) (t .counts .marks + 1)))
+    (both? (ℕ-discrete (t .counts .rules) (taken RULES (t .levels)))
+    (all-below? (λ i. InBounds (t .counts .steps) (rule-at (t .watched) i)) (λ i. in-bounds? (t .counts .steps) (rule-at (t .watched) i)) (t .counts .watched))))))
   where
-    Good : ℕ → Columns → Type 0
-    Good k c = (i : ℕ) → i < k → InBounds (t .counts .steps) (rule-at c i)
-
-    good? : (k : ℕ) (c : Columns) → Dec (Good k c)
-    good? k c = all-below? (λ i. InBounds (t .counts .steps) (rule-at c i)) (λ i. in-bounds? (t .counts .steps) (rule-at c i)) k
-
     tell :
-        Dec (InCounts (t .counts) × (Good (t .counts .rules) (t .rules) × (Good (t .counts .watched) (t .watched)
-        × (((i j : ℕ) → i ≤ j → j < t .counts .marks → at (t .marks) i ≤ at (t .marks) j) × ((i : ℕ) → i < t .counts .marks → at (t .marks) i ≤ t .counts .rules)))))
+        Dec (InCounts (t .counts) × (((i : ℕ) → held t i → InBounds (t .counts .steps) (rule-at (t .rules) i)) × (((i : ℕ) → held t i → at (t .levels) i ≤ t .counts .marks + 1)
+        × ((t .counts .rules ≡ taken RULES (t .levels)) × ((i : ℕ) → i < t .counts .watched → InBounds (t .counts .steps) (rule-at (t .watched) i))))))
         → Dec (Sound t)
-    tell (no bad) = no (λ s. bad (s .counts-in, (s .rules-good, (s .watched-good, (s .marks-never-fall, s .marks-held)))))
+    tell (no bad) = no (λ s. bad (s .counts-in, (s .rules-good, ((λ i there. omega (arith, s .levels-open i there)), (s .rules-counted, s .watched-good)))))
     tell (yes h) =
         in-words?
-        (λ e. record { counts-in = h .0; rules-good = h .1 .0; watched-good = h .1 .1 .0; marks-never-fall = h .1 .1 .1 .0; marks-held = h .1 .1 .1 .1; days-earliest = e .0; last-largest = omega (arith, e .1) })
+        (λ e. record { counts-in = h .0; rules-good = h .1 .0; levels-open = λ i there. omega (arith, h .1 .1 .0 i there); rules-counted = h .1 .1 .1 .0; watched-good = h .1 .1 .1 .1; days-earliest = e .0; last-largest = omega (arith, e .1) })
         (λ s. (s .days-earliest, omega (arith, s .last-largest)))
-        (both? (earliest? (t .counts .steps) (t .counts .rules) (rule-at (t .rules)) (λ i. i < t .counts .rules) (λ i. decLt i (t .counts .rules)) (λ i below. below) (λ i below. h .1 .0 i below .steps-in) (at (t .days)))
+        (both? (earliest? (t .counts .steps) RULES (rule-at (t .rules)) (held t) (held? t) (λ i there. there .0) (λ i there. h .1 .0 i there .steps-in) (at (t .days)))
         (ℕ-discrete (t .counts .last) (largest (t .counts .steps) (at (t .days)))))
 
 -- ---- rings

@@ -6,11 +6,11 @@ use native.Mathlib.Decide.{ℕ-discrete}
 use mathlib.Core.Path.{_≡_, refl, sym, _∙_, ap, subst}
 use mathlib.Core.List.{List}
 use mathlib.Core.Logic.{_⊎_, inl, inr}
-use Rattle.meaning.specs.Bounds.{DONE, CONFLICT}
+use Rattle.meaning.specs.Bounds.{RULES, DONE, CONFLICT}
 use Rattle.meaning.specs.Rules.{Rule, Always, Never}
-use Rattle.meaning.specs.Tables.{Tables, rule-at, opened, with-rule, without-mark, with-days}
+use Rattle.meaning.specs.Tables.{Tables, rule-at, opened, with-rule, without-mark, without-rule, with-days}
 use Rattle.meaning.specs.Promise.{Given, bare, Meaning, Obeys, Planned, moved}
-use Rattle.meaning.specs.Calls.{WithList, WithLists, rules-of, held-in, next-in, RingIn, Opened, Watched, Added, AddConflict, Marked, WentBack, Tried, TrialConflict, Split, RingChecked, open-meaning, watch-meaning, add-meaning, mark-meaning, back-meaning, trial-meaning, consequences-meaning, ring-check-meaning, last-day-meaning}
+use Rattle.meaning.specs.Calls.{WithList, WithLists, rules-of, held-in, next-in, RingIn, Opened, Watched, Added, AddConflict, Marked, WentBack, Tried, TrialConflict, Split, RingChecked, open-meaning, watch-meaning, add-meaning, mark-meaning, back-meaning, withdraw-meaning, trial-meaning, consequences-meaning, ring-check-meaning, last-day-meaning}
 use Rattle.meaning.proofs.Theory.{earliest-unique}
 use Rattle.meaning.proofs.Needs.{first-same}
 use Rattle.meaning.proofs.Lists.{past-same, filled-same, exactly-same}
@@ -77,11 +77,14 @@ open-fixed : (n : ℕ) (t : Tables) → Fixed (open-meaning n t)
 open-fixed n t a b c d u w x y = (
   x .no-values .0 ∙ sym (y .no-values .0),
   x .no-values .1 ∙ sym (y .no-values .1),
-  x .emptied ∙ ap (λ l. with-days l (opened n t)) days ∙ sym (y .emptied),
+  x .emptied ∙ (λ i. with-days (days i) (opened n (levels i) t)) ∙ sym (y .emptied),
 )
   where
     days : u .days ≡ w .days
     days = past-same n (t .days) (u .days) (w .days) (x .past) (y .past) (λ v h. x .day-0 v h ∙ sym (y .day-0 v h))
+
+    levels : u .levels ≡ w .levels
+    levels = past-same RULES (t .levels) (u .levels) (w .levels) (x .past-levels) (y .past-levels) (λ i h. x .all-free i h ∙ sym (y .all-free i h))
 
 watch-fixed : (r : Rule) (t : Tables) → Fixed (watch-meaning r t)
 watch-fixed r t a b c d u w x y = (x .no-values .0 ∙ sym (y .no-values .0), x .no-values .1 ∙ sym (y .no-values .1), x .watched ∙ sym (y .watched))
@@ -111,6 +114,13 @@ back-fixed t a b c d u w x y = (
   x .no-values .0 ∙ sym (y .no-values .0),
   x .no-values .1 ∙ sym (y .no-values .1),
   x .dropped ∙ ap (λ l. with-days l (without-mark t)) (planned-same (x .planned) (y .planned)) ∙ sym (y .dropped),
+)
+
+withdraw-fixed : (j : ℕ) (t : Tables) → Fixed (withdraw-meaning j t)
+withdraw-fixed j t a b c d u w x y = (
+  x .no-values .0 ∙ sym (y .no-values .0),
+  x .no-values .1 ∙ sym (y .no-values .1),
+  x .gone ∙ ap (λ l. with-days l (without-rule j t)) (planned-same (x .planned) (y .planned)) ∙ sym (y .gone),
 )
 
 trial-fixed : (r : Rule) (s : WithLists) → Fixed (trial-meaning r s)
@@ -148,7 +158,7 @@ ring-check-fixed r s a b c d u w x y = (go (x .verdict) (y .verdict), x .no-seco
 last-day-fixed : (t : Tables) → Fixed (last-day-meaning t)
 last-day-fixed t a b c d u w x y = (x .day ∙ sym (y .day), x .no-second ∙ sym (y .no-second), x .all-stays ∙ sym (y .all-stays))
 
--- The seven calls that know no conflict.
+-- The eight calls that know no conflict.
 pub open-determined : (n : ℕ) (t : Tables) (g h : Given) (u w : Tables) → Obeys (open-meaning n t) t g u → Obeys (open-meaning n t) t h w → Same g h u w
 open-determined n t g h u w x y = determined (open-meaning n t) t g h u w x y (open-fixed n t) (λ a s z. z)
 
@@ -160,6 +170,9 @@ mark-determined t g h u w x y = determined (mark-meaning t) t g h u w x y (mark-
 
 pub back-determined : (t : Tables) (g h : Given) (u w : Tables) → Obeys (back-meaning t) t g u → Obeys (back-meaning t) t h w → Same g h u w
 back-determined t g h u w x y = determined (back-meaning t) t g h u w x y (back-fixed t) (λ a s z. z)
+
+pub withdraw-determined : (j : ℕ) (t : Tables) (g h : Given) (u w : Tables) → Obeys (withdraw-meaning j t) t g u → Obeys (withdraw-meaning j t) t h w → Same g h u w
+withdraw-determined j t g h u w x y = determined (withdraw-meaning j t) t g h u w x y (withdraw-fixed j t) (λ a s z. z)
 
 pub consequences-determined : (s : WithLists) (g h : Given) (u w : WithLists) → Obeys (consequences-meaning s) s g u → Obeys (consequences-meaning s) s h w → Same g h u w
 consequences-determined s g h u w x y = determined (consequences-meaning s) s g h u w x y (consequences-fixed s) (λ a v z. z)

@@ -12,6 +12,7 @@ pub mod DayBound
 pub mod Needs
 pub mod Lists
 pub mod Put
+pub mod Places
 pub mod Sequences
 pub mod Screens
 pub mod Tests

@@ -11,7 +11,7 @@ use Rattle.meaning.specs.Bounds.{DONE, CONFLICT}
 use Rattle.meaning.specs.Rules.{Rule}
 use Rattle.meaning.specs.Tables.{Tables}
 use Rattle.meaning.specs.Promise.{bare, Need, First, Meaning, Obeys}
-use Rattle.meaning.specs.Calls.{WithList, WithLists, open-meaning, watch-meaning, add-meaning, mark-meaning, back-meaning, trial-meaning, consequences-meaning, ring-check-meaning, last-day-meaning}
+use Rattle.meaning.specs.Calls.{WithList, WithLists, open-meaning, watch-meaning, add-meaning, mark-meaning, back-meaning, withdraw-meaning, trial-meaning, consequences-meaning, ring-check-meaning, last-day-meaning}
 
 -- ---- the number is fixed
 
@@ -115,6 +115,9 @@ mark-rises t = tt
 
 pub back-rises : (t : Tables) → T (rises DONE (back-meaning t .asks))
 back-rises t = tt
+
+pub withdraw-rises : (i : ℕ) (t : Tables) → T (rises DONE (withdraw-meaning i t .asks))
+withdraw-rises i t = tt
 
 pub trial-rises : (r : Rule) (s : WithLists) → T (rises DONE (trial-meaning r s .asks))
 trial-rises r s = tt

@@ -10,18 +10,19 @@ use mathlib.Core.Bool.{Bool, not, _&&_}
 use lib.Dec.{T, eqb, eqb-refl, T-not}
 use lib.IntN.{pos}
 use lib.ListN.{length}
-use Rattle.meaning.specs.Bounds.{STEPS, RULES, MARKS, WATCHED, DONE, SHORT, DAMAGED, STEP, AMOUNT, FULL, CONFLICT, NOMARK}
+use Rattle.meaning.specs.Bounds.{STEPS, RULES, MARKS, WATCHED, DONE, SHORT, DAMAGED, STEP, AMOUNT, FULL, CONFLICT, NOMARK, ABSENT}
 use Rattle.meaning.specs.Rules.{Rule, InSteps, InAmount, negation, Different, Earliest, Always, Never, Fits, Refutes, Reason, largest}
-use Rattle.meaning.specs.Tables.{Tables, rule-at, at, Room, Sound, opened, with-watched, with-rule, with-mark, newest-mark, without-mark, with-days}
+use Rattle.meaning.specs.Tables.{Tables, rule-at, at, Room, Sound, opened, with-watched, with-rule, with-mark, without-mark, without-rule, with-days}
 use Rattle.meaning.specs.Promise.{Given, bare, Meaning, Need, needs, First, Obeys, Past, Planned, moved, Rising, Exactly}
-use Rattle.meaning.specs.Calls.{WithList, WithLists, rules-of, held-in, next-in, rules-and, held-and, RingIn, WatchedThat, IsRingFor, rule-needs, open-meaning, watch-meaning, add-needs, add-meaning, mark-meaning, back-meaning, trial-meaning, consequences-meaning, ring-check-meaning, last-day-meaning, Asked}
+use Rattle.meaning.specs.Calls.{WithList, WithLists, rules-of, held-in, next-in, rules-and, held-and, RingIn, WatchedThat, IsRingFor, rule-needs, open-meaning, watch-meaning, add-needs, add-meaning, mark-meaning, back-meaning, withdraw-meaning, trial-meaning, consequences-meaning, ring-check-meaning, last-day-meaning, Asked}
 use Rattle.meaning.proofs.More.{more-all}
 use Rattle.meaning.proofs.Theory.{all-implies, earliest-ext, ring-excludes, more-fits, always-is, never-is}
 use Rattle.meaning.proofs.Counting.{different-short, ring-length}
 use Rattle.meaning.proofs.Needs.{AllMet, obeys-done, obeys-conflict, obeys-refused}
 use Rattle.meaning.proofs.Below.{both?, not?, in-words?}
 use Rattle.meaning.proofs.Tests.{both}
-use Rattle.meaning.proofs.Circle.{earliest-exists}
+use Rattle.meaning.proofs.Circle.{earliest-of-plan}
+use Rattle.meaning.proofs.Places.{held?, next-free, without-rule-held, down-to-held}
 use Rattle.meaning.proofs.Reason.{fits?, conflict-or-plan}
 use Rattle.meaning.proofs.Decided.{in-steps?, in-amount?, room?, sound?, refutes?}
 use Rattle.meaning.proofs.Shortest.{reason-of}
@@ -82,12 +83,22 @@ open-met n t room lo hi =
     t
     0
     0
-    (with-days days (opened n t))
+    (with-days days (opened n levels t))
     (room, ((lo, hi), tt))
-    (record { no-values = (refl, refl); emptied = refl; day-0 = written-at n (λ v. 0) (t .days); past = written-past n (λ v. 0) (t .days) (omega (arith, room .days-room)) })
+    (record {
+      no-values = (refl, refl);
+      emptied = refl;
+      day-0 = written-at n (λ v. 0) (t .days);
+      past = written-past n (λ v. 0) (t .days) (omega (arith, room .days-room));
+      all-free = written-at RULES (λ i. 0) (t .levels);
+      past-levels = written-past RULES (λ i. 0) (t .levels) (room .levels-room);
+    })
   where
     days : List ℕ
     days = written n (λ v. 0) (t .days)
+
+    levels : List ℕ
+    levels = written RULES (λ i. 0) (t .levels)
 
 pub watch-met : (r : Rule) (t : Tables) → Room t → Sound t → InSteps (t .counts .steps) r → InAmount (r .amount) → t .counts .watched < WATCHED → Allowed (watch-meaning r t) t DONE
 watch-met r t room sound st am full = allowed-done (watch-meaning r t) t 0 0 (with-watched r t) (room, (sound, (st, (am, (full, tt))))) (record { no-values = (refl, refl); watched = refl })
@@ -116,7 +127,33 @@ back-met t room sound some p e =
           p
           (t .days)
           (omega (arith, room .days-room, sound .counts-in .steps-in))
-          (λ i h. sound .rules-good i (omega (arith, sound .marks-held (t .counts .marks - 1) (omega arith))) .steps-in)
+          (λ i h. sound .rules-good i (down-to-held (t .counts .marks - 1) t i .0 h .0) .steps-in)
+          e;
+    })
+
+-- Withdraw, where the earliest plan of the rest is known.
+pub withdraw-met :
+    (j : ℕ) (t : Tables) → Room t → Sound t → held-in t j → (p : ℕ → ℕ) → Earliest (t .counts .steps) (rules-of t) (held-in (without-rule j t)) p → Allowed (withdraw-meaning j t) t DONE
+withdraw-met j t room sound there p e =
+    allowed-done
+    (withdraw-meaning j t)
+    t
+    0
+    0
+    (with-days (written (t .counts .steps) p (t .days)) (without-rule j t))
+    (room, (sound, (there, tt)))
+    (record {
+      no-values = (refl, refl);
+      gone = refl;
+      planned =
+          planned-written
+          (t .counts .steps)
+          (rules-of t)
+          (held-in (without-rule j t))
+          p
+          (t .days)
+          (omega (arith, room .days-room, sound .counts-in .steps-in))
+          (λ i h. sound .rules-good i (without-rule-held j t i .0 h .1) .steps-in)
           e;
     })
 
@@ -127,7 +164,7 @@ module _ (r : Rule) (t : Tables) (a : Asked r t) where
 
   -- A plan of all of them shows that the rule fits.
   pub plan-fits : (p : ℕ → ℕ) → Earliest (t .counts .steps) (rules-and r t) (held-and t) p → Fits (rules-of t) (held-in t) r
-  plan-fits p e = more-fits (rules-of t) (held-in t) (next-in t) r (λ h. omega arith) (λ v. pos (p v)) (e .plan)
+  plan-fits p e = more-fits (rules-of t) (held-in t) (next-in t) r (next-free t) (λ v. pos (p v)) (e .plan)
 
   planned-in : (p : ℕ → ℕ) (before : List ℕ) → STEPS ≤ length before → Earliest (t .counts .steps) (rules-and r t) (held-and t) p → Planned (t .counts .steps) (rules-and r t) (held-and t) before (written (t .counts .steps) p before)
   planned-in p before long e = planned-written (t .counts .steps) (rules-and r t) (held-and t) p before (omega (arith, long, a .sound .counts-in .steps-in)) both-in e
@@ -150,22 +187,22 @@ module _ (r : Rule) (t : Tables) (a : Asked r t) where
   plan-or-ring =
       conflict-or-plan
       (t .counts .steps)
-      (t .counts .rules)
+      RULES
       (rules-of t)
       (held-in t)
-      (λ i. decLt i (t .counts .rules))
-      (λ i held. held)
+      (held? t)
+      (λ i held. held .0)
       (λ i held. a .sound .rules-good i held .steps-in)
       (λ v. pos (at (t .days) v))
       (a .sound .days-earliest .plan)
       (next-in t)
-      (λ held. omega arith)
+      (next-free t)
       r
       (a .steps-in)
 
   -- Where a ring refutes the rule there is a reason.
   pub ring-reason : (l : List ℕ) × Refutes (rules-of t) (held-in t) (next-in t) r l → (l : List ℕ) × Reason (rules-of t) (held-in t) (next-in t) r l
-  ring-reason (l, refutes) = reason-of (t .counts .rules) (rules-of t) (held-in t) (λ i. decLt i (t .counts .rules)) (λ i held. held) (next-in t) r l refutes
+  ring-reason (l, refutes) = reason-of RULES (rules-of t) (held-in t) (held? t) (λ i held. held .0) (next-in t) r l refutes
 
 -- Add, where the earliest plan with the rule is known, and where the reason is known.
 pub add-met : (r : Rule) (t : Tables) (l : List ℕ) → Asked r t → STEPS ≤ length l → (p : ℕ → ℕ) → Earliest (t .counts .steps) (rules-and r t) (held-and t) p → Allowed (add-meaning r (record { tables = t; list = l })) (record { tables = t; list = l }) DONE
@@ -334,16 +371,31 @@ mark-possible t =
     m : Meaning Tables
     m = mark-meaning t
 
+-- The rules of sound tables t that are held in u too have an earliest plan.
+fewer-planned : (t u : Tables) → Sound t → ((i : ℕ) → held-in u i → held-in t i) → (p : ℕ → ℕ) × Earliest (t .counts .steps) (rules-of t) (held-in u) p
+fewer-planned t u sound fewer =
+    earliest-of-plan (t .counts .steps) RULES (rules-of t) (held-in u) (held? u) (λ i there. there .0) (λ i there. sound .rules-good i (fewer i there) .steps-in) (at (t .days))
+    (λ i there. sound .days-earliest .plan i (fewer i there))
+
 pub back-possible : (t : Tables) → Outcome (back-meaning t) t
 back-possible t =
     look-at-tables m t t (Room t) (needs NOMARK (1 ≤ t .counts .marks) ∷ []) (λ g f. f) (room? t) λ room sound last.
     look m t NOMARK (1 ≤ t .counts .marks) [] tt last (decLe _ _) λ some last-1.
-    let fewer : newest-mark t ≤ t .counts .rules = sound .marks-held (t .counts .marks - 1) (omega arith) in
-    let (p, earliest) = earliest-exists (t .counts .steps) (without-mark t .counts .rules) (rules-of t) (λ i below. sound .rules-good i (omega arith) .steps-in) (λ v. pos (at (t .days) v)) (λ i below. sound .days-earliest .plan i (omega arith)) in
+    let (p, earliest) = fewer-planned t (without-mark t) sound (λ i h. down-to-held (t .counts .marks - 1) t i .0 h .0) in
     allowed-outcome (back-met t room sound some p earliest)
   where
     m : Meaning Tables
     m = back-meaning t
+
+pub withdraw-possible : (j : ℕ) (t : Tables) → Outcome (withdraw-meaning j t) t
+withdraw-possible j t =
+    look-at-tables m t t (Room t) (needs ABSENT (held-in t j) ∷ []) (λ g f. f) (room? t) λ room sound last.
+    look m t ABSENT (held-in t j) [] tt last (held? t j) λ there last-1.
+    let (p, earliest) = fewer-planned t (without-rule j t) sound (λ i h. without-rule-held j t i .0 h .1) in
+    allowed-outcome (withdraw-met j t room sound there p earliest)
+  where
+    m : Meaning Tables
+    m = withdraw-meaning j t
 
 -- What Add and Trial need before the last need, where what must have room is given.
 look-as-add : {S : Type 0} (m : Meaning S) (before : S) (r : Rule) (t : Tables) (P : Type 0) → (P → Room t) → Last m before (add-needs r t P) → Dec P → (P → Asked r t → Outcome m before) → Outcome m before
@@ -403,8 +455,8 @@ trial-possible r s =
 module _ (t : Tables) (sound : Sound t) (r : Rule) where
   fits-in? : (q : Rule) → Dec (Fits (rules-of t) (held-in t) q)
   fits-in? =
-      fits? (t .counts .steps) (t .counts .rules) (rules-of t) (held-in t) (λ i. decLt i (t .counts .rules)) (λ i held. held) (λ i held. sound .rules-good i held .steps-in)
-      (λ v. pos (at (t .days) v)) (sound .days-earliest .plan) (next-in t) (λ held. omega arith)
+      fits? (t .counts .steps) RULES (rules-of t) (held-in t) (held? t) (λ i held. held .0) (λ i held. sound .rules-good i held .steps-in)
+      (λ v. pos (at (t .days) v)) (sound .days-earliest .plan) (next-in t) (next-free t)
 
   pub always? : Dec (Always (rules-of t) (held-in t) r)
   always? = in-words? (always-is (rules-of t) (held-in t) r .1) (always-is (rules-of t) (held-in t) r .0) (not? (fits-in? (negation r)))
@@ -430,7 +482,7 @@ pub ring-check-possible : (r : Rule) (s : WithList) → Outcome (ring-check-mean
 ring-check-possible r s =
     look-at-tables m s t (Room t) (rule-needs (t .counts .steps) r []) (λ g f. f) (room? t) λ room sound last.
     look-at-rule m s r t [] last λ steps amount last-1.
-    allowed-outcome (ring-check-met r t (s .list) room sound steps amount (refutes? (rules-of t) (held-in t) (λ i. decLt i (t .counts .rules)) (next-in t) r (s .list)))
+    allowed-outcome (ring-check-met r t (s .list) room sound steps amount (refutes? (rules-of t) (held-in t) (held? t) (next-in t) r (s .list)))
   where
     t : Tables
     t = s .tables

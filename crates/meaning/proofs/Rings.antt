@@ -105,55 +105,63 @@ leads-test→ F (i ∷ l) a b h = let p = both (eqb (F i .first) a) (leads-test 
 abbrev bad-test : (ℕ → Rule) → List ℕ → Bool
 bad-test F l = different-test (map (λ i. F i .first) l) && ltZ (total F l) (pos 0)
 
--- m and then l refute r, where the numbers below m are held.
-abbrev pub ring-test : (ℕ → Rule) → ℕ → Rule → List ℕ → Bool
-ring-test R m r l = (leads-test (more R m r) (m ∷ l) (more R m r m .first) (more R m r m .first) && all-test (λ i. ltb i m) l) && bad-test (more R m r) (m ∷ l)
+-- The numbers that pass the test f are held.
+abbrev pub Passes : (ℕ → Bool) → ℕ → Type 0
+Passes f i = T (f i)
 
-pub ring-test→ : (R : ℕ → Rule) (m : ℕ) (r : Rule) (l : List ℕ) → T (ring-test R m r l) → Refutes R (λ i. i < m) m r (m ∷ l)
-ring-test→ R m r l h = (refl, record { ring = record { leads-back = leads-test→ F (m ∷ l) start start (walk .0); no-step-twice = different-test→ (map (λ i. F i .first) (m ∷ l)) (bad .0) }; negative = record { lt = bad .1 }; rest-held = all-test→ (λ i. i < m) (λ i. ltb i m) (λ i t. ltb→lt i m t) l (walk .1) })
+-- k and then l refute r, where the numbers that pass f are held.
+abbrev pub ring-test : (ℕ → Rule) → (ℕ → Bool) → ℕ → Rule → List ℕ → Bool
+ring-test R f k r l = (leads-test (more R k r) (k ∷ l) (more R k r k .first) (more R k r k .first) && all-test f l) && bad-test (more R k r) (k ∷ l)
+
+pub ring-test→ : (R : ℕ → Rule) (f : ℕ → Bool) (k : ℕ) (r : Rule) (l : List ℕ) → T (ring-test R f k r l) → Refutes R (Passes f) k r (k ∷ l)
+ring-test→ R f k r l h = (refl, record { ring = record { leads-back = leads-test→ F (k ∷ l) start start (walk .0); no-step-twice = different-test→ (map (λ i. F i .first) (k ∷ l)) (bad .0) }; negative = record { lt = bad .1 }; rest-held = all-test→ (Passes f) f (λ i t. t) l (walk .1) })
   where
     F : ℕ → Rule
-    F = more R m r
+    F = more R k r
 
     start : ℕ
-    start = F m .first
+    start = F k .first
 
-    parts : T (leads-test F (m ∷ l) start start && all-test (λ i. ltb i m) l) × T (bad-test F (m ∷ l))
-    parts = both (leads-test F (m ∷ l) start start && all-test (λ i. ltb i m) l) (bad-test F (m ∷ l)) h
+    parts : T (leads-test F (k ∷ l) start start && all-test f l) × T (bad-test F (k ∷ l))
+    parts = both (leads-test F (k ∷ l) start start && all-test f l) (bad-test F (k ∷ l)) h
 
-    walk : T (leads-test F (m ∷ l) start start) × T (all-test (λ i. ltb i m) l)
-    walk = both (leads-test F (m ∷ l) start start) (all-test (λ i. ltb i m) l) (parts .0)
+    walk : T (leads-test F (k ∷ l) start start) × T (all-test f l)
+    walk = both (leads-test F (k ∷ l) start start) (all-test f l) (parts .0)
 
-    bad : T (different-test (map (λ i. F i .first) (m ∷ l))) × T (ltZ (total F (m ∷ l)) (pos 0))
-    bad = both (different-test (map (λ i. F i .first) (m ∷ l))) (ltZ (total F (m ∷ l)) (pos 0)) (parts .1)
+    bad : T (different-test (map (λ i. F i .first) (k ∷ l))) × T (ltZ (total F (k ∷ l)) (pos 0))
+    bad = both (different-test (map (λ i. F i .first) (k ∷ l))) (ltZ (total F (k ∷ l)) (pos 0)) (parts .1)
 
 -- ---- the reason
 
--- Every list of at most k numbers below m that leads from a to b passes the test P.
-abbrev walks-pass : (ℕ → Rule) → ℕ → ℕ → (List ℕ → Bool) → ℕ → ℕ → Bool
-walks-pass F m zero P a b = implies (eqb a b) (P [])
-walks-pass F m (suc k) P a b = implies (eqb a b) (P []) && all-below (λ i. implies (eqb (F i .first) a) (walks-pass F m k (λ l. P (i ∷ l)) (F i .second) b)) m
+-- Every list of at most k numbers below m that pass f, leading from a to b, passes the test P.
+abbrev walks-pass : (ℕ → Rule) → (ℕ → Bool) → ℕ → ℕ → (List ℕ → Bool) → ℕ → ℕ → Bool
+walks-pass F f m zero P a b = implies (eqb a b) (P [])
+walks-pass F f m (suc k) P a b =
+    implies (eqb a b) (P []) && all-below (λ i. implies (f i && eqb (F i .first) a) (walks-pass F f m k (λ l. P (i ∷ l)) (F i .second) b)) m
 
-walks-pass→ : (F : ℕ → Rule) (m k : ℕ) (P : List ℕ → Bool) (a b : ℕ) → T (walks-pass F m k P a b) → (l : List ℕ) → Leads F l a b → All (λ i. i < m) l → length l ≤ k → T (P l)
-walks-pass→ F m zero P a b h [] e below short = apply (eqb a b) (P []) h (eqb-yes a b e)
-walks-pass→ F m zero P a b h (i ∷ l) e below short = absurd (omega arith)
-walks-pass→ F m (suc k) P a b h [] e below short = apply (eqb a b) (P []) (both (implies (eqb a b) (P [])) (all-below (λ i. implies (eqb (F i .first) a) (walks-pass F m k (λ l. P (i ∷ l)) (F i .second) b)) m) h .0) (eqb-yes a b e)
-walks-pass→ F m (suc k) P a b h (i ∷ l) e below short =
+walks-pass→ :
+    (F : ℕ → Rule) (f : ℕ → Bool) (m k : ℕ) (P : List ℕ → Bool) (a b : ℕ) → T (walks-pass F f m k P a b) → (l : List ℕ) → Leads F l a b → All (λ i. (i < m) × T (f i)) l → length l ≤ k → T (P l)
+walks-pass→ F f m zero P a b h [] e there short = apply (eqb a b) (P []) h (eqb-yes a b e)
+walks-pass→ F f m zero P a b h (i ∷ l) e there short = absurd (omega arith)
+walks-pass→ F f m (suc k) P a b h [] e there short =
+    apply (eqb a b) (P []) (both (implies (eqb a b) (P [])) (all-below (λ i. implies (f i && eqb (F i .first) a) (walks-pass F f m k (λ l. P (i ∷ l)) (F i .second) b)) m) h .0) (eqb-yes a b e)
+walks-pass→ F f m (suc k) P a b h (i ∷ l) e there short =
     walks-pass→
     F
+    f
     m
     k
     (λ l′. P (i ∷ l′))
     (F i .second)
     b
-    (apply (eqb (F i .first) a) (walks-pass F m k (λ l′. P (i ∷ l′)) (F i .second) b) (all-below→ step m (both (implies (eqb a b) (P [])) (all-below step m) h .1) i (below .0)) (eqb-yes (F i .first) a (e .0)))
+    (apply (f i && eqb (F i .first) a) (walks-pass F f m k (λ l′. P (i ∷ l′)) (F i .second) b) (all-below→ step m (both (implies (eqb a b) (P [])) (all-below step m) h .1) i (there .0 .0)) (join (f i) (eqb (F i .first) a) (there .0 .1) (eqb-yes (F i .first) a (e .0))))
     l
     (e .1)
-    (below .1)
+    (there .1)
     (omega arith)
   where
     step : ℕ → Bool
-    step j = implies (eqb (F j .first) a) (walks-pass F m k (λ l′. P (j ∷ l′)) (F j .second) b)
+    step j = implies (f j && eqb (F j .first) a) (walks-pass F f m k (λ l′. P (j ∷ l′)) (F j .second) b)
 
 abbrev pub same-test : List ℕ → List ℕ → Bool
 same-test [] [] = true
@@ -205,52 +213,53 @@ no-better→ l x h = tell (either (same-test x l) (longer || (as-long && before-
     tell (inl t) = inl (same-test→ x l t)
     tell (inr t) = size (either longer (as-long && before-test l x) t)
 
--- Of the lists of at most n numbers below m that lead from r's second step back to its first, none that makes a bad ring with m is better than l.
-abbrev best-test : (ℕ → Rule) → ℕ → Rule → ℕ → List ℕ → Bool
-best-test R m r n l = walks-pass (more R m r) m n (λ x. implies (bad-test (more R m r) (m ∷ x)) (no-better l x)) (more R m r m .second) (more R m r m .first)
+-- Of the lists of at most n numbers below m that pass f and lead from r's second step back to its first, none that makes a bad ring with k is better than l.
+abbrev best-test : (ℕ → Rule) → (ℕ → Bool) → ℕ → ℕ → Rule → ℕ → List ℕ → Bool
+best-test R f m k r n l = walks-pass (more R k r) f m n (λ x. implies (bad-test (more R k r) (k ∷ x)) (no-better l x)) (more R k r k .second) (more R k r k .first)
 
-best-test→ :
-    (R : ℕ → Rule) (m : ℕ) (r : Rule) (n : ℕ) (l : List ℕ) → ((i : ℕ) → i < m → InSteps n (R i)) → InSteps n r → T (best-test R m r n l) → (j : ℕ) (x : List ℕ) → Refutes R (λ i. i < m) m r (j ∷ x) → NoBetter l x
-best-test→ R m r n l held new h j x ring =
-    no-better→ l x (apply (bad-test F (m ∷ x)) (no-better l x) (walks-pass→ F m n (λ y. implies (bad-test F (m ∷ y)) (no-better l y)) (F m .second) (F m .first) h x (by .ring .leads-back .1) (by .rest-held) short) bad)
+-- k and then l are the reason why r is refused, over n steps, where the numbers that pass f are held, all below m.
+abbrev pub reason-test : (ℕ → Rule) → (ℕ → Bool) → ℕ → ℕ → Rule → ℕ → List ℕ → Bool
+reason-test R f m k r n l = ring-test R f k r l && best-test R f m k r n l
+
+module _
+    (R : ℕ → Rule) (f : ℕ → Bool) (m k : ℕ) (r : Rule) (n : ℕ) (l : List ℕ) (below : (i : ℕ) → T (f i) → i < m) (held : (i : ℕ) → T (f i) → InSteps n (R i)) (new : InSteps n r)
   where
-    F : ℕ → Rule
-    F = more R m r
+    best-test→ : T (best-test R f m k r n l) → (j : ℕ) (x : List ℕ) → Refutes R (Passes f) k r (j ∷ x) → NoBetter l x
+    best-test→ h j x ring =
+        no-better→ l x (apply (bad-test F (k ∷ x)) (no-better l x) (walks-pass→ F f m n (λ y. implies (bad-test F (k ∷ y)) (no-better l y)) (F k .second) (F k .first) h x (by .ring .leads-back .1) (all-implies (λ i t. (below i t, t)) x (by .rest-held)) short) bad)
+      where
+        F : ℕ → Rule
+        F = more R k r
 
-    by : RefutesBy R (λ i. i < m) m r x
-    by = ring .1
+        by : RefutesBy R (Passes f) k r x
+        by = ring .1
 
-    short : length x ≤ n
-    short = omega (arith, ring-length n R (λ i. i < m) m r (j ∷ x) held new ring)
+        short : length x ≤ n
+        short = omega (arith, ring-length n R (Passes f) k r (j ∷ x) held new ring)
 
-    bad : T (bad-test F (m ∷ x))
-    bad = join (different-test (map (λ i. F i .first) (m ∷ x))) (ltZ (total F (m ∷ x)) (pos 0)) (→different-test (map (λ i. F i .first) (m ∷ x)) (by .ring .no-step-twice)) (by .negative .lt)
+        bad : T (bad-test F (k ∷ x))
+        bad = join (different-test (map (λ i. F i .first) (k ∷ x))) (ltZ (total F (k ∷ x)) (pos 0)) (→different-test (map (λ i. F i .first) (k ∷ x)) (by .ring .no-step-twice)) (by .negative .lt)
 
--- m and then l are the reason why r is refused, over n steps, where the numbers below m are held.
-abbrev pub reason-test : (ℕ → Rule) → ℕ → Rule → ℕ → List ℕ → Bool
-reason-test R m r n l = ring-test R m r l && best-test R m r n l
+    pub reason-test→ : T (reason-test R f m k r n l) → Reason R (Passes f) k r (k ∷ l)
+    reason-test→ h = record { refutes = ring-test→ R f k r l (parts .0); fewest = λ x ring. omega (arith, fewest x ring); others-after = others-after }
+      where
+        parts : T (ring-test R f k r l) × T (best-test R f m k r n l)
+        parts = both (ring-test R f k r l) (best-test R f m k r n l) h
 
-pub reason-test→ :
-    (R : ℕ → Rule) (m : ℕ) (r : Rule) (n : ℕ) (l : List ℕ) → ((i : ℕ) → i < m → InSteps n (R i)) → InSteps n r → T (reason-test R m r n l) → Reason R (λ i. i < m) m r (m ∷ l)
-reason-test→ R m r n l held new h = record { refutes = ring-test→ R m r l (parts .0); fewest = λ x ring. omega (arith, fewest x ring); others-after = others-after }
-  where
-    parts : T (ring-test R m r l) × T (best-test R m r n l)
-    parts = both (ring-test R m r l) (best-test R m r n l) h
+        no-shorter : (x : List ℕ) → NoBetter l x → length l ≤ length x
+        no-shorter x (inl same) = omega (arith, ap length same)
+        no-shorter x (inr (inl longer)) = omega (arith, longer)
+        no-shorter x (inr (inr as-long)) = omega (arith, as-long .0)
 
-    no-shorter : (x : List ℕ) → NoBetter l x → length l ≤ length x
-    no-shorter x (inl same) = omega (arith, ap length same)
-    no-shorter x (inr (inl longer)) = omega (arith, longer)
-    no-shorter x (inr (inr as-long)) = omega (arith, as-long .0)
+        fewest : (x : List ℕ) → Refutes R (Passes f) k r x → suc (length l) ≤ length x
+        fewest [] ring = absurd ring
+        fewest (j ∷ x) ring = omega (arith, no-shorter x (best-test→ (parts .1) j x ring))
 
-    fewest : (x : List ℕ) → Refutes R (λ i. i < m) m r x → suc (length l) ≤ length x
-    fewest [] ring = absurd ring
-    fewest (j ∷ x) ring = omega (arith, no-shorter x (best-test→ R m r n l held new (parts .1) j x ring))
+        after : (j : ℕ) (x : List ℕ) → j ≡ k → length x ≡ length l → NoBetter l x → (j ∷ x ≡ k ∷ l) ⊎ Before (k ∷ l) (j ∷ x)
+        after j x e long (inl same) = inl (λ i. e i ∷ same i)
+        after j x e long (inr (inl longer)) = absurd (omega (arith, longer))
+        after j x e long (inr (inr as-long)) = inr (inr (sym e, as-long .1))
 
-    after : (j : ℕ) (x : List ℕ) → j ≡ m → length x ≡ length l → NoBetter l x → (j ∷ x ≡ m ∷ l) ⊎ Before (m ∷ l) (j ∷ x)
-    after j x e long (inl same) = inl (λ i. e i ∷ same i)
-    after j x e long (inr (inl longer)) = absurd (omega (arith, longer))
-    after j x e long (inr (inr as-long)) = inr (inr (sym e, as-long .1))
-
-    others-after : (x : List ℕ) → Refutes R (λ i. i < m) m r x → length x ≡ suc (length l) → (x ≡ m ∷ l) ⊎ Before (m ∷ l) x
-    others-after [] ring long = absurd ring
-    others-after (j ∷ x) ring long = after j x (ring .0) (omega (arith, long)) (best-test→ R m r n l held new (parts .1) j x ring)
+        others-after : (x : List ℕ) → Refutes R (Passes f) k r x → length x ≡ suc (length l) → (x ≡ k ∷ l) ⊎ Before (k ∷ l) x
+        others-after [] ring long = absurd ring
+        others-after (j ∷ x) ring long = after j x (ring .0) (omega (arith, long)) (best-test→ (parts .1) j x ring)

@@ -4,11 +4,12 @@ use Prim.Native.Nat.{ℕ, _≤_, _<_}
 use native.Mathlib.Omega.{arith}
 use mathlib.Core.Path.{_≡_, refl, sym, _∙_, ap, subst}
 use mathlib.Core.List.{List}
+use mathlib.Core.Logic.{inr}
 use lib.IntN.{ℤ, pos}
 use lib.ListN.{length}
-use Rattle.meaning.specs.Bounds.{DONE}
+use Rattle.meaning.specs.Bounds.{RULES, DONE}
 use Rattle.meaning.specs.Rules.{Rule, Keeps, Arrangement, Earliest, Always, Never, largest}
-use Rattle.meaning.specs.Tables.{Tables, rule-at, at, with-rule, with-days}
+use Rattle.meaning.specs.Tables.{Tables, rule-at, at, next, Room, with-rule, with-days}
 use Rattle.meaning.specs.Promise.{Given, gave, In}
 use Rattle.meaning.specs.Calls.{with-list, with-lists, rules-of, held-in, WatchedThat, Split, add-meaning}
 use Rattle.meaning.specs.Runs.{Call, Made, Run}
@@ -19,6 +20,7 @@ use Rattle.meaning.proofs.LastDay.{largest-same}
 use Rattle.meaning.proofs.Determined.{given-eq}
 use Rattle.meaning.proofs.Lists.{all-in, rising-same, filled-length}
 use Rattle.meaning.proofs.Put.{put-old}
+use Rattle.meaning.proofs.Places.{next-free, next-below, with-rule-held}
 use Rattle.meaning.proofs.Sequences.{Kept, call-keeps, run-kept, kept-splits, kept-last}
 
 -- ---- the law
@@ -39,7 +41,7 @@ pub never-among : {R S : ℕ → Rule} {H G : ℕ → Type 0} → Among R H S G 
 never-among found r none d keeps = none d (arrangement-among found d keeps)
 
 pub earliest-among : {n : ℕ} {R S : ℕ → Rule} {H G : ℕ → Type 0} {p q : ℕ → ℕ} → Among R H S G → Earliest n R H p → Earliest n S G q → (v : ℕ) → v < n → p v ≤ q v
-earliest-among {q} found a b = a .no-later q (arrangement-among found (λ v. pos (q v)) (b .plan))
+earliest-among {q} found a b v below = omega (arith, a .no-later q (arrangement-among found (λ v. pos (q v)) (b .plan)) v below)
 
 -- ---- on sound tables
 
@@ -135,12 +137,13 @@ module _ {t u : Tables} (kt : Kept t) (ku : Kept u) (q : SameQuestion t u) where
 -- ---- one accepted Add
 
 -- No rule is missing after it.
-none-missing : (r : Rule) (t : Tables) (days : List ℕ) → NoneMissing t (with-days days (with-rule r t))
-none-missing r t days = record {
+none-missing : (r : Rule) (t : Tables) → Room t → next t < RULES → (days : List ℕ) → NoneMissing t (with-days days (with-rule r t))
+none-missing r t room below days = record {
   same-steps = refl;
   as-many-watched = refl;
   each-watched = λ j below. refl;
-  rules-there = λ i held. (i, (omega arith, put-old (t .rules) (t .counts .rules) r i (λ e. omega arith)));
+  rules-there =
+      λ i there. (i, (with-rule-held r t i room below .1 (inr there), put-old (t .rules) (next t) r i (λ e. next-free t (subst (held-in t) e there))));
 }
 
 -- **Nothing is unsaid** by an accepted Add, on whatever tables: so after any sequence of calls.
@@ -148,7 +151,7 @@ pub add-unsays-nothing : (r : Rule) (l l′ : List ℕ) (t u : Tables) (g : Give
 add-unsays-nothing r l l′ t u g x done =
     let met = done-met DONE (g .number) (add-meaning r (with-list t l) .asks) (needs.add-rises r (with-list t l)) (x .first-unmet) done in
     let before : Kept t = record { sound = met .1 .0; room = met .0 .0 } in
-    nothing-unsaid before (call-keeps (Call.adds r l l′) t u g x before) (subst (NoneMissing t) (sym (x .when-done done .rule-held)) (none-missing r t (u .days)))
+    nothing-unsaid before (call-keeps (Call.adds r l l′) t u g x before) (subst (NoneMissing t) (sym (x .when-done done .rule-held)) (none-missing r t (before .room) (next-below t (before .sound) (met .1 .1 .1 .1 .0)) (u .days)))
 
 -- ---- after sequences of calls
 

@@ -48,6 +48,19 @@ reason-same R S H k r same l x =
     back : (o : List ℕ) → Refutes S H k r o → Refutes R H k r o
     back = refutes-same S R H k r (λ i h. sym (same i h))
 
+-- And where the same numbers are held, in whatever words.
+pub reason-held : (R : ℕ → Rule) (H G : ℕ → Type 0) (k : ℕ) (r : Rule) → ((i : ℕ) → H i → G i) → ((i : ℕ) → G i → H i) → (l : List ℕ) → Reason R H k r l → Reason R G k r l
+reason-held R H G k r to from l x =
+    record {
+      refutes = refutes-held R H G k r to l (x .refutes);
+      fewest = λ o h. x .fewest o (refutes-held R G H k r from o h);
+      others-after = λ o h. x .others-after o (refutes-held R G H k r from o h);
+    }
+  where
+    refutes-held : (R : ℕ → Rule) (H G : ℕ → Type 0) (k : ℕ) (r : Rule) → ((i : ℕ) → H i → G i) → (l : List ℕ) → Refutes R H k r l → Refutes R G k r l
+    refutes-held R H G k r to [] h = h
+    refutes-held R H G k r to (j ∷ l) h = (h .0, record { ring = h .1 .ring; negative = h .1 .negative; rest-held = all-implies to l (h .1 .rest-held) })
+
 -- ---- the search
 
 -- Some number has P and all lower ones have Q, or all below n have Q.

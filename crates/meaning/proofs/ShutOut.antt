@@ -11,7 +11,7 @@ use mathlib.Core.Bool.{cond}
 use lib.IntN.{ℤ, pos, negℤ}
 use lib.Signed.{_<ℤ_}
 use lib.ListN.{length, replicate, take, length-replicate}
-use Rattle.meaning.specs.Bounds.{STEPS, RULES, MARKS, WATCHED, DONE, FULL, CONFLICT}
+use Rattle.meaning.specs.Bounds.{STEPS, RULES, WATCHED, DONE, FULL, CONFLICT}
 use Rattle.meaning.specs.declared.Counts.{Counts}
 use Rattle.meaning.specs.Rules.{Rule, Keeps, Plan, Earliest, largest, Leads, All, Different, total, more, Tight}
 use Rattle.meaning.specs.Tables.{Tables, Columns, rule-at, at, ColumnsRoom, Room, with-days, steps-alone}
@@ -30,7 +30,7 @@ use borrow.Author.Tests.{eq-eqb, ne-eqb}
 use Rattle.meaning.proofs.Possible.{Outcome, written, written-at, written-past, add-possible, back-possible, consequences-possible}
 use Rattle.meaning.proofs.LastDay.{largest-same}
 use Rattle.meaning.proofs.Tests.{both, nth, Below, plan-test→}
-use Rattle.meaning.proofs.Starred.{Shown, Shows, next-shown, row-test, rows-test, fresh-shown, row-holds, fresh-holds}
+use Rattle.meaning.proofs.Starred.{Shown, Shows, next-shown, row-test, rows-test, fresh-shown, row-holds, fresh-holds, shown-held, shown-count, shown-next}
 
 -- ---- engines
 
@@ -125,7 +125,7 @@ blank-columns : ℕ → Columns
 blank-columns k = record { firsts = replicate k 0; seconds = replicate k 0; amounts = replicate k (pos 0) }
 
 blank : Tables
-blank = record { counts = steps-alone 0; rules = blank-columns RULES; days = replicate STEPS 0; marks = replicate MARKS 0; watched = blank-columns WATCHED }
+blank = record { counts = steps-alone 0; rules = blank-columns RULES; days = replicate STEPS 0; levels = replicate RULES 0; watched = blank-columns WATCHED }
 
 columns-room : (k : ℕ) → ColumnsRoom k (blank-columns k)
 unfolding blank-columns
@@ -133,7 +133,7 @@ columns-room k = record { firsts-room = omega (arith, length-replicate {A = ℕ}
 
 blank-room : Room blank
 unfolding blank
-blank-room = record { rules-room = columns-room RULES; days-room = omega (arith, length-replicate {A = ℕ} STEPS 0); marks-room = omega (arith, length-replicate {A = ℕ} MARKS 0); watched-room = columns-room WATCHED }
+blank-room = record { rules-room = columns-room RULES; days-room = omega (arith, length-replicate {A = ℕ} STEPS 0); levels-room = omega (arith, length-replicate {A = ℕ} RULES 0); watched-room = columns-room WATCHED }
 
 -- A list with room for a ring.
 scratch : List ℕ
@@ -160,6 +160,8 @@ goes-on (Row.add r k days) t X s = let c = s scratch scratch-long in let p = c .
 goes-on (Row.refuse r ring sum) t X s = let c = s scratch scratch-long in let p = c .1 .1 in (p .tables, c .0 (p .answer) (p .tables) (c .1 .0) (p .made) .3)
 goes-on Row.mark t X s = (s .1 .tables, s .0 (s .1 .answer) (s .1 .tables) (s .1 .made) .1)
 goes-on (Row.back k days) t X s = (s .1 .tables, s .0 (s .1 .answer) (s .1 .tables) (s .1 .made) .3)
+goes-on (Row.withdraw i days) t X s = (s .1 .tables, s .0 (s .1 .answer) (s .1 .tables) (s .1 .made) .2)
+goes-on (Row.absent i) t X s = (s .1 .tables, s .0 (s .1 .answer) (s .1 .tables) (s .1 .made) .1)
 goes-on (Row.watch r) t X s = (s .1 .tables, s .0 (s .1 .answer) (s .1 .tables) (s .1 .made) .1)
 goes-on (Row.split all none) t X s = let c = s places places enough enough in let p = c .1 .2 in (p .tables, c .0 (p .answer) (p .tables) (c .1 .0) (c .1 .1) (p .made) .3)
   where
@@ -169,6 +171,7 @@ goes-on (Row.split all none) t X s = let c = s places places enough enough in le
     enough : t .counts .watched ≤ length places
     enough = omega (arith, length-replicate {A = ℕ} (t .counts .watched) 0)
 goes-on (Row.negate r s) t X c = (t, c .2)
+goes-on (Row.next k) t X s = (t, s .1)
 
 reached : (rows : List Row) (m : Shown) → T (rows-test m rows) → Reached m → Reached (shown-after m rows)
 reached [] m h w = w
@@ -433,7 +436,7 @@ coasts-afterwards = record {
 
     never : (e : AddEngine × ConsequencesEngine) → AddKeeps (e .0) × ConsequencesKeeps (e .1) → Coasts e → ⊥
     never (a, c) (keeps-a, keeps-c) coasts =
-        omega (arith, ap (λ (g : Given). g .one) (sym (before .0) ∙ sym (coasts (rule 1 2 (minus 3)) (lent w) _ _ (omega (arith, w .shows .rules)) (number-done (pressed .0)) (number-done (before .0)) (number-done later)) ∙ later))
+        omega (arith, ap (λ (g : Given). g .one) (sym (before .0) ∙ sym (coasts (rule 1 2 (minus 3)) (lent w) _ _ (omega (arith, shown-count (w .tables) m (w .shows))) (number-done (pressed .0)) (number-done (before .0)) (number-done later)) ∙ later))
       where
         m : Shown
         m = shown-after (fresh-shown four) (dry ∷ Row.watch (rule 0 2 (minus 5)) ∷ [])
@@ -501,7 +504,7 @@ invents-its-count = record {
     same-counts i =
         record {
           steps = (held .shows .steps ∙ sym (not-held .shows .steps)) i;
-          rules = (held .shows .rules ∙ sym (not-held .shows .rules)) i;
+          rules = (shown-count (held .tables) (shown-after (fresh-shown four) (dry ∷ [])) (held .shows) ∙ sym (shown-count (not-held .tables) (shown-after (fresh-shown four) (cart ∷ [])) (not-held .shows))) i;
           marks = (held .shows .marks ∙ sym (not-held .shows .marks)) i;
           watched = (held .shows .watched ∙ sym (not-held .shows .watched)) i;
           last = same-last i;
@@ -634,20 +637,27 @@ reports-a-walk = record {
     F : ℕ → Rule
     F = rules-and new (w .tables)
 
+    there : (i : ℕ) → i < 2 → held-in (w .tables) i
+    there zero below = shown-held (w .tables) m (w .shows) 0 (omega arith)
+    there (suc zero) below = shown-held (w .tables) m (w .shows) 1 (omega arith)
+    there (suc (suc i)) below = absurd (omega arith)
+
+    third : next-in (w .tables) ≡ 2
+    third = shown-next (w .tables) m (w .shows)
+
     old : (i : ℕ) → i < 2 → nth (m .rules) i ≡ F i
-    old i below =
-        sym (more-old (rules-of (w .tables)) (next-in (w .tables)) new i (λ e. omega (arith, w .shows .rules)) ∙ w .shows .each-rule i (omega (arith, w .shows .rules)))
+    old i below = sym (more-old (rules-of (w .tables)) (next-in (w .tables)) new i (λ e. omega (arith, third, e)) ∙ w .shows .each-rule i (there i below))
 
     -- The rules under the numbers of the walk.
     same : All (λ i. nth with-loop i ≡ F i) walk
-    same = (subst (λ (k : ℕ). new ≡ more (rules-of (w .tables)) k new 2) (sym (w .shows .rules)) (sym (more-new (rules-of (w .tables)) 2 new)), (old 1 (omega arith), (old 0 (omega arith), tt)))
+    same = (subst (λ (k : ℕ). new ≡ more (rules-of (w .tables)) k new 2) (sym third) (sym (more-new (rules-of (w .tables)) 2 new)), (old 1 (omega arith), (old 0 (omega arith), tt)))
 
     is-walk : Walk new (w .tables) walk × (Different (map (λ i. F i .first) walk) → ⊥)
     is-walk = (
       (
         leads-same (nth with-loop) F walk 1 1 same (walk-leads-back .0),
         subst (λ (t : ℤ). t <ℤ pos 0) (sym (walk-leads-back .1) ∙ total-same (nth with-loop) F walk same) (record { lt = tt }),
-        (inl (sym (w .shows .rules)), (inr (omega (arith, w .shows .rules)), (inr (omega (arith, w .shows .rules)), tt))),
+        (inl (sym third), (inr (there 1 (omega arith)), (inr (there 0 (omega arith)), tt))),
       ),
       λ different. different .0 .0 (ap (λ (q : Rule). q .first) (sym (same .0)) ∙ ap (λ (q : Rule). q .first) (same .1 .0)),
     )

@@ -88,3 +88,7 @@ NAME = 10
 -- A script, a name, a term's depth or a list of names over its size.
 abbrev pub SIZE : ℕ
 SIZE = 11
+
+-- No rule is held under that number.
+abbrev pub ABSENT : ℕ
+ABSENT = 12

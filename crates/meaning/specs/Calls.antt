@@ -1,12 +1,12 @@
--- The nine calls: what each needs, in order, and what it gives and leaves.
+-- The ten calls: what each needs, in order, and what it gives and leaves.
 use Prim.Native.Nat.{ℕ, _≤_, _<_}
 use mathlib.Core.Path.{_≡_}
 use mathlib.Core.List.{List, [], _∷_}
 use mathlib.Core.Logic.{_⊎_}
 use lib.ListN.{length}
-use Rattle.meaning.specs.Bounds.{STEPS, RULES, MARKS, WATCHED, SHORT, DAMAGED, STEP, AMOUNT, FULL, CONFLICT, NOMARK}
+use Rattle.meaning.specs.Bounds.{STEPS, RULES, MARKS, WATCHED, SHORT, DAMAGED, STEP, AMOUNT, FULL, CONFLICT, NOMARK, ABSENT}
 use Rattle.meaning.specs.Rules.{Rule, InSteps, InAmount, Fits, Always, Never, Refutes, Reason, largest, more, plus}
-use Rattle.meaning.specs.Tables.{Tables, rule-at, at, held, next, Room, Sound, opened, with-watched, with-rule, with-mark, without-mark, with-days}
+use Rattle.meaning.specs.Tables.{Tables, rule-at, at, held, next, Room, Sound, opened, with-watched, with-rule, with-mark, without-mark, without-rule, with-days}
 use Rattle.meaning.specs.Promise.{Meaning, Need, needs, no-conflict, Past, Filled, Planned, moved, Exactly}
 
 -- What is lent to a call with one list, and to one with two.
@@ -46,12 +46,14 @@ held-and t = plus (held-in t) (next-in t)
 abbrev pub rule-needs : ℕ → Rule → List Need → List Need
 rule-needs n r l = needs STEP (InSteps n r) ∷ needs AMOUNT (InAmount (r .amount)) ∷ l
 
--- **Open**: n steps, no rules, marks or watched rules, day 0 for every step.
+-- **Open**: n steps, no rules, marks or watched rules, every place free, day 0 for every step.
 pub record Opened (n : ℕ) (before : Tables) (a b : ℕ) (after : Tables) : Type 0 where
   pub no-values : (a ≡ 0) × (b ≡ 0)
-  pub emptied : after ≡ with-days (after .days) (opened n before)
+  pub emptied : after ≡ with-days (after .days) (opened n (after .levels) before)
   pub day-0 : (v : ℕ) → v < n → at (after .days) v ≡ 0
   pub past : Past n (before .days) (after .days)
+  pub all-free : (i : ℕ) → i < RULES → at (after .levels) i ≡ 0
+  pub past-levels : Past RULES (before .levels) (after .levels)
 
 abbrev pub open-meaning : ℕ → Tables → Meaning Tables
 open-meaning n before = record {
@@ -111,7 +113,7 @@ add-meaning r before = record {
   conflict = AddConflict r before;
 }
 
--- **Mark**: the number of rules held is the newest mark.
+-- **Mark**: one more mark is open.
 pub record Marked (before : Tables) (a b : ℕ) (after : Tables) : Type 0 where
   pub no-values : (a ≡ 0) × (b ≡ 0)
   pub marked : after ≡ with-mark before
@@ -123,7 +125,7 @@ mark-meaning before = record {
   conflict = no-conflict;
 }
 
--- **Back**: the newest mark and every rule added after it are dropped, and the days are the earliest plan of the rules left.
+-- **Back**: the newest mark and every rule added while it was open are dropped, and the days are the earliest plan of the rules left.
 pub record WentBack (before : Tables) (a b : ℕ) (after : Tables) : Type 0 where
   pub no-values : (a ≡ 0) × (b ≡ 0)
   pub dropped : after ≡ with-days (after .days) (without-mark before)
@@ -133,6 +135,19 @@ abbrev pub back-meaning : Tables → Meaning Tables
 back-meaning before = record {
   asks = needs SHORT (Room before) ∷ needs DAMAGED (Sound before) ∷ needs NOMARK (1 ≤ before .counts .marks) ∷ [];
   done = WentBack before;
+  conflict = no-conflict;
+}
+
+-- **Withdraw**: the rule held under number i is no longer held, and the days are the earliest plan of the rest. Every other rule keeps its number.
+pub record Withdrawn (i : ℕ) (before : Tables) (a b : ℕ) (after : Tables) : Type 0 where
+  pub no-values : (a ≡ 0) × (b ≡ 0)
+  pub gone : after ≡ with-days (after .days) (without-rule i before)
+  pub planned : Planned (before .counts .steps) (rules-of before) (held-in (without-rule i before)) (before .days) (after .days)
+
+abbrev pub withdraw-meaning : ℕ → Tables → Meaning Tables
+withdraw-meaning i before = record {
+  asks = needs SHORT (Room before) ∷ needs DAMAGED (Sound before) ∷ needs ABSENT (held-in before i) ∷ [];
+  done = Withdrawn i before;
   conflict = no-conflict;
 }
 

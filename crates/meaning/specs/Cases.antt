@@ -1,13 +1,13 @@
--- The worked cases that are to be proved: a table of the paper's starred ones, one of those of the reason, and what each claims.
+-- The worked cases that are to be proved: a table of the paper's starred ones, one of those of the reason, one of those of Withdraw, and what each claims.
 use Prim.Native.Nat.{ℕ, _≤_, _<_}
 use mathlib.Core.Path.{_≡_}
 use mathlib.Core.List.{List, [], _∷_}
 use lib.IntN.{ℤ, pos, negℤ}
 use lib.ListN.{length, take}
-use Rattle.meaning.specs.Bounds.{STEPS, DONE, CONFLICT}
+use Rattle.meaning.specs.Bounds.{STEPS, DONE, CONFLICT, ABSENT}
 use Rattle.meaning.specs.Rules.{Rule, rule, negation, total}
 use Rattle.meaning.specs.Tables.{Tables, at, Room}
-use Rattle.meaning.specs.Promise.{Given}
+use Rattle.meaning.specs.Promise.{Given, bare}
 use Rattle.meaning.specs.Calls.{next-in, rules-and}
 use Rattle.meaning.specs.Runs.{Call, Made}
 
@@ -20,11 +20,17 @@ pub data Row : Type 0 where
   mark : Row
   -- Back, accepted: how many rules are left, and the days.
   back : ℕ → List ℕ → Row
+  -- Withdraw, accepted: the number, and the days.
+  withdraw : ℕ → List ℕ → Row
+  -- Withdraw of a number that is not held.
+  absent : ℕ → Row
   watch : Rule → Row
   -- Consequences: the first list and the second.
   split : List ℕ → List ℕ → Row
   -- No call: the one rule is the negation of the other, and back again.
   negate : Rule → Rule → Row
+  -- No call: the number that the next rule would have.
+  next : ℕ → Row
 
 -- A case: its number, the paper's where it is starred, the days right after Open (as many as there are steps), and its rows.
 pub record Case : Type 0 where
@@ -65,6 +71,8 @@ Says (Row.refuse r ring sum) t X =
 Says Row.mark t X = ((g : Given) (u : Tables) → Made Call.marks t g u → Done 0 0 g × X u) × Possible Call.marks t
 Says (Row.back k days) t X =
     ((g : Given) (u : Tables) → Made Call.goes-back t g u → Done 0 0 g × (u .counts .rules ≡ k) × Days u days × X u) × Possible Call.goes-back t
+Says (Row.withdraw i days) t X = ((g : Given) (u : Tables) → Made (Call.withdraws i) t g u → Done 0 0 g × Days u days × X u) × Possible (Call.withdraws i) t
+Says (Row.absent i) t X = ((g : Given) (u : Tables) → Made (Call.withdraws i) t g u → (g ≡ bare ABSENT) × X u) × Possible (Call.withdraws i) t
 Says (Row.watch r) t X = ((g : Given) (u : Tables) → Made (Call.watches r) t g u → Done 0 0 g × X u) × Possible (Call.watches r) t
 Says (Row.split all none) t X =
     (l m : List ℕ)
@@ -75,6 +83,7 @@ Says (Row.split all none) t X =
     → Done (length all) (length none) g × (take (length all) l′ ≡ all) × (take (length none) m′ ≡ none) × X u)
     × ((l′ : List ℕ) × (m′ : List ℕ) × Possible (Call.asks-consequences l l′ m m′) t)
 Says (Row.negate r s) t X = (negation r ≡ s) × (negation s ≡ r) × X t
+Says (Row.next k) t X = (next-in t ≡ k) × X t
 
 -- What rows claim of tables t: what the first claims, and the others of whatever tables it leaves.
 abbrev pub Claim : Tables → List Row → Type 0
@@ -213,3 +222,39 @@ reason-5 =
 
 abbrev pub reasons : List Case
 reasons = reason-1 ∷ reason-2 ∷ reason-3 ∷ reason-4 ∷ reason-5 ∷ []
+
+-- The cases of Withdraw, numbered by themselves. 1: the middle of three rules is withdrawn. Its number is free, a rule refused now has it, and the next rule takes it.
+abbrev withdrawal-1 : Case
+withdrawal-1 =
+    case 1
+    (adds-2
+    ∷ adds-3
+    ∷ Row.add (rule 2 3 (minus 1)) 1 (0 ∷ 2 ∷ 5 ∷ 6 ∷ [])
+    ∷ Row.next 3
+    ∷ Row.withdraw 1 (0 ∷ 2 ∷ 0 ∷ 1 ∷ [])
+    ∷ Row.absent 1
+    ∷ Row.next 1
+    ∷ Row.refuse (rule 1 0 (pos 1)) (1 ∷ 0 ∷ []) (minus 1)
+    ∷ Row.add (rule 3 0 (pos 5)) 0 (0 ∷ 2 ∷ 0 ∷ 1 ∷ [])
+    ∷ Row.next 3
+    ∷ [])
+
+-- 2: a rule of before the mark is withdrawn, and one added under the mark takes its number. Back drops both rules added under the mark, and nothing is held.
+abbrev withdrawal-2 : Case
+withdrawal-2 =
+    case 2
+    (adds-2
+    ∷ Row.mark
+    ∷ adds-3
+    ∷ Row.withdraw 0 (0 ∷ 0 ∷ 3 ∷ 0 ∷ [])
+    ∷ Row.next 0
+    ∷ Row.add (rule 0 3 (minus 4)) 1 (0 ∷ 0 ∷ 3 ∷ 4 ∷ [])
+    ∷ Row.next 2
+    ∷ Row.back 0 fresh
+    ∷ Row.absent 0
+    ∷ Row.absent 1
+    ∷ Row.next 0
+    ∷ [])
+
+abbrev pub withdrawals : List Case
+withdrawals = withdrawal-1 ∷ withdrawal-2 ∷ []

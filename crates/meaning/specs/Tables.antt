@@ -1,6 +1,8 @@
 -- The office tables: what is lent, how rules are read from columns, and when the tables are sound.
-use Prim.Native.Nat.{ℕ, _+_, _-_, _≤_, _<_}
+use Prim.Native.Nat.{ℕ, zero, suc, _+_, _-_, _≤_, _<_}
 use mathlib.Core.List.{List}
+use mathlib.Core.Bool.{cond}
+use lib.Dec.{eqb, leb, ltb}
 use lib.ListN.{length, getD, set}
 use lib.IntN.{ℤ, pos}
 use Rattle.meaning.specs.declared.Counts.{Counts}
@@ -14,12 +16,13 @@ pub record Columns : Type 0 where
   pub seconds : List ℕ
   pub amounts : List ℤ
 
--- All that is lent to every call: the counts, the rules held, the days, the marks and the watched rules.
+-- All that is lent to every call: the counts, the rules, the days, the level of each rule, and the watched rules. A level's cell is 0 where the place is free, and
+-- k + 1 for a rule that was added while k marks were open.
 pub record Tables : Type 0 where
   pub counts : Counts
   pub rules : Columns
   pub days : List ℕ
-  pub marks : List ℕ
+  pub levels : List ℕ
   pub watched : Columns
 
 -- The rule under number i of a table.
@@ -30,17 +33,27 @@ rule-at c i = record { first = getD (c .firsts) i 0; second = getD (c .seconds) 
 abbrev pub put : Columns → ℕ → Rule → Columns
 put c i r = record { firsts = set (c .firsts) i (r .first); seconds = set (c .seconds) i (r .second); amounts = set (c .amounts) i (r .amount) }
 
--- What stands at place i of a list of days, marks or ring entries; 0 past its end.
+-- What stands at place i of a list of days, levels or ring entries; 0 past its end.
 abbrev pub at : List ℕ → ℕ → ℕ
 at l i = getD l i 0
 
--- Which rule numbers are held: those below the rule count.
+-- Which rule numbers are held: the places whose cell of the levels is not 0.
 abbrev pub held : Tables → ℕ → Type 0
-held t i = i < t .counts .rules
+held t i = (i < RULES) × (0 < at (t .levels) i)
 
--- The number that the next rule would have.
+-- How many of the first n places are held.
+unfoldable pub taken : ℕ → List ℕ → ℕ
+taken zero levels = 0
+taken (suc n) levels = taken n levels + cond (eqb (at levels n) 0) 0 1
+
+-- The lowest of the first n places that is free, and n where none is.
+unfoldable pub lowest-free : ℕ → List ℕ → ℕ
+lowest-free zero levels = 0
+lowest-free (suc n) levels = cond (ltb (lowest-free n levels) n) (lowest-free n levels) (cond (eqb (at levels n) 0) n (suc n))
+
+-- The number that the next rule would have: the lowest free place, RULES where none is free.
 abbrev pub next : Tables → ℕ
-next t = t .counts .rules
+next t = lowest-free RULES (t .levels)
 
 -- The table has at least k places in each column.
 pub record ColumnsRoom (k : ℕ) (c : Columns) : Type 0 where
@@ -52,7 +65,7 @@ pub record ColumnsRoom (k : ℕ) (c : Columns) : Type 0 where
 pub record Room (t : Tables) : Type 0 where
   pub rules-room : ColumnsRoom RULES (t .rules)
   pub days-room : STEPS ≤ length (t .days)
-  pub marks-room : MARKS ≤ length (t .marks)
+  pub levels-room : RULES ≤ length (t .levels)
   pub watched-room : ColumnsRoom WATCHED (t .watched)
 
 -- The counts are within bounds.
@@ -63,14 +76,15 @@ pub record InCounts (c : Counts) : Type 0 where
   pub marks-in : c .marks ≤ MARKS
   pub watched-in : c .watched ≤ WATCHED
 
--- The tables are sound: the counts are within bounds, every held and watched rule is within bounds, marks never fall and none exceeds
--- the rule count, the days equal the earliest plan of the rules held, and the last day is the largest of them. Cells past the counts may hold anything.
+-- The tables are sound: the counts are within bounds, every held and watched rule is within bounds, no held rule's level is above the marks open, the rule count is
+-- that of the places held, the days equal the earliest plan of the rules held, and the last day is the largest of them. What else a free place has, and cells past the
+-- counts, may be anything.
 pub record Sound (t : Tables) : Type 0 where
   pub counts-in : InCounts (t .counts)
   pub rules-good : (i : ℕ) → held t i → InBounds (t .counts .steps) (rule-at (t .rules) i)
+  pub levels-open : (i : ℕ) → held t i → at (t .levels) i ≤ t .counts .marks + 1
+  pub rules-counted : t .counts .rules ≡ taken RULES (t .levels)
   pub watched-good : (i : ℕ) → i < t .counts .watched → InBounds (t .counts .steps) (rule-at (t .watched) i)
-  pub marks-never-fall : (i j : ℕ) → i ≤ j → j < t .counts .marks → at (t .marks) i ≤ at (t .marks) j
-  pub marks-held : (i : ℕ) → i < t .counts .marks → at (t .marks) i ≤ t .counts .rules
   pub days-earliest : Earliest (t .counts .steps) (rule-at (t .rules)) (held t) (at (t .days))
   pub last-largest : t .counts .last ≡ largest (t .counts .steps) (at (t .days))
 
@@ -92,9 +106,9 @@ watched-now k c = record { steps = c .steps; rules = c .rules; marks = c .marks;
 abbrev pub last-now : ℕ → Counts → Counts
 last-now k c = record { steps = c .steps; rules = c .rules; marks = c .marks; watched = c .watched; last = k }
 
--- The tables of n steps with no rule, mark or watched rule. The days are not yet set.
-abbrev pub opened : ℕ → Tables → Tables
-opened n t = record { counts = steps-alone n; rules = t .rules; days = t .days; marks = t .marks; watched = t .watched }
+-- The tables of n steps with no rule, mark or watched rule, where the levels are given. The days are not yet set.
+abbrev pub opened : ℕ → List ℕ → Tables → Tables
+opened n levels t = record { counts = steps-alone n; rules = t .rules; days = t .days; levels = levels; watched = t .watched }
 
 -- The tables with one more rule watched, at the end.
 abbrev pub with-watched : Rule → Tables → Tables
@@ -102,41 +116,56 @@ with-watched r t = record {
   counts = watched-now (t .counts .watched + 1) (t .counts);
   rules = t .rules;
   days = t .days;
-  marks = t .marks;
+  levels = t .levels;
   watched = put (t .watched) (t .counts .watched) r;
 }
 
--- The tables with one more rule held, under the next number. The days are not yet brought up to date.
+-- The tables with one more rule held, under the next number and of the level that is open. The days are not yet brought up to date.
 abbrev pub with-rule : Rule → Tables → Tables
 with-rule r t = record {
   counts = rules-now (t .counts .rules + 1) (t .counts);
   rules = put (t .rules) (next t) r;
   days = t .days;
-  marks = t .marks;
+  levels = set (t .levels) (next t) (t .counts .marks + 1);
   watched = t .watched;
 }
 
--- The tables with one more mark: the number of rules held now.
+-- The tables with one more mark open.
 abbrev pub with-mark : Tables → Tables
 with-mark t = record {
   counts = marks-now (t .counts .marks + 1) (t .counts);
   rules = t .rules;
   days = t .days;
-  marks = set (t .marks) (t .counts .marks) (t .counts .rules);
+  levels = t .levels;
   watched = t .watched;
 }
 
--- The newest mark.
-abbrev pub newest-mark : Tables → ℕ
-newest-mark t = at (t .marks) (t .counts .marks - 1)
+-- The levels with every one of the first n places freed whose level is above k, its cell being above k + 1.
+unfoldable pub freed-above : ℕ → ℕ → List ℕ → List ℕ
+freed-above zero k levels = levels
+freed-above (suc n) k levels = cond (leb (at levels n) (k + 1)) (freed-above n k levels) (set (freed-above n k levels) n 0)
 
--- The tables without the newest mark and the rules added after it. The days are not yet brought up to date.
-abbrev pub without-mark : Tables → Tables
-without-mark t = record {
-  counts = marks-now (t .counts .marks - 1) (rules-now (newest-mark t) (t .counts));
+-- The tables with k marks open and no rule of a level above k: marks and rules added since there were k marks are gone. The days are not yet brought up to date.
+abbrev pub down-to : ℕ → Tables → Tables
+down-to k t = record {
+  counts = marks-now k (rules-now (taken RULES (freed-above RULES k (t .levels))) (t .counts));
   rules = t .rules;
   days = t .days;
-  marks = t .marks;
+  levels = freed-above RULES k (t .levels);
+  watched = t .watched;
+}
+
+-- The tables without the newest mark and the rules added while it was open. The days are not yet brought up to date.
+abbrev pub without-mark : Tables → Tables
+without-mark t = down-to (t .counts .marks - 1) t
+
+-- The tables without the rule held under number i. The days are not yet brought up to date.
+abbrev pub without-rule : ℕ → Tables → Tables
+without-rule i t = record {
+  counts = rules-now (t .counts .rules - 1) (t .counts);
+  rules = t .rules;
+  days = t .days;
+  levels = set (t .levels) i 0;
   watched = t .watched;
 }
 
@@ -146,6 +175,6 @@ with-days days t = record {
   counts = last-now (largest (t .counts .steps) (at days)) (t .counts);
   rules = t .rules;
   days = days;
-  marks = t .marks;
+  levels = t .levels;
   watched = t .watched;
 }

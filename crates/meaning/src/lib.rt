@@ -59,6 +59,8 @@ pub const NAME: u32 = 10;
 
 pub const SIZE: u32 = 11;
 
+pub const ABSENT: u32 = 12;
+
 // How many of each thing the tables hold, and the last day of the plan. The caller lends it; a call brings it up to date. C callers lend it too, so its fields lie in this order.
 #[repr(C)]
 pub struct Counts {

@@ -51,7 +51,7 @@ fn answer(
     ys: &mut [u16],
     cs: &mut [i32],
     days: &mut [u32],
-    marks: &mut [u32],
+    levels: &mut [u8],
     heads: &mut [u16],
     nexts: &mut [u16],
     kept: &mut [u32],
@@ -63,9 +63,9 @@ fn answer(
     out: &mut [u8],
 ) -> u32
     requires { ⌜ now tab ≡ TABLE ⌝ }
-    requires { ⌜ Maintained (notes .names) (in-hand counts (now xs) (now ys) (now cs) (now days) (now marks) notes (now names) (now lens) (now out)) (now heads) (now nexts) (now kept) (now hashes) (now «name_heads») (now «name_nexts») ⌝ }
+    requires { ⌜ Maintained (notes .names) (in-hand counts (now xs) (now ys) (now cs) (now days) (now levels) notes (now names) (now lens) (now out)) (now heads) (now nexts) (now kept) (now hashes) (now «name_heads») (now «name_nexts») ⌝ }
     requires { ⌜ ROOM ≤ length (now out) ⌝ }
-    ensures { λ r. ⌜ Ends (now (s .entry)) 0 (in-hand counts (now (xs .entry)) (now (ys .entry)) (now (cs .entry)) (now (days .entry)) (now (marks .entry)) notes (now (names .entry)) (now (lens .entry)) (now (out .entry))) r ⌝ }
+    ensures { λ r. ⌜ Ends (now (s .entry)) 0 (in-hand counts (now (xs .entry)) (now (ys .entry)) (now (cs .entry)) (now (days .entry)) (now (levels .entry)) notes (now (names .entry)) (now (lens .entry)) (now (out .entry))) r ⌝ }
 {
     let mut at = 0;
     let mut held = counts;
@@ -81,7 +81,7 @@ fn answer(
             ys,
             cs,
             days,
-            marks,
+            levels,
             heads,
             nexts,
             kept,
@@ -116,9 +116,9 @@ fn play(s: &[u8]) -> u32
     let mut ys = [0u16; meaning::RULES];
     let mut cs = [0i32; meaning::RULES];
     let mut days = [0u32; meaning::STEPS];
-    let mut marks = [0u32; meaning::MARKS];
+    let mut levels = [0u8; meaning::RULES];
     let mut heads = [0u16; meaning::STEPS];
-    let mut nexts = [0u16; meaning::RULES];
+    let mut nexts = [chains::OFF; meaning::RULES];
     let mut kept = [0u32; levels::KEPT];
     let mut names = [0u8; names::SHELF];
     let mut lens = [0u8; meaning::STEPS];
@@ -135,7 +135,7 @@ fn play(s: &[u8]) -> u32
         &mut ys,
         &mut cs,
         &mut days,
-        &mut marks,
+        &mut levels,
         &mut heads,
         &mut nexts,
         &mut kept,

@@ -2,11 +2,11 @@
 ghost use Prim.Native.Nat.{ℕ, _≤_, _<_};
 ghost use mathlib.Core.Path.{_≡_};
 ghost use lib.ListN.{length, drop};
-ghost use Rattle.meaning.specs.Bounds.{STEPS};
+ghost use Rattle.meaning.specs.Bounds.{STEPS, RULES};
 ghost use Rattle.meaning.specs.Rules.{All, Different, Refutes};
 ghost use Rattle.meaning.specs.Tables.{rule-at, at};
 ghost use Rattle.lent.specs.Decides.{Decides};
-ghost use Rattle.lent.specs.Lent.{columns, first, BIAS};
+ghost use Rattle.lent.specs.Lent.{columns, held-by, BIAS};
 ghost use Rattle.ringcheck.specs.Closing.{Closes, GoesOn, Walkable, FlagIn, OnceIn, first-steps, Readable, Checkable};
 
 // A window has so many steps: a flag for each of them is one bit of a u64.
@@ -20,38 +20,43 @@ fn entry_at(list: &[u32], k: usize) -> usize
     lent::day_at(list, k) as usize
 }
 
-// Whether number i is below m and its rule's first step is the step reached.
-fn goes_on(m: usize, xs: &[u16], reached: usize, i: usize) -> bool
-    requires { ⌜ ((i : ℕ) → i < m → i < length (now xs)) ⌝ }
-    ensures { λ r. ⌜ Decides r (GoesOn (at (now (xs .entry))) (first m) reached i) ⌝ }
+// Whether number i is held and its rule's first step is the step reached.
+fn goes_on(levels: &[u8], xs: &[u16], reached: usize, i: usize) -> bool
+    requires { ⌜ RULES ≤ length (now levels) ⌝ }
+    requires { ⌜ ((i : ℕ) → held-by (now levels) i → i < length (now xs)) ⌝ }
+    ensures { λ r. ⌜ Decides r (GoesOn (at (now (xs .entry))) (held-by (now (levels .entry))) reached i) ⌝ }
 {
-    if m <= i {
+    if meaning::RULES <= i {
+        return false;
+    }
+    if lent::level_at(levels, i) == 0 {
         return false;
     }
     lent::number_at(xs, i) == reached
 }
 
-// Whether the numbers of the list after its first are below m and their rules lead from step y back to step x with a negative sum, where the first
+// Whether the numbers of the list after its first are held and their rules lead from step y back to step x with a negative sum, where the first
 // number's amount is given as amount + lent::BIAS.
 fn closes(
-    m: usize,
     xs: &[u16],
     ys: &[u16],
     cs: &[i32],
+    levels: &[u8],
     x: usize,
     y: usize,
     amount: u64,
     list: &[u32],
 ) -> bool
-    requires { ⌜ Walkable (first m) (now xs) (now ys) (now cs) amount (now list) ⌝ }
-    ensures { λ r. ⌜ Decides r (Closes (rule-at (columns (now (xs .entry)) (now (ys .entry)) (now (cs .entry)))) (first m) x y amount BIAS (drop 1 (now (list .entry)))) ⌝ }
+    requires { ⌜ RULES ≤ length (now levels) ⌝ }
+    requires { ⌜ Walkable (held-by (now levels)) (now xs) (now ys) (now cs) amount (now list) ⌝ }
+    ensures { λ r. ⌜ Decides r (Closes (rule-at (columns (now (xs .entry)) (now (ys .entry)) (now (cs .entry)))) (held-by (now (levels .entry))) x y amount BIAS (drop 1 (now (list .entry)))) ⌝ }
 {
     let mut reached = y;
     let mut sum = amount;
     let mut k: usize = 1;
     while k < list.len() {
         let i = entry_at(list, k);
-        if !goes_on(m, xs, reached, i) {
+        if !goes_on(levels, xs, reached, i) {
             return false;
         }
         sum += lent::amount_at(cs, i);
@@ -114,7 +119,7 @@ fn different(n: usize, xs: &[u16], x: usize, list: &[u32]) -> bool
     true
 }
 
-// Whether the list is a negative ring of the rule x, y, c under number m and then of rules below m. Any list may be asked about: one
+// Whether the list is a negative ring of the rule x, y, c under number m, which is free, and then of rules held. Any list may be asked about: one
 // with more numbers than the n steps is no ring, since some step would be a first step twice.
 pub fn is_ring(
     n: usize,
@@ -122,13 +127,16 @@ pub fn is_ring(
     xs: &[u16],
     ys: &[u16],
     cs: &[i32],
+    levels: &[u8],
     x: u16,
     y: u16,
     c: i32,
     list: &[u32],
 ) -> bool
-    requires { ⌜ Checkable n (first m) (now xs) (now ys) (now cs) (record { first = x; second = y; amount = c }) ⌝ }
-    ensures { λ r. ⌜ Decides r (Refutes (rule-at (columns (now (xs .entry)) (now (ys .entry)) (now (cs .entry)))) (first m) m (record { first = x; second = y; amount = c }) (now (list .entry))) ⌝ }
+    requires { ⌜ RULES ≤ length (now levels) ⌝ }
+    requires { ⌜ (held-by (now levels) m → ⊥) ⌝ }
+    requires { ⌜ Checkable n (held-by (now levels)) (now xs) (now ys) (now cs) (record { first = x; second = y; amount = c }) ⌝ }
+    ensures { λ r. ⌜ Decides r (Refutes (rule-at (columns (now (xs .entry)) (now (ys .entry)) (now (cs .entry)))) (held-by (now (levels .entry))) m (record { first = x; second = y; amount = c }) (now (list .entry))) ⌝ }
 {
     let numbers = list.len();
     if numbers == 0 {
@@ -141,7 +149,7 @@ pub fn is_ring(
         return false;
     }
     let first = x as usize;
-    if !closes(m, xs, ys, cs, first, y as usize, lent::biased(c), list) {
+    if !closes(xs, ys, cs, levels, first, y as usize, lent::biased(c), list) {
         return false;
     }
     different(n, xs, first, list)

@@ -105,7 +105,7 @@ pub carries-watching : (w : Columns) {s : List ℕ} {k : ℕ} {before after : Le
 carries-watching w {s} {k} {before} {after} {r} h = record {
   first-unmet =
       needs-alike (form s) s (r .number) before (lent-watching w before)
-      (record { tables-alike = record { same-counts = refl; same-rules = λ i i-in. refl; same-marks = λ i i-in. refl }; same-notes = refl; same-names = λ j j-in. refl })
+      (record { tables-alike = record { same-counts = refl; same-levels = λ i i-in. refl; same-rules = λ i held. refl }; same-notes = refl; same-names = λ j j-in. refl })
       (h .first-unmet);
   when-done = λ e. does-watching w (form s) s k before (r .written) after (h .when-done e);
   when-refused = λ nd. (ap (lent-watching w) (h .when-refused nd .0), h .when-refused nd .1);

@@ -11,6 +11,7 @@ use Rattle.chains.specs.Chains.{LentChains}
 use Rattle.span.specs.Span.{span}
 use Rattle.script_meaning.specs.Commands.{command-meaning}
 use Rattle.meaning.specs.Tables.{at}
+use Rattle.lent.specs.Lent.{held-by}
 use Rattle.lent.specs.Decides.{Decides}
 use Rattle.names.specs.Names.{name-at, AllDifferent, Indexed}
 use Rattle.script_meaning.specs.declared.Notes.{Notes}
@@ -51,7 +52,7 @@ pub record RecordTested (counts : Counts) (notes : Notes) (names lens : List ℕ
 -- What the test of sound tables and a sound record leaves beside them: the chains of the rules held, and the index of the names.
 pub record Stands (l : Lent) (heads nexts hashes name-heads name-nexts : List ℕ) : Type 0 where
   pub sound : ScriptSound l
-  pub chained : LentChains (l .tables .counts .steps) (l .tables .counts .rules) (l .tables .rules .firsts) heads nexts
+  pub chained : LentChains (l .tables .counts .steps) (held-by (l .tables .levels)) (l .tables .rules .firsts) heads nexts
   pub indexed : Indexed (l .notes .names) (l .names) (l .lens) hashes name-heads name-nexts
 
 -- The answer r says whether tables and record are sound.

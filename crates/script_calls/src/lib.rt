@@ -28,16 +28,16 @@ fn start_room(
     ys: &[u16],
     cs: &[i32],
     days: &[u32],
-    marks: &[u32],
+    levels: &[u8],
     wxs: &[u16],
     wys: &[u16],
     wcs: &[i32],
     names: &[u8],
     lens: &[u8],
 ) -> bool
-    ensures { λ r. ⌜ ((counts : Counts) (notes : Notes) (out : List ℕ) → Decides r (StartRoom (lent counts (now (xs .entry)) (now (ys .entry)) (now (cs .entry)) (now (days .entry)) (now (marks .entry)) (now (wxs .entry)) (now (wys .entry)) (now (wcs .entry)) notes (now (names .entry)) (now (lens .entry)) out))) ⌝ }
+    ensures { λ r. ⌜ ((counts : Counts) (notes : Notes) (out : List ℕ) → Decides r (StartRoom (lent counts (now (xs .entry)) (now (ys .entry)) (now (cs .entry)) (now (days .entry)) (now (levels .entry)) (now (wxs .entry)) (now (wys .entry)) (now (wcs .entry)) notes (now (names .entry)) (now (lens .entry)) out))) ⌝ }
 {
-    if !sound::has_room(xs, ys, cs, days, marks, wxs, wys, wcs) {
+    if !sound::has_room(xs, ys, cs, days, levels, wxs, wys, wcs) {
         return false;
     }
     if names.len() < meaning::NAME_BYTES * meaning::STEPS {
@@ -46,7 +46,7 @@ fn start_room(
     meaning::STEPS <= lens.len()
 }
 
-// Start: SHORT; else STEPS steps, no rules, marks or watched rules, day 0 for every step, and an empty record.
+// Start: SHORT; else STEPS steps, no rules, marks or watched rules, every place free, day 0 for every step, and an empty record.
 pub fn start(
     counts: Counts,
     notes: Notes,
@@ -54,7 +54,7 @@ pub fn start(
     ys: &[u16],
     cs: &[i32],
     days: &mut [u32],
-    marks: &[u32],
+    levels: &mut [u8],
     wxs: &[u16],
     wys: &[u16],
     wcs: &[i32],
@@ -63,12 +63,12 @@ pub fn start(
 ) -> ScriptReply
     ensures { λ r. ⌜ ((out : List ℕ) →
         Obeys
-        (start-meaning (lent counts (now (xs .entry)) (now (ys .entry)) (now (cs .entry)) (now (days .entry)) (now (marks .entry)) (now (wxs .entry)) (now (wys .entry)) (now (wcs .entry)) notes (now (names .entry)) (now (lens .entry)) out))
-        (lent counts (now (xs .entry)) (now (ys .entry)) (now (cs .entry)) (now (days .entry)) (now (marks .entry)) (now (wxs .entry)) (now (wys .entry)) (now (wcs .entry)) notes (now (names .entry)) (now (lens .entry)) out)
+        (start-meaning (lent counts (now (xs .entry)) (now (ys .entry)) (now (cs .entry)) (now (days .entry)) (now (levels .entry)) (now (wxs .entry)) (now (wys .entry)) (now (wcs .entry)) notes (now (names .entry)) (now (lens .entry)) out))
+        (lent counts (now (xs .entry)) (now (ys .entry)) (now (cs .entry)) (now (days .entry)) (now (levels .entry)) (now (wxs .entry)) (now (wys .entry)) (now (wcs .entry)) notes (now (names .entry)) (now (lens .entry)) out)
         (bare (r .number))
-        (lent (r .counts) (now (xs .entry)) (now (ys .entry)) (now (cs .entry)) (now (days .exit)) (now (marks .entry)) (now (wxs .entry)) (now (wys .entry)) (now (wcs .entry)) (r .notes) (now (names .entry)) (now (lens .entry)) out)) ⌝ }
+        (lent (r .counts) (now (xs .entry)) (now (ys .entry)) (now (cs .entry)) (now (days .exit)) (now (levels .exit)) (now (wxs .entry)) (now (wys .entry)) (now (wcs .entry)) (r .notes) (now (names .entry)) (now (lens .entry)) out)) ⌝ }
 {
-    if !start_room(xs, ys, cs, days, marks, wxs, wys, wcs, names, lens) {
+    if !start_room(xs, ys, cs, days, levels, wxs, wys, wcs, names, lens) {
         return ScriptReply {
             counts: counts,
             notes: notes,
@@ -76,6 +76,7 @@ pub fn start(
         };
     }
     inner_watch::clear_days(meaning::STEPS, days);
+    inner_watch::free_all(levels);
     ScriptReply {
         counts: meaning::steps_alone(script_meaning::STEPS),
         notes: script_meaning::no_notes(),
@@ -193,7 +194,7 @@ fn command_room(
     ys: &[u16],
     cs: &[i32],
     days: &[u32],
-    marks: &[u32],
+    levels: &[u8],
     wxs: &[u16],
     wys: &[u16],
     wcs: &[i32],
@@ -201,9 +202,9 @@ fn command_room(
     lens: &[u8],
     out: &[u8],
 ) -> bool
-    ensures { λ r. ⌜ ((counts : Counts) (notes : Notes) → Decides r (ScriptRoom 0 (lent counts (now (xs .entry)) (now (ys .entry)) (now (cs .entry)) (now (days .entry)) (now (marks .entry)) (now (wxs .entry)) (now (wys .entry)) (now (wcs .entry)) notes (now (names .entry)) (now (lens .entry)) (now (out .entry))))) ⌝ }
+    ensures { λ r. ⌜ ((counts : Counts) (notes : Notes) → Decides r (ScriptRoom 0 (lent counts (now (xs .entry)) (now (ys .entry)) (now (cs .entry)) (now (days .entry)) (now (levels .entry)) (now (wxs .entry)) (now (wys .entry)) (now (wcs .entry)) notes (now (names .entry)) (now (lens .entry)) (now (out .entry))))) ⌝ }
 {
-    if !start_room(xs, ys, cs, days, marks, wxs, wys, wcs, names, lens) {
+    if !start_room(xs, ys, cs, days, levels, wxs, wys, wcs, names, lens) {
         return false;
     }
     meaning::ROOM <= out.len()
@@ -218,7 +219,7 @@ fn stands(
     ys: &[u16],
     cs: &[i32],
     days: &[u32],
-    marks: &[u32],
+    levels: &[u8],
     wxs: &[u16],
     wys: &[u16],
     wcs: &[i32],
@@ -231,14 +232,26 @@ fn stands(
     name_nexts: &mut [u16],
 ) -> bool
     requires { ⌜ now tab ≡ TABLE ⌝ }
-    requires { ⌜ Room (tables counts (now xs) (now ys) (now cs) (now days) (now marks) (now wxs) (now wys) (now wcs)) ⌝ }
+    requires { ⌜ Room (tables counts (now xs) (now ys) (now cs) (now days) (now levels) (now wxs) (now wys) (now wcs)) ⌝ }
     requires { ⌜ NamesRoom (now names) (now lens) ⌝ }
     requires { ⌜ STEPS ≤ length (now heads) ⌝ }
     requires { ⌜ RULES ≤ length (now nexts) ⌝ }
     requires { ⌜ IndexRoom (now hashes) (now «name_heads») (now «name_nexts») ⌝ }
-    ensures { λ r. ⌜ ((out : List ℕ) → StandTested (lent counts (now (xs .entry)) (now (ys .entry)) (now (cs .entry)) (now (days .entry)) (now (marks .entry)) (now (wxs .entry)) (now (wys .entry)) (now (wcs .entry)) notes (now (names .entry)) (now (lens .entry)) out) r (now (heads .exit)) (now (nexts .exit)) (now (hashes .exit)) (now («name_heads» .exit)) (now («name_nexts» .exit))) ⌝ }
+    ensures { λ r. ⌜ ((out : List ℕ) → StandTested (lent counts (now (xs .entry)) (now (ys .entry)) (now (cs .entry)) (now (days .entry)) (now (levels .entry)) (now (wxs .entry)) (now (wys .entry)) (now (wcs .entry)) notes (now (names .entry)) (now (lens .entry)) out) r (now (heads .exit)) (now (nexts .exit)) (now (hashes .exit)) (now («name_heads» .exit)) (now («name_nexts» .exit))) ⌝ }
 {
-    if !sound::is_sound(counts, xs, ys, cs, days, marks, wxs, wys, wcs, heads, nexts) {
+    if !sound::is_sound(
+        counts,
+        xs,
+        ys,
+        cs,
+        days,
+        levels,
+        wxs,
+        wys,
+        wcs,
+        heads,
+        nexts,
+    ) {
         return false;
     }
     record_fine(
@@ -263,7 +276,7 @@ fn verdict(
     ys: &[u16],
     cs: &[i32],
     days: &[u32],
-    marks: &[u32],
+    levels: &[u8],
     wxs: &[u16],
     wys: &[u16],
     wcs: &[i32],
@@ -280,9 +293,9 @@ fn verdict(
     requires { ⌜ STEPS ≤ length (now heads) ⌝ }
     requires { ⌜ RULES ≤ length (now nexts) ⌝ }
     requires { ⌜ IndexRoom (now hashes) (now «name_heads») (now «name_nexts») ⌝ }
-    ensures { λ r. ⌜ Entered (now (text .entry)) (lent counts (now (xs .entry)) (now (ys .entry)) (now (cs .entry)) (now (days .entry)) (now (marks .entry)) (now (wxs .entry)) (now (wys .entry)) (now (wcs .entry)) notes (now (names .entry)) (now (lens .entry)) (now (out .entry))) r (now (heads .exit)) (now (nexts .exit)) (now (hashes .exit)) (now («name_heads» .exit)) (now («name_nexts» .exit)) ⌝ }
+    ensures { λ r. ⌜ Entered (now (text .entry)) (lent counts (now (xs .entry)) (now (ys .entry)) (now (cs .entry)) (now (days .entry)) (now (levels .entry)) (now (wxs .entry)) (now (wys .entry)) (now (wcs .entry)) notes (now (names .entry)) (now (lens .entry)) (now (out .entry))) r (now (heads .exit)) (now (nexts .exit)) (now (hashes .exit)) (now («name_heads» .exit)) (now («name_nexts» .exit)) ⌝ }
 {
-    if !command_room(xs, ys, cs, days, marks, wxs, wys, wcs, names, lens, out) {
+    if !command_room(xs, ys, cs, days, levels, wxs, wys, wcs, names, lens, out) {
         return meaning::SHORT;
     }
     if !stands(
@@ -293,7 +306,7 @@ fn verdict(
         ys,
         cs,
         days,
-        marks,
+        levels,
         wxs,
         wys,
         wcs,
@@ -343,7 +356,7 @@ fn command_by(
     ys: &mut [u16],
     cs: &mut [i32],
     days: &mut [u32],
-    marks: &mut [u32],
+    levels: &mut [u8],
     wxs: &[u16],
     wys: &[u16],
     wcs: &[i32],
@@ -354,10 +367,10 @@ fn command_by(
     requires { ⌜ now tab ≡ TABLE ⌝ }
     ensures { λ r. ⌜
         Obeys
-        (command-meaning (now (text .entry)) (lent counts (now (xs .entry)) (now (ys .entry)) (now (cs .entry)) (now (days .entry)) (now (marks .entry)) (now (wxs .entry)) (now (wys .entry)) (now (wcs .entry)) notes (now (names .entry)) (now (lens .entry)) (now (out .entry))))
-        (lent counts (now (xs .entry)) (now (ys .entry)) (now (cs .entry)) (now (days .entry)) (now (marks .entry)) (now (wxs .entry)) (now (wys .entry)) (now (wcs .entry)) notes (now (names .entry)) (now (lens .entry)) (now (out .entry)))
+        (command-meaning (now (text .entry)) (lent counts (now (xs .entry)) (now (ys .entry)) (now (cs .entry)) (now (days .entry)) (now (levels .entry)) (now (wxs .entry)) (now (wys .entry)) (now (wcs .entry)) notes (now (names .entry)) (now (lens .entry)) (now (out .entry))))
+        (lent counts (now (xs .entry)) (now (ys .entry)) (now (cs .entry)) (now (days .entry)) (now (levels .entry)) (now (wxs .entry)) (now (wys .entry)) (now (wcs .entry)) notes (now (names .entry)) (now (lens .entry)) (now (out .entry)))
         (gave (r .number) (r .read) (r .written))
-        (lent (r .counts) (now (xs .exit)) (now (ys .exit)) (now (cs .exit)) (now (days .exit)) (now (marks .exit)) (now (wxs .entry)) (now (wys .entry)) (now (wcs .entry)) (r .notes) (now (names .exit)) (now (lens .exit)) (now (out .exit))) ⌝ }
+        (lent (r .counts) (now (xs .exit)) (now (ys .exit)) (now (cs .exit)) (now (days .exit)) (now (levels .exit)) (now (wxs .entry)) (now (wys .entry)) (now (wcs .entry)) (r .notes) (now (names .exit)) (now (lens .exit)) (now (out .exit))) ⌝ }
 {
     let mut heads = [0u16; meaning::STEPS];
     let mut nexts = [0u16; meaning::RULES];
@@ -373,7 +386,7 @@ fn command_by(
         ys,
         cs,
         days,
-        marks,
+        levels,
         wxs,
         wys,
         wcs,
@@ -396,7 +409,8 @@ fn command_by(
         };
     }
     let size = span::span_of(text, tab);
-    let mut kept = [0u32; 1];
+    // No days are kept, since nothing is known of the order in which the rules were added.
+    let mut kept = [0u32; 0];
     let carried = script_command::carry(
         &text[0..size],
         tab,
@@ -406,7 +420,7 @@ fn command_by(
         ys,
         cs,
         days,
-        marks,
+        levels,
         &mut heads,
         &mut nexts,
         &mut kept,
@@ -440,7 +454,7 @@ pub fn command(
     ys: &mut [u16],
     cs: &mut [i32],
     days: &mut [u32],
-    marks: &mut [u32],
+    levels: &mut [u8],
     wxs: &[u16],
     wys: &[u16],
     wcs: &[i32],
@@ -450,10 +464,10 @@ pub fn command(
 ) -> CommandReply
     ensures { λ r. ⌜
         Obeys
-        (command-meaning (now (text .entry)) (lent counts (now (xs .entry)) (now (ys .entry)) (now (cs .entry)) (now (days .entry)) (now (marks .entry)) (now (wxs .entry)) (now (wys .entry)) (now (wcs .entry)) notes (now (names .entry)) (now (lens .entry)) (now (out .entry))))
-        (lent counts (now (xs .entry)) (now (ys .entry)) (now (cs .entry)) (now (days .entry)) (now (marks .entry)) (now (wxs .entry)) (now (wys .entry)) (now (wcs .entry)) notes (now (names .entry)) (now (lens .entry)) (now (out .entry)))
+        (command-meaning (now (text .entry)) (lent counts (now (xs .entry)) (now (ys .entry)) (now (cs .entry)) (now (days .entry)) (now (levels .entry)) (now (wxs .entry)) (now (wys .entry)) (now (wcs .entry)) notes (now (names .entry)) (now (lens .entry)) (now (out .entry))))
+        (lent counts (now (xs .entry)) (now (ys .entry)) (now (cs .entry)) (now (days .entry)) (now (levels .entry)) (now (wxs .entry)) (now (wys .entry)) (now (wcs .entry)) notes (now (names .entry)) (now (lens .entry)) (now (out .entry)))
         (gave (r .number) (r .read) (r .written))
-        (lent (r .counts) (now (xs .exit)) (now (ys .exit)) (now (cs .exit)) (now (days .exit)) (now (marks .exit)) (now (wxs .entry)) (now (wys .entry)) (now (wcs .entry)) (r .notes) (now (names .exit)) (now (lens .exit)) (now (out .exit))) ⌝ }
+        (lent (r .counts) (now (xs .exit)) (now (ys .exit)) (now (cs .exit)) (now (days .exit)) (now (levels .exit)) (now (wxs .entry)) (now (wys .entry)) (now (wcs .entry)) (r .notes) (now (names .exit)) (now (lens .exit)) (now (out .exit))) ⌝ }
 {
     let tab = text::TABLE;
     command_by(
@@ -465,7 +479,7 @@ pub fn command(
         ys,
         cs,
         days,
-        marks,
+        levels,
         wxs,
         wys,
         wcs,

@@ -20,7 +20,7 @@ use Rattle.atoms.proofs.Laws.{none-at-end}
 use Rattle.write.specs.Written.{over}
 use Rattle.write.proofs.Laws.{over-none}
 use Rattle.levels.specs.Levels.{with-marks, Popped}
-use Rattle.levels.proofs.Laws.{with-marks-border, popped-0}
+use Rattle.levels.proofs.Laws.{with-no-marks, with-marks-border, popped-0}
 use Rattle.script_meaning.specs.declared.Notes.{Notes}
 use Rattle.script_meaning.specs.Record.{Lent, Known, step-of}
 use Rattle.script_meaning.specs.Effect.{Does, Asserts, AddsAll, resolved, at-level}
@@ -54,13 +54,9 @@ pub record Made (c : Command) (s : List ℕ) (k : ℕ) (before : Lent) (clash : 
 none-added : (S : List ℕ → ℕ) (s : List ℕ) (i : ℕ) (t u : Tables) (clash : Bool) → length s ≤ i → AddsAll (map (resolved S) (rules-at s i)) t clash u → (u ≡ t) × (clash ≡ false)
 none-added S s i t u clash past adds = subst (λ rs. AddsAll (map (resolved S) rs) t clash u) (none-at-end s i past) adds
 
-no-marks : (t : Tables) → with-marks 0 t ≡ t
-unfolding with-marks
-no-marks t = refl
-
 -- No mark is set, none is dropped.
 idle : (t v : Tables) → Sound t → Popped 0 (with-marks 0 t) v → v ≡ t
-idle t v sound dropped = popped-0 (subst (λ x. Popped 0 x v) (no-marks t) dropped) sound
+idle t v sound dropped = popped-0 (subst (λ x. Popped 0 x v) (with-no-marks t) dropped) sound
 
 module _ (s : List ℕ) (k : ℕ) (before : Lent) (clash : Bool) (t v : Tables) (w : ℕ) (n : Notes) (names lens out hashes heads nexts hashes′ heads′ nexts′ : List ℕ) (f : Fine before) where
   abbrev Parts : Command → Type 0
@@ -136,7 +132,7 @@ module _ (s : List ℕ) (k : ℕ) (before : Lent) (clash : Bool) (t v : Tables) 
         (
           v,
           (
-            subst (λ x. Popped j x v) (no-marks t ∙ same) (m .dropped),
+            subst (λ x. Popped j x v) (with-no-marks t ∙ same) (m .dropped),
             lent-same refl (m .noted-is) (m .declared .names-same) (m .declared .lens-same) (nothing-printed (m .wrote)),
           ),
         ),

@@ -35,7 +35,7 @@ fn perform(
     ys: &mut [u16],
     cs: &mut [i32],
     days: &mut [u32],
-    marks: &mut [u32],
+    levels: &mut [u8],
     heads: &mut [u16],
     nexts: &mut [u16],
     kept: &mut [u32],
@@ -50,22 +50,22 @@ fn perform(
 ) -> Carried
     requires { ⌜ now tab ≡ TABLE ⌝ }
     requires { ⌜ c ≡ form (now s) ⌝ }
-    requires { ⌜ First (command-needs c (now s) (in-hand counts (now xs) (now ys) (now cs) (now days) (now marks) notes (now names) (now lens) (now out))) DONE ⌝ }
+    requires { ⌜ First (command-needs c (now s) (in-hand counts (now xs) (now ys) (now cs) (now days) (now levels) notes (now names) (now lens) (now out))) DONE ⌝ }
     requires { ⌜
         Maintained e
-        (in-hand counts (now xs) (now ys) (now cs) (now days) (now marks) notes (now names) (now lens) (now out))
+        (in-hand counts (now xs) (now ys) (now cs) (now days) (now levels) notes (now names) (now lens) (now out))
         (now heads) (now nexts) (now kept) (now hashes) (now «name_heads») (now «name_nexts») ⌝ }
     requires { ⌜ to + ROOM ≤ length (now out) ⌝ }
     requires { ⌜ notes .names ≤ e ⌝ }
     ensures { λ r. ⌜ (r .number ≡ 0) × (r .ended ≡ exits c) ⌝ }
     ensures { λ r. ⌜
         Does c (now (s .entry)) to
-        (in-hand counts (now (xs .entry)) (now (ys .entry)) (now (cs .entry)) (now (days .entry)) (now (marks .entry)) notes (now (names .entry)) (now (lens .entry)) (now (out .entry)))
+        (in-hand counts (now (xs .entry)) (now (ys .entry)) (now (cs .entry)) (now (days .entry)) (now (levels .entry)) notes (now (names .entry)) (now (lens .entry)) (now (out .entry)))
         (r .written)
-        (in-hand (r .counts) (now (xs .exit)) (now (ys .exit)) (now (cs .exit)) (now (days .exit)) (now (marks .exit)) (r .notes) (now (names .exit)) (now (lens .exit)) (now (out .exit))) ⌝ }
+        (in-hand (r .counts) (now (xs .exit)) (now (ys .exit)) (now (cs .exit)) (now (days .exit)) (now (levels .exit)) (r .notes) (now (names .exit)) (now (lens .exit)) (now (out .exit))) ⌝ }
     ensures { λ r. ⌜
         Maintained e
-        (in-hand (r .counts) (now (xs .exit)) (now (ys .exit)) (now (cs .exit)) (now (days .exit)) (now (marks .exit)) (r .notes) (now (names .exit)) (now (lens .exit)) (now (out .exit)))
+        (in-hand (r .counts) (now (xs .exit)) (now (ys .exit)) (now (cs .exit)) (now (days .exit)) (now (levels .exit)) (r .notes) (now (names .exit)) (now (lens .exit)) (now (out .exit)))
         (now (heads .exit)) (now (nexts .exit)) (now (kept .exit)) (now (hashes .exit)) (now («name_heads» .exit)) (now («name_nexts» .exit)) ⌝ }
 {
     let n = notes.names as usize;
@@ -100,7 +100,7 @@ fn perform(
         ys,
         cs,
         days,
-        marks,
+        levels,
         heads,
         nexts,
         kept,
@@ -128,7 +128,7 @@ pub fn carry(
     ys: &mut [u16],
     cs: &mut [i32],
     days: &mut [u32],
-    marks: &mut [u32],
+    levels: &mut [u8],
     heads: &mut [u16],
     nexts: &mut [u16],
     kept: &mut [u32],
@@ -144,18 +144,18 @@ pub fn carry(
     requires { ⌜ now tab ≡ TABLE ⌝ }
     requires { ⌜
         Maintained e
-        (in-hand counts (now xs) (now ys) (now cs) (now days) (now marks) notes (now names) (now lens) (now out))
+        (in-hand counts (now xs) (now ys) (now cs) (now days) (now levels) notes (now names) (now lens) (now out))
         (now heads) (now nexts) (now kept) (now hashes) (now «name_heads») (now «name_nexts») ⌝ }
     requires { ⌜ to + ROOM ≤ length (now out) ⌝ }
     requires { ⌜ notes .names ≤ e ⌝ }
     ensures { λ r. ⌜
         Carries (now (s .entry)) to
-        (in-hand counts (now (xs .entry)) (now (ys .entry)) (now (cs .entry)) (now (days .entry)) (now (marks .entry)) notes (now (names .entry)) (now (lens .entry)) (now (out .entry)))
+        (in-hand counts (now (xs .entry)) (now (ys .entry)) (now (cs .entry)) (now (days .entry)) (now (levels .entry)) notes (now (names .entry)) (now (lens .entry)) (now (out .entry)))
         r
-        (in-hand (r .counts) (now (xs .exit)) (now (ys .exit)) (now (cs .exit)) (now (days .exit)) (now (marks .exit)) (r .notes) (now (names .exit)) (now (lens .exit)) (now (out .exit))) ⌝ }
+        (in-hand (r .counts) (now (xs .exit)) (now (ys .exit)) (now (cs .exit)) (now (days .exit)) (now (levels .exit)) (r .notes) (now (names .exit)) (now (lens .exit)) (now (out .exit))) ⌝ }
     ensures { λ r. ⌜
         Maintained e
-        (in-hand (r .counts) (now (xs .exit)) (now (ys .exit)) (now (cs .exit)) (now (days .exit)) (now (marks .exit)) (r .notes) (now (names .exit)) (now (lens .exit)) (now (out .exit)))
+        (in-hand (r .counts) (now (xs .exit)) (now (ys .exit)) (now (cs .exit)) (now (days .exit)) (now (levels .exit)) (r .notes) (now (names .exit)) (now (lens .exit)) (now (out .exit)))
         (now (heads .exit)) (now (nexts .exit)) (now (kept .exit)) (now (hashes .exit)) (now («name_heads» .exit)) (now («name_nexts» .exit)) ⌝ }
 {
     let c = form::form_of(s, tab);
@@ -190,7 +190,7 @@ pub fn carry(
         ys,
         cs,
         days,
-        marks,
+        levels,
         heads,
         nexts,
         kept,

@@ -7,13 +7,14 @@ use mathlib.Core.List.{List, [], _∷_}
 use mathlib.Core.Logic.{_⊎_, inl, inr}
 use lib.ListN.{length, replicate, length-replicate}
 use Rattle.meaning.specs.Bounds.{STEPS, RULES, DONE}
-use Rattle.meaning.specs.Rules.{Rule, InBounds}
-use Rattle.meaning.specs.Tables.{Tables, rule-at, at, with-rule, with-days}
+use Rattle.meaning.specs.Rules.{Rule, InBounds, plus}
+use Rattle.meaning.specs.Tables.{Tables, at, next, with-rule, with-days}
 use Rattle.meaning.specs.Promise.{Given, Obeys, moved}
-use Rattle.meaning.specs.Calls.{WithList, add-meaning, Added}
+use Rattle.meaning.specs.Calls.{WithList, rules-of, held-in, add-meaning, Added}
 use Rattle.meaning.specs.Runs.{Call}
 use Rattle.meaning.proofs.Needs.{obeys-done}
 use Rattle.meaning.proofs.Put.{put-old}
+use Rattle.meaning.proofs.Places.{next-free, next-below, with-rule-held, with-rule-level, with-rule-levels}
 use Rattle.meaning.proofs.Sequences.{Kept, call-keeps}
 use Rattle.script_meaning.specs.Effect.{HeldNow, AddsAll}
 
@@ -22,15 +23,20 @@ abbrev pub Each : (Rule → Type 0) → List Rule → Type 0
 Each P [] = Unit {0}
 Each P (r ∷ l) = P r × Each P l
 
--- What stays where rules are added: the steps, the marks and the watched rules, and every rule that was held.
+-- What stays where rules are added: the steps, the marks and the watched rules, and every rule that was held, with its level. A new rule has the level that is open.
 pub record Grown (t u : Tables) : Type 0 where
   pub same-steps : u .counts .steps ≡ t .counts .steps
   pub same-open : u .counts .marks ≡ t .counts .marks
   pub same-count : u .counts .watched ≡ t .counts .watched
   pub more-rules : t .counts .rules ≤ u .counts .rules
-  pub same-marks : u .marks ≡ t .marks
   pub same-watched : u .watched ≡ t .watched
-  pub older-rules : (i : ℕ) → i < t .counts .rules → rule-at (u .rules) i ≡ rule-at (t .rules) i
+  pub older-rules : (i : ℕ) → held-in t i → rules-of u i ≡ rules-of t i
+  pub older-levels : (i : ℕ) → held-in t i → at (u .levels) i ≡ at (t .levels) i
+  pub new-levels : (i : ℕ) → held-in u i → held-in t i ⊎ (at (u .levels) i ≡ t .counts .marks + 1)
+
+-- What was held is held.
+pub still-held : {t u : Tables} → Grown t u → (i : ℕ) → held-in t i → held-in u i
+still-held g i (below, some) = (below, omega (arith, some, g .older-levels i (below, some)))
 
 grown-refl : (t : Tables) → Grown t t
 grown-refl t = record {
@@ -38,21 +44,31 @@ grown-refl t = record {
   same-open = refl;
   same-count = refl;
   more-rules = omega arith;
-  same-marks = refl;
   same-watched = refl;
   older-rules = λ i h. refl;
+  older-levels = λ i h. refl;
+  new-levels = λ i h. inl h;
 }
 
 grown-more : {t u v : Tables} → Grown t u → Grown u v → Grown t v
-grown-more a b = record {
+grown-more {t} {u} {v} a b = record {
   same-steps = b .same-steps ∙ a .same-steps;
   same-open = b .same-open ∙ a .same-open;
   same-count = b .same-count ∙ a .same-count;
   more-rules = omega (arith, a .more-rules, b .more-rules);
-  same-marks = b .same-marks ∙ a .same-marks;
   same-watched = b .same-watched ∙ a .same-watched;
-  older-rules = λ i h. b .older-rules i (omega (arith, a .more-rules)) ∙ a .older-rules i h;
+  older-rules = λ i h. b .older-rules i (still-held a i h) ∙ a .older-rules i h;
+  older-levels = λ i h. b .older-levels i (still-held a i h) ∙ a .older-levels i h;
+  new-levels = λ i h. told i (b .new-levels i h);
 }
+  where
+    told : (i : ℕ) → held-in u i ⊎ (at (v .levels) i ≡ u .counts .marks + 1) → held-in t i ⊎ (at (v .levels) i ≡ t .counts .marks + 1)
+    told i (inr e) = inr (omega (arith, e, a .same-open))
+    told i (inl h) = was (a .new-levels i h)
+      where
+        was : held-in t i ⊎ (at (u .levels) i ≡ t .counts .marks + 1) → held-in t i ⊎ (at (v .levels) i ≡ t .counts .marks + 1)
+        was (inl older) = inl older
+        was (inr e) = inr (b .older-levels i h ∙ e)
 
 module _ (r : Rule) (t u : Tables) (k : Kept t) (good : InBounds (t .counts .steps) r) (room : t .counts .rules < RULES) (h : HeldNow r t u) where
   ring : List ℕ
@@ -79,18 +95,26 @@ module _ (r : Rule) (t u : Tables) (k : Kept t) (good : InBounds (t .counts .ste
   unfolding ring given-back
   holds-kept = call-keeps (Call.adds r ring ring) t u given-back made k
 
-holds-grown : (r : Rule) (t u : Tables) → HeldNow r t u → Grown t u
-holds-grown r t u h = subst (Grown t) (sym (h .rule-held)) grown
+holds-grown : (r : Rule) (t u : Tables) → Kept t → t .counts .rules < RULES → HeldNow r t u → Grown t u
+holds-grown r t u k few h = subst (Grown t) (sym (h .rule-held)) grown
   where
+    below : next t < RULES
+    below = next-below t (k .sound) few
+
+    level : (i : ℕ) → plus (held-in t) (next t) i → held-in t i ⊎ (at (with-rule r t .levels) i ≡ t .counts .marks + 1)
+    level i (inl e) = inr (ap (at (with-rule r t .levels)) e ∙ with-rule-level r t (k .room) below)
+    level i (inr there) = inl there
+
     grown : Grown t (with-days (u .days) (with-rule r t))
     grown = record {
       same-steps = refl;
       same-open = refl;
       same-count = refl;
       more-rules = omega arith;
-      same-marks = refl;
       same-watched = refl;
-      older-rules = λ i below. put-old (t .rules) (t .counts .rules) r i (λ e. omega arith);
+      older-rules = λ i there. put-old (t .rules) (next t) r i (λ e. next-free t (subst (held-in t) e there));
+      older-levels = with-rule-levels r t;
+      new-levels = λ i there. level i (with-rule-held r t i (k .room) below .0 there);
     }
 
 -- With one rule added there is one rule more.
@@ -104,7 +128,7 @@ pub adds-kept :
 adds-kept [] t u clash k good room (is, fine) = (subst Kept (sym is) k, subst (Grown t) (sym is) (grown-refl t))
 adds-kept (r ∷ l) t u clash k good room (inl (unfit, (is, clashes))) = (subst Kept (sym is) k, subst (Grown t) (sym is) (grown-refl t))
 adds-kept (r ∷ l) t u clash k (here, there) room (inr (v, (h, rest))) =
-    let step = holds-grown r t v h in
+    let step = holds-grown r t v k (omega arith) h in
     let more = adds-kept l v u clash (holds-kept r t v k here (omega arith) h) (subst (λ (n : ℕ). Each (InBounds n) l) (sym (step .same-steps)) there)
     (omega (arith, one-more r t v h)) rest in
     (more .0, grown-more step (more .1))

@@ -1,24 +1,25 @@
--- What is lent to a script, the same below the counts: all that a command needs, does and prints hangs on the counts, the rules held, the open marks, the record and the declared
--- names alone. The days follow from the rules, being their earliest plan; cells past the counts may differ.
+-- What is lent to a script, the same where it counts: all that a command needs, does and prints hangs on the counts, the rules held with their levels, the record and the declared
+-- names alone. The days follow from the rules, being their earliest plan; free places and cells past the counts may differ.
 use Prim.Native.Nat.{ℕ, zero, suc, _+_, _-_, _≤_, _<_}
 use native.Mathlib.Omega.{arith}
-use native.Mathlib.Decide.{ℕ-discrete}
+use native.Mathlib.Decide.{ℕ-discrete, decLe}
 use mathlib.Core.Path.{_≡_, refl, sym, _∙_, ap, subst}
 use mathlib.Core.Bool.{Bool, true, false, cond}
 use mathlib.Core.List.{List, [], _∷_, _++_, map}
 use mathlib.Core.Logic.{inl, inr}
 use lib.Dec.{eqb, ltb}
-use lib.ListN.{length, length-set}
-use lib.Seq.{getD-set-same, getD-set-other}
+use lib.ListN.{length}
+use lib.Seq.{getD-set-other}
 use Rattle.meaning.specs.declared.Counts.{Counts}
-use Rattle.meaning.specs.Bounds.{STEPS, RULES, MARKS, DONE, MODE, NAME, FULL}
-use Rattle.meaning.specs.Rules.{Rule, InBounds, Fits, Earliest, largest}
-use Rattle.meaning.specs.Tables.{Tables, at, Room, with-rule, with-mark, with-days, rules-now, marks-now, last-now}
+use Rattle.meaning.specs.Bounds.{STEPS, RULES, DONE, MODE, NAME, FULL}
+use Rattle.meaning.specs.Rules.{Rule, InBounds, Fits, Earliest, largest, plus}
+use Rattle.meaning.specs.Tables.{Tables, at, next, Room, with-rule, freed-above, down-to, with-days, rules-now, marks-now, last-now}
 use Rattle.meaning.specs.Promise.{First, needs}
 use Rattle.meaning.specs.Calls.{rules-of, held-in}
 use Rattle.meaning.proofs.Theory.{arrangement-same, earliest-same, earliest-unique}
 use Rattle.meaning.proofs.LastDay.{largest-same}
 use Rattle.meaning.proofs.Put.{put-new, put-old}
+use Rattle.meaning.proofs.Places.{taken-same, lowest-same, freed-stays, freed-gone, next-below, with-rule-held, with-rule-level, down-to-held}
 use Rattle.meaning.proofs.Sequences.{Kept}
 use Rattle.text.specs.Lexicon.{bytes, same-bytes}
 use Rattle.form.specs.declared.Command.{Command}
@@ -26,7 +27,7 @@ use Rattle.form.specs.declared.Command.the-variants.{SetLogic, Declare, Assert,
 use Rattle.atoms.specs.Atoms.{rules-at}
 use Rattle.names.specs.Names.{name-at}
 use Rattle.names.proofs.Shelves.{name-new, name-old}
-use Rattle.levels.specs.Levels.{with-marks, without-marks}
+use Rattle.levels.specs.Levels.{with-marks, more-marks}
 use Rattle.levels.proofs.Laws.{popped-border}
 use Rattle.write.specs.Written.{decimal}
 use Rattle.script_meaning.specs.declared.Notes.{Notes}
@@ -36,16 +37,16 @@ use Rattle.script_meaning.specs.Commands.{term-needs, name-needs, logic-
 use Rattle.script_meaning.specs.Mixed.{on-tables}
 use Rattle.script_meaning.specs.Traces.{with-out}
 use Rattle.script_meaning.proofs.Needed.{EachName}
-use Rattle.script_meaning.proofs.Granted.{Places, declare-met, assert-met, push-met, pop-met}
+use Rattle.script_meaning.proofs.Granted.{Places, declare-met, assert-met}
 use Rattle.script_meaning.proofs.Adding.{Each, holds-kept}
 use Rattle.script_meaning.proofs.Keeping.{Fine, tables-kept, tables-border, kept-of, shelved-of, rules-in, map-length}
 use Rattle.script_meaning.proofs.Printing.{printed, value-names}
 
--- The same counts, rules held and open marks.
+-- The same counts, and the same rules held, with the same levels.
 pub record SameHeld (t u : Tables) : Type 0 where
   pub same-counts : t .counts ≡ u .counts
-  pub same-rules : (i : ℕ) → i < t .counts .rules → rules-of t i ≡ rules-of u i
-  pub same-marks : (i : ℕ) → i < t .counts .marks → at (t .marks) i ≡ at (u .marks) i
+  pub same-levels : (i : ℕ) → i < RULES → at (t .levels) i ≡ at (u .levels) i
+  pub same-rules : (i : ℕ) → held-in t i → rules-of t i ≡ rules-of u i
 
 -- The same record and the same declared names too.
 pub record Alike (l m : Lent) : Type 0 where
@@ -75,7 +76,7 @@ step-alike l m a i w =
 
 -- What is lent, with the counts and the record of another.
 abbrev counted : Counts → Notes → Lent → Lent
-counted c n m = with-notes n (on-tables (record { counts = c; rules = m .tables .rules; days = m .tables .days; marks = m .tables .marks; watched = m .tables .watched }) m)
+counted c n m = with-notes n (on-tables (record { counts = c; rules = m .tables .rules; days = m .tables .days; levels = m .tables .levels; watched = m .tables .watched }) m)
 
 -- Needs hang on the counts, the record, and the steps of names.
 needs-by :
@@ -107,23 +108,20 @@ needs-alike c s g l m a h =
 
 -- The earliest plans of the same rules have the same last day.
 lasts-same :
-    (n n′ m m′ : ℕ) (R R′ : ℕ → Rule) (d e : List ℕ) → n ≡ n′ → m ≡ m′ → ((i : ℕ) → i < m → R i ≡ R′ i) → Earliest n R (λ i. i < m) (at d) → Earliest n′ R′ (λ i. i < m′) (at e) →
-    largest n (at d) ≡ largest n′ (at e)
-lasts-same n n′ m m′ R R′ d e steps rules same a b =
-    largest-same n (at d) (at e)
-    (earliest-unique (earliest-same {H = λ i. i < m} {G = λ i. i < m′} (λ i h. omega (arith, rules)) (λ i h. omega (arith, rules)) (λ i h. same i (omega (arith, rules))) a)
-    (subst (λ (k : ℕ). Earliest k R′ (λ i. i < m′) (at e)) (sym steps) b))
-    ∙ ap (λ (k : ℕ). largest k (at e)) steps
+    (n n′ : ℕ) (H H′ : ℕ → Type 0) (R R′ : ℕ → Rule) (d e : List ℕ) → n ≡ n′ → ((i : ℕ) → H′ i → H i) → ((i : ℕ) → H i → H′ i) → ((i : ℕ) → H′ i → R i ≡ R′ i) → Earliest n R H (at d) →
+    Earliest n′ R′ H′ (at e) → largest n (at d) ≡ largest n′ (at e)
+lasts-same n n′ H H′ R R′ d e steps to from same a b =
+    largest-same n (at d) (at e) (earliest-unique (earliest-same {H = H} {G = H′} to from same a) (subst (λ (k : ℕ). Earliest k R′ H′ (at e)) (sym steps) b)) ∙ ap (λ (k : ℕ). largest k (at e)) steps
 
 module _ (t u : Tables) (same : SameHeld t u) where
   abbrev as-many : (part : Counts → ℕ) → part (t .counts) ≡ part (u .counts)
   as-many part = ap part (same .same-counts)
 
   below : (i : ℕ) → held-in u i → held-in t i
-  below i h = omega (arith, as-many (λ c. c .rules), h)
+  below i (h, some) = (h, omega (arith, same .same-levels i h, some))
 
   above : (i : ℕ) → held-in t i → held-in u i
-  above i h = omega (arith, as-many (λ c. c .rules), h)
+  above i (h, some) = (h, omega (arith, same .same-levels i h, some))
 
   -- The same rules fit.
   pub fits-alike : (r : Rule) → Fits (rules-of t) (held-in t) r → Fits (rules-of u) (held-in u) r
@@ -142,87 +140,86 @@ module _ (t u : Tables) (same : SameHeld t u) where
   back-alike : SameHeld u t
   back-alike = record {
     same-counts = sym (same .same-counts);
+    same-levels = λ i h. sym (same .same-levels i h);
     same-rules = λ i h. sym (same .same-rules i (below i h));
-    same-marks = λ i h. sym (same .same-marks i (omega (arith, as-many (λ c. c .marks), h)));
   }
+
+  -- The next number is the same.
+  next-alike : next t ≡ next u
+  next-alike = lowest-same RULES (t .levels) (u .levels) (same .same-levels)
 
   -- With the same rule written under the next number, and the days of sound tables.
   rule-alike :
-      (r : Rule) (d e : List ℕ) → Room t → Room u → t .counts .rules < RULES → Kept (with-days d (with-rule r t)) → Kept (with-days e (with-rule r u)) →
+      (r : Rule) (d e : List ℕ) → Room t → Room u → next t < RULES → Kept (with-days d (with-rule r t)) → Kept (with-days e (with-rule r u)) →
       SameHeld (with-days d (with-rule r t)) (with-days e (with-rule r u))
   rule-alike r d e room room′ few kept kept′ = record {
     same-counts = λ i. last-now (lasts i) (rules-now (same .same-counts i .rules + 1) (same .same-counts i));
-    same-rules = λ i h. tell i h (ℕ-discrete i (t .counts .rules));
-    same-marks = same .same-marks;
+    same-levels = levels;
+    same-rules = rules;
   }
     where
-      tell : (i : ℕ) → i < t .counts .rules + 1 → Dec (i ≡ t .counts .rules) → rules-of (with-rule r t) i ≡ rules-of (with-rule r u) i
-      tell i h (yes is) =
-          ap (rules-of (with-rule r t)) is ∙ put-new (t .rules) (t .counts .rules) RULES r (room .rules-room) few
-          ∙ sym (put-new (u .rules) (u .counts .rules) RULES r (room′ .rules-room) (omega (arith, as-many (λ c. c .rules), few)))
-          ∙ sym (ap (rules-of (with-rule r u)) (is ∙ as-many (λ c. c .rules)))
-      tell i h (no other) =
-          put-old (t .rules) (t .counts .rules) r i other ∙ same .same-rules i (omega arith)
-          ∙ sym (put-old (u .rules) (u .counts .rules) r i (λ e. other (e ∙ sym (as-many (λ c. c .rules)))))
+      few′ : next u < RULES
+      few′ = omega (arith, next-alike, few)
+
+      levels : (i : ℕ) → i < RULES → at (with-rule r t .levels) i ≡ at (with-rule r u .levels) i
+      levels i h = tell (ℕ-discrete i (next t))
+        where
+          tell : Dec (i ≡ next t) → at (with-rule r t .levels) i ≡ at (with-rule r u .levels) i
+          tell (yes is) =
+              ap (at (with-rule r t .levels)) is ∙ with-rule-level r t room few ∙ ap (λ (c : Counts). c .marks + 1) (same .same-counts) ∙ sym (with-rule-level r u room′ few′)
+              ∙ sym (ap (at (with-rule r u .levels)) (is ∙ next-alike))
+          tell (no other) =
+              getD-set-other (t .levels) (next t) i (t .counts .marks + 1) 0 other ∙ same .same-levels i h
+              ∙ sym (getD-set-other (u .levels) (next u) i (u .counts .marks + 1) 0 (λ e. other (e ∙ sym next-alike)))
+
+      rules : (i : ℕ) → held-in (with-rule r t) i → rules-of (with-rule r t) i ≡ rules-of (with-rule r u) i
+      rules i h = tell (ℕ-discrete i (next t)) (with-rule-held r t i room few .0 h)
+        where
+          tell : Dec (i ≡ next t) → plus (held-in t) (next t) i → rules-of (with-rule r t) i ≡ rules-of (with-rule r u) i
+          tell (yes is) there =
+              ap (rules-of (with-rule r t)) is ∙ put-new (t .rules) (next t) RULES r (room .rules-room) few ∙ sym (put-new (u .rules) (next u) RULES r (room′ .rules-room) few′)
+              ∙ sym (ap (rules-of (with-rule r u)) (is ∙ next-alike))
+          tell (no other) (inl is) = absurd (other is)
+          tell (no other) (inr was) = put-old (t .rules) (next t) r i other ∙ same .same-rules i was ∙ sym (put-old (u .rules) (next u) r i (λ e. other (e ∙ sym next-alike)))
+
+      here : (i : ℕ) → held-in (with-rule r u) i → held-in (with-rule r t) i
+      here i (h, some) = (h, omega (arith, levels i h, some))
 
       lasts : largest (t .counts .steps) (at d) ≡ largest (u .counts .steps) (at e)
       lasts =
-          lasts-same (t .counts .steps) (u .counts .steps) (t .counts .rules + 1) (u .counts .rules + 1) (rules-of (with-rule r t)) (rules-of (with-rule r u)) d e (as-many (λ c. c .steps)) (as-many (λ c. c .rules + 1))
-          (λ i h. tell i h (ℕ-discrete i (t .counts .rules))) (kept .sound .days-earliest) (kept′ .sound .days-earliest)
+          lasts-same (t .counts .steps) (u .counts .steps) (held-in (with-rule r t)) (held-in (with-rule r u)) (rules-of (with-rule r t)) (rules-of (with-rule r u)) d e (as-many (λ c. c .steps)) here
+          (λ i there. (there .0, omega (arith, levels i (there .0), there .1))) (λ i there. rules i (here i there)) (kept .sound .days-earliest) (kept′ .sound .days-earliest)
 
-  -- With one mark more.
-  mark-alike : MARKS ≤ length (t .marks) → MARKS ≤ length (u .marks) → t .counts .marks < MARKS → SameHeld (with-mark t) (with-mark u)
-  mark-alike room room′ few = record {
-    same-counts = ap (λ (c : Counts). marks-now (c .marks + 1) c) (same .same-counts);
-    same-rules = same .same-rules;
-    same-marks = λ i h. tell i h (ℕ-discrete i (t .counts .marks));
+  -- With n marks more.
+  marks-alike : (n : ℕ) → SameHeld (with-marks n t) (with-marks n u)
+  marks-alike n = record { same-counts = ap (more-marks n) (same .same-counts); same-levels = same .same-levels; same-rules = same .same-rules }
+
+  -- The same places are freed.
+  freed-alike : (k i : ℕ) → i < RULES → at (freed-above RULES k (t .levels)) i ≡ at (freed-above RULES k (u .levels)) i
+  freed-alike k i h = tell (decLe (at (t .levels) i) (k + 1))
+    where
+      tell : Dec (at (t .levels) i ≤ k + 1) → at (freed-above RULES k (t .levels)) i ≡ at (freed-above RULES k (u .levels)) i
+      tell (yes low) = freed-stays RULES k (t .levels) i low ∙ same .same-levels i h ∙ sym (freed-stays RULES k (u .levels) i (omega (arith, low, same .same-levels i h)))
+      tell (no high) = freed-gone RULES k (t .levels) i h (omega (arith, high)) ∙ sym (freed-gone RULES k (u .levels) i h (omega (arith, high, same .same-levels i h)))
+
+  -- With k marks left, with the days of sound tables.
+  cut-alike : (k : ℕ) (d e : List ℕ) → Kept (with-days d (down-to k t)) → Kept (with-days e (down-to k u)) → SameHeld (with-days d (down-to k t)) (with-days e (down-to k u))
+  cut-alike k d e kept kept′ = record {
+    same-counts = λ i. last-now (lasts i) (marks-now k (rules-now (taken-same RULES (freed-above RULES k (t .levels)) (freed-above RULES k (u .levels)) (freed-alike k) i) (same .same-counts i)));
+    same-levels = freed-alike k;
+    same-rules = λ i there. rules i there;
   }
     where
-      tell : (i : ℕ) → i < t .counts .marks + 1 → Dec (i ≡ t .counts .marks) → at (with-mark t .marks) i ≡ at (with-mark u .marks) i
-      tell i h (yes is) =
-          ap (at (with-mark t .marks)) is ∙ getD-set-same (t .marks) (t .counts .marks) (t .counts .rules) 0 (omega arith)
-          ∙ as-many (λ c. c .rules) ∙ sym (getD-set-same (u .marks) (u .counts .marks) (u .counts .rules) 0 (omega (arith, as-many (λ c. c .marks))))
-          ∙ sym (ap (at (with-mark u .marks)) (is ∙ as-many (λ c. c .marks)))
-      tell i h (no other) =
-          getD-set-other (t .marks) (t .counts .marks) i (t .counts .rules) 0 other ∙ same .same-marks i (omega arith)
-          ∙ sym (getD-set-other (u .marks) (u .counts .marks) i (u .counts .rules) 0 (λ e. other (e ∙ sym (as-many (λ c. c .marks)))))
+      rules : (i : ℕ) → held-in (down-to k t) i → rules-of t i ≡ rules-of u i
+      rules i there = same .same-rules i (down-to-held k t i .0 there .0)
 
-  -- Cut back to the mark before the newest n, with the days of sound tables.
-  cut-alike :
-      (n : ℕ) (d e : List ℕ) → Kept t → n ≤ t .counts .marks → Kept (with-days d (without-marks n t)) → Kept (with-days e (without-marks n u)) →
-      SameHeld (with-days d (without-marks n t)) (with-days e (without-marks n u))
-  cut-alike zero d e k few kept kept′ =
-      let lasts =
-      lasts-same (t .counts .steps) (u .counts .steps) (t .counts .rules) (u .counts .rules) (rules-of t) (rules-of u) d e (as-many (λ c. c .steps)) (as-many (λ c. c .rules)) (same .same-rules)
-      (kept .sound .days-earliest) (kept′ .sound .days-earliest) in
-      record { same-counts = λ i. last-now (lasts i) (same .same-counts i); same-rules = same .same-rules; same-marks = same .same-marks }
-  cut-alike (suc n) d e k few kept kept′ =
-      let mark : at (t .marks) (t .counts .marks - n - 1) ≡ at (u .marks) (u .counts .marks - n - 1) =
-      same .same-marks (t .counts .marks - n - 1) (omega arith) ∙ ap (λ (c : Counts). at (u .marks) (c .marks - n - 1)) (same .same-counts) in
-      let older : (i : ℕ) → i < at (t .marks) (t .counts .marks - n - 1) → rules-of t i ≡ rules-of u i =
-      λ i h. same .same-rules i (omega (arith, h, k .sound .marks-held (t .counts .marks - n - 1) (omega arith))) in
-      let lasts =
-      lasts-same (t .counts .steps) (u .counts .steps) (at (t .marks) (t .counts .marks - n - 1)) (at (u .marks) (u .counts .marks - n - 1)) (rules-of t) (rules-of u) d e (as-many (λ c. c .steps)) mark older
-      (kept .sound .days-earliest) (kept′ .sound .days-earliest) in
-      record {
-        same-counts = λ i. record {
-          steps = same .same-counts i .steps;
-          rules = mark i;
-          marks = same .same-counts i .marks - n - 1;
-          watched = same .same-counts i .watched;
-          last = lasts i;
-        };
-        same-rules = older;
-        same-marks = λ i h. same .same-marks i (omega arith);
-      }
+      here : (i : ℕ) → held-in (down-to k u) i → held-in (down-to k t) i
+      here i (h, some) = (h, omega (arith, freed-alike k i h, some))
 
-marks-alike :
-    (n : ℕ) (t u : Tables) → SameHeld t u → MARKS ≤ length (t .marks) → MARKS ≤ length (u .marks) → t .counts .marks + n ≤ MARKS → SameHeld (with-marks n t) (with-marks n u)
-unfolding with-marks
-marks-alike zero t u same room room′ few = same
-marks-alike (suc n) t u same room room′ few =
-    marks-alike n (with-mark t) (with-mark u) (mark-alike t u same room room′ (omega arith))
-    (omega (arith, room, length-set (t .marks) (t .counts .marks) (t .counts .rules))) (omega (arith, room′, length-set (u .marks) (u .counts .marks) (u .counts .rules))) (omega arith)
+      lasts : largest (t .counts .steps) (at d) ≡ largest (u .counts .steps) (at e)
+      lasts =
+          lasts-same (t .counts .steps) (u .counts .steps) (held-in (down-to k t)) (held-in (down-to k u)) (rules-of t) (rules-of u) d e (as-many (λ c. c .steps)) here
+          (λ i there. (there .0, omega (arith, freed-alike k i (there .0), there .1))) (λ i there. rules i (here i there)) (kept .sound .days-earliest) (kept′ .sound .days-earliest)
 
 -- Rules added one after the other clash at the same place, and leave the same.
 adds-alike :
@@ -241,7 +238,7 @@ adds-alike (r ∷ l) t u t′ u′ x y same k j (here, there) room (inr (v, (hel
     let kept′ = holds-kept r u w j (subst (λ (n : ℕ). InBounds n r) (as-many t u same (λ c. c .steps)) here) (omega (arith, room, as-many t u same (λ c. c .rules))) held′ in
     adds-alike l v w t′ u′ x y
     (subst (λ (z : Tables). SameHeld z w) (sym (held .rule-held)) (subst (SameHeld (with-days (v .days) (with-rule r t))) (sym (held′ .rule-held))
-    (rule-alike t u same r (v .days) (w .days) (k .room) (j .room) (omega (arith, room)) (subst Kept (held .rule-held) kept) (subst Kept (held′ .rule-held) kept′))))
+    (rule-alike t u same r (v .days) (w .days) (k .room) (j .room) (next-below t (k .sound) (omega (arith, room))) (subst Kept (held .rule-held) kept) (subst Kept (held′ .rule-held) kept′))))
     kept
     kept′
     (subst (λ (n : ℕ). Each (InBounds n) l) steps there) (omega (arith, room, rules)) rest rest′
@@ -321,13 +318,14 @@ module _ (l m : Lent) (a : Alike l m) where
   does-alike (Push n) s j k v w l′ m′ f g named met (v-is, p) (w-is, q) =
       both-are l′ m′ p q
       (tables-same (with-marks n (l .tables)) (with-marks n (m .tables)) (l .notes .broken) (m .notes .broken)
-      (marks-alike n (l .tables) (m .tables) (a .tables-alike) (f .room .tables-room .marks-room) (g .room .tables-room .marks-room) (push-met n s l met)) (ap (λ (n : Notes). n .broken) (a .same-notes)))
+      (marks-alike (l .tables) (m .tables) (a .tables-alike) n) (ap (λ (n : Notes). n .broken) (a .same-notes)))
   does-alike (Pop n) s j k v w l′ m′ f g named met (v-is, (t, (popped, p))) (w-is, (u, (popped′, q))) =
+      let left : m .tables .counts .marks - n ≡ l .tables .counts .marks - n = ap (λ (c : Counts). c .marks - n) (sym (a .tables-alike .same-counts)) in
+      let dropped : u ≡ with-days (u .days) (down-to (l .tables .counts .marks - n) (m .tables)) = popped′ .dropped ∙ ap (λ (x : ℕ). with-days (u .days) (down-to x (m .tables))) left in
       let same : SameHeld t u = subst (λ (z : Tables). SameHeld z u) (sym (popped .dropped))
-      (subst (SameHeld (with-days (t .days) (without-marks n (l .tables)))) (sym (popped′ .dropped))
-      (cut-alike (l .tables) (m .tables) (a .tables-alike) n (t .days) (u .days) (tables-kept f) (pop-met n s l met)
-      (subst Kept (popped .dropped) (kept-of (popped-border n (tables-border f) (pop-met n s l met) popped)))
-      (subst Kept (popped′ .dropped) (kept-of (popped-border n (tables-border g) (omega (arith, pop-met n s l met, as-many (l .tables) (m .tables) (a .tables-alike) (λ c. c .marks))) popped′))))) in
+      (subst (SameHeld (with-days (t .days) (down-to (l .tables .counts .marks - n) (l .tables)))) (sym dropped)
+      (cut-alike (l .tables) (m .tables) (a .tables-alike) (l .tables .counts .marks - n) (t .days) (u .days) (subst Kept (popped .dropped) (kept-of (popped-border n (tables-border f) popped)))
+      (subst Kept dropped (kept-of (popped-border n (tables-border g) popped′))))) in
       both-are l′ m′ p q
       (tables-same t u (broken-left (l .notes .broken) t) (broken-left (m .notes .broken) u) same
       (ap (λ (c : Counts). cond (ltb (c .marks + 1) (l .notes .broken)) 0 (l .notes .broken)) (same .same-counts) ∙ ap (λ (n : Notes). broken-left (n .broken) u) (a .same-notes)))

@@ -38,8 +38,8 @@ fresh-alike : (l m : Lent) → Fresh l → Fresh m → Alike l m
 fresh-alike l m f g = record {
   tables-alike = record {
     same-counts = f .counts-are ∙ sym (g .counts-are);
-    same-rules = λ i h. absurd (omega (arith, h, ap (λ c. c .rules) (f .counts-are)));
-    same-marks = λ i h. absurd (omega (arith, h, ap (λ c. c .marks) (f .counts-are)));
+    same-rules = λ i h. absurd (omega (arith, h .1, f .all-free i (h .0)));
+    same-levels = λ i below. f .all-free i below ∙ sym (g .all-free i below);
   };
   same-notes = f .notes-are ∙ sym (g .notes-are);
   same-names = λ k h. absurd (omega (arith, h, ap (λ n. n .names) (f .notes-are)));

@@ -35,7 +35,7 @@ start-fresh l g after x done = fresh
         tables-room = record {
           rules-room = subst (λ (t : Tables). ColumnsRoom RULES (t .rules)) (sym (started .opened .emptied)) (room .tables-room .rules-room);
           days-room = omega (arith, started .opened .past .same-length, room .tables-room .days-room);
-          marks-room = omega (arith, ap (λ t. length (t .marks)) (started .opened .emptied), room .tables-room .marks-room);
+          levels-room = omega (arith, started .opened .past-levels .same-length, room .tables-room .levels-room);
           watched-room = subst (λ (t : Tables). ColumnsRoom WATCHED (t .watched)) (sym (started .opened .emptied)) (room .tables-room .watched-room);
         };
         names-room = omega (arith, ap length (started .names-stay), room .names-room);
@@ -44,6 +44,7 @@ start-fresh l g after x done = fresh
       counts-are = ap (λ t. t .counts) (started .opened .emptied) ∙ ap (λ (k : ℕ). last-now k (steps-alone STEPS)) (largest-zeros STEPS (at (after .tables .days)) (started .opened .day-0));
       notes-are = started .emptied;
       day-0 = started .opened .day-0;
+      all-free = started .opened .all-free;
     }
 
 -- So it begins a trace: nothing is asserted.

@@ -17,7 +17,7 @@ use Rattle.script_meaning.specs.Effect.{Does, resolved}
 use Rattle.script_meaning.specs.Commands.{command-needs}
 use Rattle.script_meaning.specs.Terms.{Term, amount-said, IsTerm}
 use Rattle.script_meaning.specs.Traces.{History, Follows, with-term, with-levels}
-use Rattle.script_meaning.proofs.Granted.{declare-met, assert-met, push-met, pop-met}
+use Rattle.script_meaning.proofs.Granted.{declare-met, assert-met, pop-met}
 use Rattle.script_meaning.proofs.Needed.{EachRule}
 use Rattle.script_meaning.proofs.Adding.{adds-kept}
 use Rattle.script_meaning.proofs.Keeping.{Fine, tables-kept, rules-in, map-length, does-fine}
@@ -99,7 +99,7 @@ command-in-force (Assert n) s k w l m h j i named asserted met (w-is, inr (clean
     (subst (λ (x : Lent). InForce x (with-term t h)) (sym is) (clash-in-force l h i t of s n a same clean u (more .1) few (subst Fine is g) adds))
 command-in-force (Push n) s k w l m h j i named asserted met does follows =
     let g = does-fine (Push n) s k w l m (i .fine) named met does in
-    subst (InForce m) (sym follows) (subst (λ (x : Lent). InForce x (with-levels n h)) (sym (does .1)) (push-in-force n l h i (push-met n s l met) (subst Fine (does .1) g)))
+    subst (InForce m) (sym follows) (subst (λ (x : Lent). InForce x (with-levels n h)) (sym (does .1)) (push-in-force n l h i (subst Fine (does .1) g)))
 command-in-force (Pop n) s k w l m h j i named asserted met (w-is, (u, (popped, is))) follows =
     let g = does-fine (Pop n) s k w l m (i .fine) named met (w-is, (u, (popped, is))) in
     subst (InForce m) (sym follows) (subst (λ (x : Lent). InForce x (drop n h)) (sym is) (pop-in-force n l h i (pop-met n s l met) u popped (subst Fine is g)))

@@ -5,7 +5,7 @@ use mathlib.Core.Path.{_≡_, refl, sym, _∙_, ap, subst}
 use mathlib.Core.Bool.{Bool}
 use mathlib.Core.List.{List, [], _∷_, map}
 use mathlib.Core.Logic.{_⊎_, inl, inr}
-use Rattle.meaning.specs.Bounds.{STEPS}
+use Rattle.meaning.specs.Bounds.{STEPS, RULES}
 use Rattle.meaning.specs.Rules.{Rule}
 use Rattle.meaning.specs.Tables.{Tables, at, opened, with-rule, with-days}
 use Rattle.meaning.specs.Promise.{Given, Meaning, Obeys}
@@ -78,12 +78,16 @@ start-fixed l a b c d after other x y = (
   rw (tables-same, x .emptied ∙ sym (y .emptied), x .names-stay ∙ sym (y .names-stay), x .lens-stay ∙ sym (y .lens-stay), x .out-stays ∙ sym (y .out-stays)) refl,
 )
   where
+    days : after .tables .days ≡ other .tables .days
+    days = past-same STEPS (l .tables .days) (after .tables .days) (other .tables .days) (x .opened .past) (y .opened .past) (λ v h. x .opened .day-0 v h ∙ sym (y .opened .day-0 v h))
+
+    levels : after .tables .levels ≡ other .tables .levels
+    levels =
+        past-same RULES (l .tables .levels) (after .tables .levels) (other .tables .levels) (x .opened .past-levels) (y .opened .past-levels)
+        (λ i h. x .opened .all-free i h ∙ sym (y .opened .all-free i h))
+
     tables-same : after .tables ≡ other .tables
-    tables-same =
-        x .opened .emptied
-        ∙ ap (λ (days : List ℕ). with-days days (opened STEPS (l .tables)))
-        (past-same STEPS (l .tables .days) (after .tables .days) (other .tables .days) (x .opened .past) (y .opened .past) (λ v h. x .opened .day-0 v h ∙ sym (y .opened .day-0 v h)))
-        ∙ sym (y .opened .emptied)
+    tables-same = x .opened .emptied ∙ (λ i. with-days (days i) (opened STEPS (levels i) (l .tables))) ∙ sym (y .opened .emptied)
 
 -- **Determined**: the answer of a start and all that is lent after it.
 pub start-determined : (l : Lent) (g h : Given) (after other : Lent) → Obeys (start-meaning l) l g after → Obeys (start-meaning l) l h other → Same g h after other

@@ -5,42 +5,38 @@ use native.Mathlib.Omega.{arith}
 use mathlib.Core.Path.{_≡_, refl, sym, _∙_, ap, subst}
 use mathlib.Core.Bool.{true, false}
 use mathlib.Core.List.{List, [], _∷_, map}
-use mathlib.Core.Logic.{inl, _↔_}
+use mathlib.Core.Logic.{_⊎_, inl, inr, _↔_}
 use lib.ListN.{length, drop}
 use lib.Seq.{drop-nil}
 use lib.IntN.{ℤ}
 use Rattle.meaning.specs.Bounds.{STEPS, RULES, NAME-BYTES}
 use Rattle.meaning.specs.Rules.{Keeps, Arrangement}
 use Rattle.meaning.specs.Tables.{Tables, Sound, at}
+use Rattle.meaning.specs.Calls.{rules-of, held-in}
 use Rattle.meaning.proofs.LastDay.{largest-zeros}
-use Rattle.meaning.specs.Calls.{rules-of}
+use Rattle.meaning.proofs.Places.{taken-all-free}
 use Rattle.names.proofs.Shelves.{name-old}
 use Rattle.atoms.specs.Atoms.{rules-at}
+use Rattle.levels.specs.Levels.{held-to}
 use Rattle.script_meaning.specs.Record.{Lent, Known, step-of}
 use Rattle.script_meaning.specs.Effect.{AddsAll, resolved, forgotten, with-notes, with-tables, with-name}
 use Rattle.script_meaning.specs.Terms.{Term, Holds}
 use Rattle.script_meaning.specs.Traces.{History, nothing-asserted, with-term, Agrees}
 use Rattle.script_meaning.specs.Whole.{Fresh}
 use Rattle.script_meaning.proofs.Seeking.{step-is, known-name}
-use Rattle.script_meaning.proofs.Adding.{Grown}
+use Rattle.script_meaning.proofs.Adding.{Grown, still-held}
 use Rattle.script_meaning.proofs.Keeping.{Fine, shelved-of}
 use Rattle.script_meaning.proofs.Asserted.{Asserted}
-use Rattle.script_meaning.proofs.Adjoining.{Kept-in, assertion-kept, assertion-none}
+use Rattle.script_meaning.proofs.Adjoining.{Kept-in, Counted, assertion-kept, assertion-none}
 use Rattle.script_meaning.proofs.Named.{OfTerm, OfLevels, of-with-term, of-drop, of-levels-too, agrees-too, agrees-term}
 
--- How many rules belong to level j and those below it, where k levels are newer: all at the newest level, else those below the mark that was set next.
-abbrev pub cut-at : Tables → ℕ → ℕ → ℕ
-cut-at t zero j = t .counts .rules
-cut-at t (suc k) j = at (t .marks) j
+-- The days e keep the rules held of level j and those below it.
+abbrev pub KeptTo : Tables → ℕ → (ℕ → ℤ) → Type 0
+KeptTo t j e = Arrangement (rules-of t) (held-to j (t .levels)) e
 
--- Below the newest level the number is a mark.
-pub cut-older : (t : Tables) (k j : ℕ) → 1 ≤ k → cut-at t k j ≡ at (t .marks) j
-cut-older t zero j h = absurd (omega arith)
-cut-older t (suc k) j h = refl
-
--- The days e keep the first n rules.
-abbrev pub KeptBelow : Tables → ℕ → (ℕ → ℤ) → Type 0
-KeptBelow t n e = Arrangement (rules-of t) (λ i. i < n) e
+-- At the newest level, and above it, these are all rules held.
+pub all-levels : (t : Tables) → Sound t → (j : ℕ) → t .counts .marks ≤ j → (e : ℕ → ℤ) → KeptTo t j e ↔ Kept-in e t
+all-levels t sound j newest e = ((λ kept i h. kept i (h, omega (arith, sound .levels-open i h))), (λ kept i h. kept i (h .0)))
 
 -- Level j is below the contradictory level b, which is counted from 1; or there is none.
 abbrev pub Clear : ℕ → ℕ → Type 0
@@ -58,7 +54,7 @@ pub record InForce (l : Lent) (h : History) : Type 0 where
   pub declared : OfLevels (Known l) h
   pub exact :
       (k j : ℕ) → k + j ≡ l .tables .counts .marks → Clear (l .notes .broken) j →
-      (e : ℕ → ℤ) → KeptBelow (l .tables) (cut-at (l .tables) k j) e ↔ Agrees (by-name l e) (drop k h)
+      (e : ℕ → ℤ) → KeptTo (l .tables) j e ↔ Agrees (by-name l e) (drop k h)
   pub none : (k j : ℕ) → k + j ≡ l .tables .counts .marks → j + 1 ≡ l .notes .broken → (e : ℕ → ℤ) → Agrees (by-name l e) (drop k h) → ⊥
 
 -- ---- at the start
@@ -76,11 +72,11 @@ fresh-fine l f = record {
         marks-in = omega (arith, marks);
         watched-in = omega (arith, watched);
       };
-      rules-good = λ i h. absurd (omega (arith, rules));
+      rules-good = λ i h. absurd (none i h);
+      levels-open = λ i h. absurd (none i h);
+      rules-counted = rules ∙ sym (taken-all-free RULES (l .tables .levels) (f .all-free));
       watched-good = λ i h. absurd (omega (arith, watched));
-      marks-never-fall = λ i j h g. absurd (omega (arith, marks));
-      marks-held = λ i h. absurd (omega (arith, marks));
-      days-earliest = record { plan = λ i h. absurd (omega (arith, rules)); no-later = λ q p v h. omega (arith, f .day-0 v (omega (arith, steps))) };
+      days-earliest = record { plan = λ i h. absurd (none i h); no-later = λ q p v h. omega (arith, f .day-0 v (omega (arith, steps))) };
       last-largest = ap (λ c. c .last) (f .counts-are) ∙ sym (largest-zeros (l .tables .counts .steps) (at (l .tables .days)) (λ v h. f .day-0 v (omega (arith, steps))));
     };
     all-steps = steps;
@@ -93,6 +89,9 @@ fresh-fine l f = record {
   };
 }
   where
+    none : (i : ℕ) → held-in (l .tables) i → ⊥
+    none i (below, some) = omega (arith, some, f .all-free i below)
+
     steps : l .tables .counts .steps ≡ STEPS
     steps = ap (λ c. c .steps) (f .counts-are)
 
@@ -124,16 +123,13 @@ fresh-in-force l f = record {
     marks : l .tables .counts .marks ≡ 0
     marks = ap (λ c. c .marks) (f .counts-are)
 
-    rules : l .tables .counts .rules ≡ 0
-    rules = ap (λ c. c .rules) (f .counts-are)
-
     broken : l .notes .broken ≡ 0
     broken = ap (λ n. n .broken) (f .notes-are)
 
     exact-at :
         (k j : ℕ) → k + j ≡ l .tables .counts .marks → Clear (l .notes .broken) j →
-        (e : ℕ → ℤ) → KeptBelow (l .tables) (cut-at (l .tables) k j) e ↔ Agrees (by-name l e) (drop k nothing-asserted)
-    exact-at zero j levels clear e = ((λ kept. (tt, tt)), (λ agrees i h. absurd (omega (arith, rules))))
+        (e : ℕ → ℤ) → KeptTo (l .tables) j e ↔ Agrees (by-name l e) (drop k nothing-asserted)
+    exact-at zero j levels clear e = ((λ kept. (tt, tt)), (λ agrees i h. absurd (omega (arith, h .0 .1, f .all-free i (h .0 .0)))))
     exact-at (suc k) j levels clear e = absurd (omega (arith, marks, levels))
 
 -- ---- a name declared
@@ -190,9 +186,9 @@ module _ (l : Lent) (h : History) (i : InForce l h) (t : Term) (of : OfTerm (Kno
     where
       exact-at :
           (k j : ℕ) → k + j ≡ l .tables .counts .marks → Clear (l .notes .broken) j →
-          (e : ℕ → ℤ) → KeptBelow (l .tables) (cut-at (l .tables) k j) e ↔ Agrees (by-name l e) (drop k (with-term t h))
+          (e : ℕ → ℤ) → KeptTo (l .tables) j e ↔ Agrees (by-name l e) (drop k (with-term t h))
       exact-at zero j levels clear e = absurd (omega (arith, clear some, i .fine .sound .level-open))
-      exact-at (suc k) j levels clear e = subst (λ (x : History). KeptBelow (l .tables) (at (l .tables .marks) j) e ↔ Agrees (by-name l e) x) (sym (older-same k t h)) (i .exact (suc k) j levels clear e)
+      exact-at (suc k) j levels clear e = subst (λ (x : History). KeptTo (l .tables) j e ↔ Agrees (by-name l e) x) (sym (older-same k t h)) (i .exact (suc k) j levels clear e)
 
       none-at : (k j : ℕ) → k + j ≡ l .tables .counts .marks → j + 1 ≡ l .notes .broken → (e : ℕ → ℤ) → Agrees (by-name l e) (drop k (with-term t h)) → ⊥
       none-at zero j levels level e agrees = i .none zero j levels level e (agrees-term (by-name l e) t h .0 agrees .1)
@@ -203,20 +199,37 @@ module _ (l : Lent) (h : History) (i : InForce l h) (t : Term) (of : OfTerm (Kno
     sound : Sound (l .tables)
     sound = i .fine .sound .tables-sound
 
+    counted : Counted (l .tables)
+    counted = record { room = i .fine .room .tables-room; counted = sound .rules-counted }
+
+    -- The rules of an older level, and of those below it, are the same.
+    older-there : (j : ℕ) → j < l .tables .counts .marks → (r : ℕ) → held-to j (l .tables .levels) r → held-to j (u .levels) r
+    older-there j older r (there, low) = (still-held grown r there, omega (arith, low, grown .older-levels r there))
+
+    older-here : (j : ℕ) → j < l .tables .counts .marks → (r : ℕ) → held-to j (u .levels) r → held-to j (l .tables .levels) r
+    older-here j older r (there, low) = tell (grown .new-levels r there)
+      where
+        tell : held-in (l .tables) r ⊎ (at (u .levels) r ≡ l .tables .counts .marks + 1) → held-to j (l .tables .levels) r
+        tell (inl was) = (was, omega (arith, low, grown .older-levels r was))
+        tell (inr new) = absurd (omega (arith, low, new, older))
+
     -- What belongs to older levels stays.
     older-exact :
-        (k j : ℕ) → suc k + j ≡ u .counts .marks → (e : ℕ → ℤ) → KeptBelow u (at (u .marks) j) e ↔ Agrees (by-name l e) (drop (suc k) (with-term t h))
+        (k j : ℕ) → suc k + j ≡ u .counts .marks → (e : ℕ → ℤ) → KeptTo u j e ↔ Agrees (by-name l e) (drop (suc k) (with-term t h))
     older-exact k j levels e =
         let was = i .exact (suc k) j (levels ∙ grown .same-open) (λ some. absurd (some clean)) e in
-        let mark : at (u .marks) j ≡ at (l .tables .marks) j = ap (λ (m : List ℕ). at m j) (grown .same-marks) in
-        let held : at (l .tables .marks) j ≤ l .tables .counts .rules = sound .marks-held j (omega (arith, levels, grown .same-open)) in (
-          (λ kept. subst (Agrees (by-name l e)) (sym (older-same k t h)) (was .0 (λ r below. subst (Keeps e) (grown .older-rules r (omega (arith, held, below))) (kept r (omega (arith, mark, below)))))),
-          (λ agrees r below. subst (Keeps e) (sym (grown .older-rules r (omega (arith, held, mark, below)))) (was .1 (subst (Agrees (by-name l e)) (older-same k t h) agrees) r (omega (arith, mark, below)))),
+        let older : j < l .tables .counts .marks = omega (arith, levels, grown .same-open) in (
+          (λ kept. subst (Agrees (by-name l e)) (sym (older-same k t h)) (was .0 (λ r there. subst (Keeps e) (grown .older-rules r (there .0)) (kept r (older-there j older r there))))),
+          (λ agrees r there. let before = older-here j older r there in
+              subst (Keeps e) (sym (grown .older-rules r (before .0))) (was .1 (subst (Agrees (by-name l e)) (older-same k t h) agrees) r before)),
         )
 
     -- The newest level, as it was.
     newest : (e : ℕ → ℤ) → Kept-in e (l .tables) ↔ Agrees (by-name l e) h
-    newest e = i .exact 0 (l .tables .counts .marks) (omega arith) (λ some. absurd (some clean)) e
+    newest e =
+        let all = all-levels (l .tables) sound (l .tables .counts .marks) (omega arith) e in
+        let was = i .exact 0 (l .tables .counts .marks) (omega arith) (λ some. absurd (some clean)) e in
+        ((λ kept. was .0 (all .1 kept)), (λ agrees. all .0 (was .1 agrees)))
 
     -- All rules of the term fit.
     pub fits-in-force :
@@ -229,12 +242,13 @@ module _ (l : Lent) (h : History) (i : InForce l h) (t : Term) (of : OfTerm (Kno
       none = λ k j levels level e agrees. absurd (omega (arith, level));
     }
       where
-        exact-at : (k j : ℕ) → k + j ≡ u .counts .marks → Clear 0 j → (e : ℕ → ℤ) → KeptBelow u (cut-at u k j) e ↔ Agrees (by-name l e) (drop k (with-term t h))
+        exact-at : (k j : ℕ) → k + j ≡ u .counts .marks → Clear 0 j → (e : ℕ → ℤ) → KeptTo u j e ↔ Agrees (by-name l e) (drop k (with-term t h))
         exact-at zero j levels clear e =
-            let law = assertion-kept e s n a (step-of l) (l .tables) u (i .fine .room .tables-room .rules-room) few adds in
+            let law = assertion-kept e s n a (step-of l) (l .tables) u counted few adds in
+            let all = all-levels u (g .sound .tables-sound) j (omega (arith, levels)) e in
             let both = agrees-term (by-name l e) t h in (
-              (λ kept. let now = law .0 kept in both .1 (subst (λ (x : Term). Holds x (by-name l e)) is (now .1), newest e .0 (now .0))),
-              (λ agrees. let now = both .0 agrees in law .1 (newest e .1 (now .1), subst (λ (x : Term). Holds x (by-name l e)) (sym is) (now .0))),
+              (λ kept. let now = law .0 (all .0 kept) in both .1 (subst (λ (x : Term). Holds x (by-name l e)) is (now .1), newest e .0 (now .0))),
+              (λ agrees. let now = both .0 agrees in all .1 (law .1 (newest e .1 (now .1), subst (λ (x : Term). Holds x (by-name l e)) (sym is) (now .0)))),
             )
         exact-at (suc k) j levels clear e = older-exact k j levels e
 
@@ -252,13 +266,13 @@ module _ (l : Lent) (h : History) (i : InForce l h) (t : Term) (of : OfTerm (Kno
       where
         exact-at :
             (k j : ℕ) → k + j ≡ u .counts .marks → Clear (u .counts .marks + 1) j → (e : ℕ → ℤ) →
-            KeptBelow u (cut-at u k j) e ↔ Agrees (by-name l e) (drop k (with-term t h))
+            KeptTo u j e ↔ Agrees (by-name l e) (drop k (with-term t h))
         exact-at zero j levels clear e = absurd (omega (arith, levels, clear (λ z. omega arith)))
         exact-at (suc k) j levels clear e = older-exact k j levels e
 
         none-at : (k j : ℕ) → k + j ≡ u .counts .marks → j + 1 ≡ u .counts .marks + 1 → (e : ℕ → ℤ) → Agrees (by-name l e) (drop k (with-term t h)) → ⊥
         none-at zero j levels level e agrees =
             let now = agrees-term (by-name l e) t h .0 agrees in
-            assertion-none e s n a (step-of l) (l .tables) u (i .fine .room .tables-room .rules-room) few adds (newest e .1 (now .1))
+            assertion-none e s n a (step-of l) (l .tables) u counted few adds (newest e .1 (now .1))
             (subst (λ (x : Term). Holds x (by-name l e)) (sym is) (now .0))
         none-at (suc k) j levels level e agrees = omega (arith, levels, level)

@@ -1,5 +1,5 @@
 -- What a command that is carried out leaves is sound and has room.
-use Prim.Native.Nat.{ℕ, zero, suc, _+_, _*_, _≤_, _<_}
+use Prim.Native.Nat.{ℕ, suc, _+_, _*_, _≤_, _<_}
 use native.Mathlib.Omega.{arith}
 use native.Mathlib.Decide.{ℕ-discrete, decLt}
 use mathlib.Core.Path.{_≡_, refl, sym, _∙_, ap, subst}
@@ -25,7 +25,7 @@ use Rattle.names.proofs.Shelves.{name-new, name-old}
 use Rattle.write.specs.Written.{over}
 use Rattle.write.proofs.Laws.{length-over}
 use Rattle.levels.specs.Levels.{with-marks, Popped}
-use Rattle.levels.proofs.Laws.{with-marks-is, with-marks-border, popped-border}
+use Rattle.levels.proofs.Laws.{with-marks-border, popped-border}
 use Rattle.script_meaning.specs.declared.Notes.{Notes}
 use Rattle.script_meaning.specs.Record.{Lent, StartRoom, ScriptSound, InForm, Known, step-of}
 use Rattle.script_meaning.specs.Effect.{Does, AddsAll, resolved, forgotten, with-notes, with-tables, with-name, checked, broken-after, broken-left}
@@ -33,7 +33,7 @@ use Rattle.script_meaning.specs.Commands.{command-needs}
 use Rattle.script_meaning.specs.Traces.{with-out}
 use Rattle.script_meaning.proofs.Seeking.{numbered-known}
 use Rattle.script_meaning.proofs.Needed.{RuleMet, EachRule}
-use Rattle.script_meaning.proofs.Granted.{declare-met, assert-met, push-met, pop-met}
+use Rattle.script_meaning.proofs.Granted.{declare-met, assert-met, push-met}
 use Rattle.script_meaning.proofs.Adding.{Each, Grown, adds-kept}
 
 -- What is lent has room and is sound.
@@ -189,15 +189,8 @@ level-left b t = tell (decLt (t .counts .marks + 1) b)
     tell (yes h) = rw (lt-ltb (t .counts .marks + 1) b h) (omega arith)
     tell (no h) = rw (le-ltb (t .counts .marks + 1) b (omega arith)) (omega arith)
 
-pub marks-more : (n : ℕ) (t : Tables) → with-marks n t .counts .marks ≡ t .counts .marks + n
-marks-more n t = sym (ap (λ (u : Tables). u .counts .marks) (with-marks-is n t))
-
-pub steps-same : (n : ℕ) (t : Tables) → with-marks n t .counts .steps ≡ t .counts .steps
-steps-same n t = sym (ap (λ (u : Tables). u .counts .steps) (with-marks-is n t))
-
 popped-steps : (n : ℕ) (t u : Tables) → Popped n t u → u .counts .steps ≡ t .counts .steps
-popped-steps zero t u p = ap (λ (v : Tables). v .counts .steps) (p .dropped)
-popped-steps (suc n) t u p = ap (λ (v : Tables). v .counts .steps) (p .dropped)
+popped-steps n t u p = ap (λ (v : Tables). v .counts .steps) (p .dropped)
 
 pub kept-of : {t : Tables} → Border t → Kept t
 kept-of b = record { sound = b .sound; room = b .room }
@@ -220,11 +213,11 @@ does-fine (Assert i) s k w before after f named met (w-is, inr (none, (t, (clash
     subst Fine (sym is) (tables-fine t (broken-after clash t) before f (more .0) (more .1 .same-steps) (level-after clash t))
 does-fine (Push n) s k w before after f named met (w-is, is) =
     subst Fine (sym is)
-    (tables-fine (with-marks n (before .tables)) (before .notes .broken) before f (kept-of (with-marks-border n (tables-border f) (push-met n s before met))) (steps-same n (before .tables))
-    (omega (arith, marks-more n (before .tables), f .sound .level-open)))
+    (tables-fine (with-marks n (before .tables)) (before .notes .broken) before f (kept-of (with-marks-border n (tables-border f) (push-met n s before met))) refl
+    (omega (arith, f .sound .level-open)))
 does-fine (Pop n) s k w before after f named met (w-is, (t, (p, is))) =
     subst Fine (sym is)
-    (tables-fine t (broken-left (before .notes .broken) t) before f (kept-of (popped-border n (tables-border f) (pop-met n s before met) p)) (popped-steps n (before .tables) t p) (level-left (before .notes .broken) t))
+    (tables-fine t (broken-left (before .notes .broken) t) before f (kept-of (popped-border n (tables-border f) p)) (popped-steps n (before .tables) t p) (level-left (before .notes .broken) t))
 does-fine CheckSat s k w before after f named met (w-is, is) =
     subst Fine (sym is) (with-record _ (before .notes .logic) (eqb (before .notes .broken) 0) (before .notes .broken) (other-fine _ before f) (f .sound .level-open) (ne-eqb (before .notes .broken) 0))
 does-fine (GetValue i) s k w before after f named met (w-is, is) = subst Fine (sym is) (other-fine _ before f)

@@ -8,6 +8,7 @@ pub mod Refusing
 pub mod Adding
 pub mod Beside
 pub mod Keeping
+pub mod Orderly
 pub mod Passed
 pub mod Cutting
 pub mod Naming

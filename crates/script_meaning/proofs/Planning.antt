@@ -15,7 +15,7 @@ use Rattle.script_meaning.specs.Traces.{History, Agrees, Satisfiable, So
 use Rattle.script_meaning.proofs.Seeking.{known-name}
 use Rattle.script_meaning.proofs.Adjoining.{Kept-in}
 use Rattle.script_meaning.proofs.Named.{agrees-too, agrees-drop}
-use Rattle.script_meaning.proofs.InForce.{InForce, by-name}
+use Rattle.script_meaning.proofs.InForce.{InForce, all-levels, by-name}
 
 -- The day of each name in the plan: that of its step. A name that is not declared has day 0.
 abbrev pub plan-of : Lent → List ℕ → ℕ
@@ -59,7 +59,10 @@ module _ (l : Lent) (h : History) (i : InForce l h) where
   }
     where
       exact : (e : ℕ → ℤ) → Kept-in e (l .tables) ↔ Agrees (by-name l e) h
-      exact = i .exact 0 (l .tables .counts .marks) (omega arith) (λ some. absurd (some clean))
+      exact e =
+          let all = all-levels (l .tables) (i .fine .sound .tables-sound) (l .tables .counts .marks) (omega arith) e in
+          let law = i .exact 0 (l .tables .counts .marks) (omega arith) (λ some. absurd (some clean)) e in
+          ((λ kept. law .0 (all .1 kept)), (λ agrees. all .0 (law .1 agrees)))
 
       tell : (q : List ℕ → ℕ) → Agrees (λ w. pos (q w)) h → (w : List ℕ) → Dec (step-of l w < l .notes .names) → plan-of l w ≤ q w
       tell q agrees w (yes known) =

@@ -5,7 +5,7 @@ use mathlib.Core.Path.{_≡_, refl, _∙_}
 use mathlib.Core.List.{List}
 use lib.ListN.{length, length-replicate, getD-replicate}
 use lib.IntN.{pos}
-use Rattle.meaning.specs.Bounds.{STEPS, RULES, MARKS, WATCHED, TEXT, NAME-BYTES, SYNTAX}
+use Rattle.meaning.specs.Bounds.{STEPS, RULES, WATCHED, TEXT, NAME-BYTES, SYNTAX}
 use Rattle.form.specs.Form.{form}
 use Rattle.write.specs.Written.{over}
 use Rattle.write.proofs.Laws.{part-before}
@@ -58,7 +58,7 @@ blank-fresh out = record {
         amounts-room = omega (arith, length-replicate RULES (pos 0));
       };
       days-room = omega (arith, length-replicate {A = ℕ} STEPS 0);
-      marks-room = omega (arith, length-replicate {A = ℕ} MARKS 0);
+      levels-room = omega (arith, length-replicate {A = ℕ} RULES 0);
       watched-room = record {
         firsts-room = omega (arith, length-replicate {A = ℕ} WATCHED 0);
         seconds-room = omega (arith, length-replicate {A = ℕ} WATCHED 0);
@@ -71,6 +71,7 @@ blank-fresh out = record {
   counts-are = refl;
   notes-are = refl;
   day-0 = λ v below. getD-replicate {A = ℕ} STEPS v 0 0 below;
+  all-free = λ i below. getD-replicate {A = ℕ} RULES i 0 0 below;
 }
 
 -- **The answers of a whole script**: every command of it that is carried out is answered as the text of the commands before it asks for.

@@ -1,6 +1,6 @@
 -- No promise of a script call is empty: every input has an outcome that is allowed. What a call needs is told need by need; where all is met, each rule of a term is added or clashes, and
 -- a pop finds the earliest plan of the rules left, as Add and Back do.
-use Prim.Native.Nat.{ℕ, zero, suc, _+_, _≤_}
+use Prim.Native.Nat.{ℕ, _+_, _-_, _≤_}
 use native.Mathlib.Omega.{arith}
 use native.Mathlib.Decide.{ℕ-discrete, decLe}
 use mathlib.Core.Path.{_≡_, refl, sym, ap, subst}
@@ -9,26 +9,26 @@ use mathlib.Core.List.{List, [], _∷_, map}
 use mathlib.Core.Logic.{_⊎_, inl, inr}
 use lib.ListN.{length, replicate, length-replicate}
 use Rattle.meaning.specs.Bounds.{STEPS, RULES, DONE, SHORT, CONFLICT}
-use Rattle.meaning.specs.Rules.{Rule, InBounds, Earliest, Refutes}
-use Rattle.meaning.specs.Tables.{Tables}
+use Rattle.meaning.specs.Rules.{Rule, InSteps, InBounds, Earliest, Refutes}
+use Rattle.meaning.specs.Tables.{Tables, at, down-to, with-days}
 use Rattle.meaning.specs.Promise.{First}
-use Rattle.meaning.specs.Calls.{rules-of, held-in, next-in, rules-and, held-and, back-meaning, Asked}
-use Rattle.meaning.proofs.Theory.{ring-excludes}
-use Rattle.meaning.proofs.Needs.{all-met, first-same}
+use Rattle.meaning.specs.Calls.{rules-of, held-in, next-in, rules-and, held-and, Asked}
+use Rattle.meaning.proofs.Theory.{ring-excludes, earliest-ext}
+use Rattle.meaning.proofs.Circle.{earliest-of-plan}
+use Rattle.meaning.proofs.Places.{held?, down-to-held}
 use Rattle.meaning.proofs.Sequences.{Kept}
-use Rattle.meaning.proofs.Possible.{Allowed, Outcome, allowed-outcome, refusal-met, plan-fits, plan-or-ring, open-met, add-met, back-possible}
+use Rattle.meaning.proofs.Possible.{Allowed, Outcome, allowed-outcome, refusal-met, written, written-at, written-past, plan-fits, plan-or-ring, open-met, add-met}
 use Rattle.lent.specs.Promises.{Border}
 use Rattle.span.specs.Span.{span}
 use Rattle.form.specs.declared.Command.{Command}
 use Rattle.form.specs.declared.Command.the-variants.{SetLogic, Declare, Assert, Push, Pop, CheckSat, GetValue, Exit, Unsupported, Syntax, Oversize}
 use Rattle.form.specs.Form.{form}
 use Rattle.atoms.specs.Atoms.{rules-at}
-use Rattle.levels.specs.Levels.{Popped, fewer-marks}
-use Rattle.levels.proofs.Laws.{popped-none, fewer-border}
+use Rattle.levels.specs.Levels.{Popped}
 use Rattle.script_meaning.specs.Record.{Lent, StartRoom, ScriptRoom, ScriptSound, step-of, no-notes}
 use Rattle.script_meaning.specs.Effect.{Does, HeldNow, AddsAll, resolved}
 use Rattle.script_meaning.specs.Commands.{own, command-needs, command-meaning, start-meaning}
-use Rattle.script_meaning.proofs.Granted.{assert-met, pop-met, granted}
+use Rattle.script_meaning.proofs.Granted.{assert-met, granted}
 use Rattle.script_meaning.proofs.Refusing.{never-conflict}
 use Rattle.script_meaning.proofs.Adding.{Each, holds-kept}
 use Rattle.script_meaning.proofs.Keeping.{Fine, tables-kept, tables-border, rules-in, map-length}
@@ -60,17 +60,37 @@ adds-some (r ∷ l) t k (here, there) room = tell (adds-some l) (plan-or-ring r 
         let more = rest v (holds-kept r t v k here (omega (arith, room)) h) (subst (λ (n : ℕ). Each (InBounds n) l) (sym steps) there) (omega (arith, room, rules)) in
         (more .0, (more .1 .0, inr (v, (h, more .1 .1))))
 
--- As many marks as are open can be dropped.
-pop-some : (n : ℕ) (t : Tables) → Border t → n ≤ t .counts .marks → (u : Tables) × Popped n t u
-pop-some zero t b few = (t, popped-none zero refl (b .sound))
-pop-some (suc n) t b few =
-    let f : Border (fewer-marks n t) = fewer-border b (omega arith) in
-    let a = back-possible (fewer-marks n t) in
-    let done =
-    first-same (back-meaning (fewer-marks n t) .asks) (a .answer .number) DONE (a .keeps .first-unmet)
-    (all-met (back-meaning (fewer-marks n t) .asks) (f .room, (f .sound, (omega arith, tt)))) in
-    let x = a .keeps .when-done done in
-    (a .after, record { dropped = x .dropped; planned = x .planned })
+-- As many marks as are open can be dropped: the days keep the rules left, so these have an earliest plan.
+pop-some : (n : ℕ) (t : Tables) → Border t → (u : Tables) × Popped n t u
+pop-some n t b = (
+  with-days (written (t .counts .steps) plan (t .days)) left,
+  record {
+    dropped = refl;
+    planned = record {
+      earliest =
+          earliest-ext (t .counts .steps) (rules-of t) (held-in left) plan (at (written (t .counts .steps) plan (t .days))) steps (λ v below. sym (written-at (t .counts .steps) plan (t .days) v below))
+          (planned .1);
+      past = written-past (t .counts .steps) plan (t .days) (omega (arith, b .room .days-room, b .sound .counts-in .steps-in));
+    };
+  },
+)
+  where
+    left : Tables
+    left = down-to (t .counts .marks - n) t
+
+    was : (i : ℕ) → held-in (down-to (t .counts .marks - n) t) i → held-in t i
+    was i there = down-to-held (t .counts .marks - n) t i .0 there .0
+
+    steps : (i : ℕ) → held-in (down-to (t .counts .marks - n) t) i → InSteps (t .counts .steps) (rules-of t i)
+    steps i there = b .sound .rules-good i (was i there) .steps-in
+
+    planned : (p : ℕ → ℕ) × Earliest (t .counts .steps) (rules-of t) (held-in (down-to (t .counts .marks - n) t)) p
+    planned =
+        earliest-of-plan (t .counts .steps) RULES (rules-of t) (held-in (down-to (t .counts .marks - n) t)) (held? (down-to (t .counts .marks - n) t)) (λ i there. there .0) steps (at (t .days))
+        (λ i there. b .sound .days-earliest .plan i (was i there))
+
+    plan : ℕ → ℕ
+    plan = planned .0
 
 -- A command whose needs are all met can be carried out.
 pub does-some : (c : Command) (s : List ℕ) (k : ℕ) (l : Lent) → Fine l → First (command-needs c s l) DONE → (w : ℕ) × ((m : Lent) × Does c s k l w m)
@@ -87,7 +107,7 @@ does-some (Assert i) s k l f met = tell (ℕ-discrete (l .notes .broken) 0)
         (0, (_, (refl, inr (none, (a .1 .0, (a .0, (a .1 .1, refl)))))))
 does-some (Push n) s k l f met = (_, (_, (refl, refl)))
 does-some (Pop n) s k l f met =
-    let p = pop-some n (l .tables) (tables-border f) (pop-met n s l met) in
+    let p = pop-some n (l .tables) (tables-border f) in
     (0, (_, (refl, (p .0, (p .1, refl)))))
 does-some CheckSat s k l f met = (_, (_, (refl, refl)))
 does-some (GetValue i) s k l f met = (_, (_, (refl, refl)))

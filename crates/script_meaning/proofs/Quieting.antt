@@ -1,11 +1,8 @@
 -- Quiet calls keep the link between the asserted terms and the rules held: they leave the rules, the marks and the steps as they were.
-use Prim.Native.Nat.{ℕ, zero, suc, _+_}
 use native.Mathlib.Omega.{arith}
 use native.Mathlib.Decide.{ℕ-discrete}
 use mathlib.Core.Path.{_≡_, refl, sym, _∙_, ap, subst}
-use mathlib.Core.Logic.{_⊎_, inl, inr, _↔_}
-use lib.ListN.{drop}
-use lib.IntN.{ℤ}
+use mathlib.Core.Logic.{_⊎_, inl, inr}
 use Rattle.meaning.specs.Bounds.{DONE, CONFLICT}
 use Rattle.meaning.specs.Rules.{Rule}
 use Rattle.meaning.specs.Tables.{Tables, with-watched}
@@ -14,9 +11,9 @@ use Rattle.meaning.specs.Runs.{Call, Made}
 use Rattle.meaning.proofs.Sequences.{Kept}
 use Rattle.script_meaning.specs.Record.{Lent}
 use Rattle.script_meaning.specs.Mixed.{on-tables}
-use Rattle.script_meaning.specs.Traces.{History, Agrees, Quiet}
+use Rattle.script_meaning.specs.Traces.{History, Quiet}
 use Rattle.script_meaning.proofs.Keeping.{Fine}
-use Rattle.script_meaning.proofs.InForce.{InForce, cut-at, KeptBelow, Clear, by-name}
+use Rattle.script_meaning.proofs.InForce.{InForce}
 
 -- A quiet call leaves the tables as they were, but for a rule that is watched.
 abbrev pub Quietly : Tables → Tables → Type 0
@@ -39,6 +36,7 @@ quietly (Call.adds r l m) t u g x q =
     by-number g (Quietly t u) (λ e. absurd (q e)) (λ e. inl (x .on-conflict e .0 .tables-stay)) (λ d c. inl (ap (λ z. z .tables) (x .when-refused d c .1)))
 quietly Call.marks t u g x q = by-number g (Quietly t u) (λ e. absurd (q e)) (λ e. absurd (x .on-conflict e .0)) (λ d c. inl (x .when-refused d c .1))
 quietly Call.goes-back t u g x q = by-number g (Quietly t u) (λ e. absurd (q e)) (λ e. absurd (x .on-conflict e .0)) (λ d c. inl (x .when-refused d c .1))
+quietly (Call.withdraws i) t u g x q = by-number g (Quietly t u) (λ e. absurd (q e)) (λ e. absurd (x .on-conflict e .0)) (λ d c. inl (x .when-refused d c .1))
 quietly (Call.tries r l m n o) t u g x q =
     by-number g (Quietly t u) (λ e. inl (x .when-done e .tables-stay)) (λ e. inl (x .on-conflict e .0 .tables-stay)) (λ d c. inl (ap (λ z. z .tables) (x .when-refused d c .1)))
 quietly (Call.asks-consequences l m n o) t u g x q =
@@ -68,17 +66,11 @@ pub quiet-in-force : (l : Lent) (h : History) (t : Tables) → InForce l h → K
 quiet-in-force l h t i k (inl is) = subst (λ (x : Tables). InForce (on-tables x l) h) (sym is) i
 quiet-in-force l h t i k (inr (r, is)) = subst (λ (x : Tables). InForce (on-tables x l) h) (sym is) watched
   where
-    exact-at :
-        (k j : ℕ) → k + j ≡ l .tables .counts .marks → Clear (l .notes .broken) j → (e : ℕ → ℤ) →
-        KeptBelow (with-watched r (l .tables)) (cut-at (with-watched r (l .tables)) k j) e ↔ Agrees (by-name l e) (drop k h)
-    exact-at zero = i .exact zero
-    exact-at (suc k) = i .exact (suc k)
-
     watched : InForce (on-tables (with-watched r (l .tables)) l) h
     watched = record {
       fine = on-tables-fine (with-watched r (l .tables)) l (i .fine) (subst Kept is k) refl refl;
       as-many = i .as-many;
       declared = i .declared;
-      exact = exact-at;
+      exact = i .exact;
       none = i .none;
     }

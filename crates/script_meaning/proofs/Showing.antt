@@ -19,7 +19,7 @@ use Rattle.script_meaning.specs.Effect.{Asserts, Does, resolved}
 use Rattle.script_meaning.specs.Commands.{own, command-needs, command-meaning}
 use Rattle.script_meaning.specs.Mixed.{MixedRun}
 use Rattle.script_meaning.proofs.Granted.{granted, assert-met}
-use Rattle.script_meaning.proofs.Adding.{Grown, adds-kept}
+use Rattle.script_meaning.proofs.Adding.{Grown, still-held, adds-kept}
 use Rattle.script_meaning.proofs.Keeping.{Fine, tables-kept, rules-in, map-length}
 use Rattle.script_meaning.proofs.Mixing.{mixed-kept}
 
@@ -36,7 +36,7 @@ none-dropped g = record {
   same-steps = sym (g .same-steps);
   as-many-watched = sym (g .same-count);
   each-watched = λ j below. ap (λ (c : Columns). rule-at c j) (sym (g .same-watched));
-  rules-there = λ i held. (i, (omega (arith, g .more-rules), g .older-rules i held));
+  rules-there = λ i held. (i, (still-held g i held, g .older-rules i held));
 }
 
 -- The rules of an assertion that is carried out are added up to the first that does not fit; where a level counts as contradictory none is.

@@ -1,25 +1,25 @@
--- Levels put on and taken off: a `push` puts empty levels on, whose marks are the number of rules held; a `pop` leaves the older levels with the rules below their marks.
+-- Levels put on and taken off: a `push` puts empty levels on, of which no rule is; a `pop` leaves the older levels with the rules of theirs.
 use Prim.Native.Nat.{ℕ, zero, suc, _+_, _-_, _≤_, _<_}
 use native.Mathlib.Omega.{arith}
 use native.Mathlib.Decide.{decLt}
 use mathlib.Core.Path.{_≡_, refl, sym, _∙_, ap, subst}
-use mathlib.Core.List.{List, [], _∷_}
+use mathlib.Core.List.{[], _∷_}
 use mathlib.Core.Logic.{_↔_}
 use lib.ListN.{length, drop, length-drop}
 use lib.Seq.{drop-nil}
 use lib.IntN.{ℤ}
 use borrow.Author.Tests.{lt-ltb, le-ltb}
-use Rattle.meaning.specs.Bounds.{MARKS}
-use Rattle.meaning.specs.Tables.{Tables, Columns, at}
-use Rattle.levels.specs.Levels.{with-marks, marked, more-marks, Popped}
-use Rattle.levels.proofs.Laws.{with-marks-is}
-use Rattle.levels.proofs.Pushing.{marked-old, marked-new}
+use Rattle.meaning.specs.Rules.{Keeps}
+use Rattle.meaning.specs.Tables.{Tables, Columns, rule-at, at}
+use Rattle.meaning.specs.Calls.{rules-of, held-in}
+use Rattle.meaning.proofs.Places.{down-to-held, down-to-levels}
+use Rattle.levels.specs.Levels.{with-marks, Popped, held-to}
 use Rattle.script_meaning.specs.Record.{Lent, Known}
 use Rattle.script_meaning.specs.Effect.{with-tables, broken-left}
 use Rattle.script_meaning.specs.Traces.{History, with-levels, Agrees}
 use Rattle.script_meaning.proofs.Keeping.{Fine}
 use Rattle.script_meaning.proofs.Named.{of-with-levels, of-drop, agrees-levels}
-use Rattle.script_meaning.proofs.InForce.{InForce, cut-at, cut-older, KeptBelow, Clear, by-name}
+use Rattle.script_meaning.proofs.InForce.{InForce, KeptTo, all-levels, Clear, by-name}
 
 -- ---- levels put on
 
@@ -51,47 +51,25 @@ levels-longer : (n : ℕ) (h : History) → length (with-levels n h) ≡ length 
 levels-longer zero h = omega arith
 levels-longer (suc n) h = omega (arith, levels-longer n h)
 
-module _ (n : ℕ) (l : Lent) (h : History) (i : InForce l h) (few : l .tables .counts .marks + n ≤ MARKS) where
-  -- The tables with n marks more.
-  abbrev pushed : Tables
-  pushed = record {
-    counts = more-marks n (l .tables .counts);
-    rules = l .tables .rules;
-    days = l .tables .days;
-    marks = marked n (l .tables .counts .rules) (l .tables .counts .marks) (l .tables .marks);
-    watched = l .tables .watched;
-  }
-
-  -- The marks that were there, and the new ones.
-  old-mark : (j : ℕ) → j < l .tables .counts .marks → at (pushed .marks) j ≡ at (l .tables .marks) j
-  old-mark j older = marked-old n (l .tables .counts .rules) (l .tables .counts .marks) (l .tables .marks) j older
-
-  new-cut : (k j : ℕ) → k + j ≡ l .tables .counts .marks + n → l .tables .counts .marks ≤ j → cut-at pushed k j ≡ l .tables .counts .rules
-  new-cut zero j levels newer = refl
-  new-cut (suc k) j levels newer =
-      marked-new n (l .tables .counts .rules) (l .tables .counts .marks) (l .tables .marks) j newer (omega arith) (omega (arith, i .fine .room .tables-room .marks-room))
-
-  -- An older level has its mark and its terms; a new one has all rules, and no term of its own.
+module _ (n : ℕ) (l : Lent) (h : History) (i : InForce l h) where
+  -- An older level has its rules and its terms; a new one has all rules, and no term of its own.
   pushed-exact :
       (k j : ℕ) → k + j ≡ l .tables .counts .marks + n → Clear (l .notes .broken) j →
-      (e : ℕ → ℤ) → KeptBelow pushed (cut-at pushed k j) e ↔ Agrees (by-name l e) (drop k (with-levels n h))
+      (e : ℕ → ℤ) → KeptTo (l .tables) j e ↔ Agrees (by-name l e) (drop k (with-levels n h))
   pushed-exact k j levels clear e = tell (decLt j (l .tables .counts .marks))
     where
-      tell : Dec (j < l .tables .counts .marks) → KeptBelow pushed (cut-at pushed k j) e ↔ Agrees (by-name l e) (drop k (with-levels n h))
+      tell : Dec (j < l .tables .counts .marks) → KeptTo (l .tables) j e ↔ Agrees (by-name l e) (drop k (with-levels n h))
       tell (yes older) =
           let was = i .exact (k - n) j (omega arith) clear e in
-          let cut : cut-at (l .tables) (k - n) j ≡ cut-at pushed k j = cut-older (l .tables) (k - n) j (omega arith) ∙ sym (old-mark j older) ∙ sym (cut-older pushed k j (omega arith)) in
-          let off : drop (k - n) h ≡ drop k (with-levels n h) = sym (all-off n k h (omega arith)) in (
-            (λ kept. subst (Agrees (by-name l e)) off (was .0 (subst (λ (c : ℕ). KeptBelow (l .tables) c e) (sym cut) kept))),
-            (λ agrees. subst (λ (c : ℕ). KeptBelow (l .tables) c e) cut (was .1 (subst (Agrees (by-name l e)) (sym off) agrees))),
-          )
+          let off : drop (k - n) h ≡ drop k (with-levels n h) = sym (all-off n k h (omega arith)) in
+          ((λ kept. subst (Agrees (by-name l e)) off (was .0 kept)), (λ agrees. was .1 (subst (Agrees (by-name l e)) (sym off) agrees)))
       tell (no newer) =
           let was = i .exact 0 (l .tables .counts .marks) (omega arith) (λ some. omega (arith, clear some)) e in
-          let cut : cut-at pushed k j ≡ l .tables .counts .rules = new-cut k j levels (omega arith) in
+          let all = all-levels (l .tables) (i .fine .sound .tables-sound) in
           let off : drop k (with-levels n h) ≡ with-levels (n - k) h = newest-off n k h (omega arith) in
           let empty = agrees-levels (by-name l e) (n - k) h in (
-            (λ kept. subst (Agrees (by-name l e)) (sym off) (empty .1 (was .0 (subst (λ (c : ℕ). KeptBelow (l .tables) c e) cut kept)))),
-            (λ agrees. subst (λ (c : ℕ). KeptBelow (l .tables) c e) (sym cut) (was .1 (empty .0 (subst (Agrees (by-name l e)) off agrees)))),
+            (λ kept. subst (Agrees (by-name l e)) (sym off) (empty .1 (was .0 (all (l .tables .counts .marks) (omega arith) e .1 (all j (omega arith) e .0 kept))))),
+            (λ agrees. all j (omega arith) e .1 (all (l .tables .counts .marks) (omega arith) e .0 (was .1 (empty .0 (subst (Agrees (by-name l e)) off agrees))))),
           )
 
   pushed-none :
@@ -102,30 +80,32 @@ module _ (n : ℕ) (l : Lent) (h : History) (i : InForce l h) (few : l .tables .
 
   -- **Push** keeps the link.
   pub push-in-force : Fine (with-tables (with-marks n (l .tables)) (l .notes .broken) l) → InForce (with-tables (with-marks n (l .tables)) (l .notes .broken) l) (with-levels n h)
-  push-in-force g = subst (λ (t : Tables). InForce (with-tables t (l .notes .broken) l) (with-levels n h)) (with-marks-is n (l .tables)) now
-    where
-      now : InForce (with-tables pushed (l .notes .broken) l) (with-levels n h)
-      now = record {
-        fine = subst (λ (t : Tables). Fine (with-tables t (l .notes .broken) l)) (sym (with-marks-is n (l .tables))) g;
-        as-many = omega (arith, levels-longer n h, i .as-many);
-        declared = of-with-levels (Known l) n h (i .declared);
-        exact = pushed-exact;
-        none = pushed-none;
-      }
+  push-in-force g = record {
+    fine = g;
+    as-many = omega (arith, levels-longer n h, i .as-many);
+    declared = of-with-levels (Known l) n h (i .declared);
+    exact = pushed-exact;
+    none = pushed-none;
+  }
 
 -- ---- levels taken off
 
--- What is left of tables where n marks are dropped.
+-- What is left of tables where n marks are dropped: the rules whose level is not above the marks left, with their levels.
 record Left (n : ℕ) (t u : Tables) : Type 0 where
   marks-left : u .counts .marks + n ≡ t .counts .marks
-  rules-left : u .counts .rules ≡ cut-at t n (u .counts .marks)
   same-rules : u .rules ≡ t .rules
-  same-marks : u .marks ≡ t .marks
+  still-there : (i : ℕ) → held-to (u .counts .marks) (t .levels) i → held-in u i
+  none-new : (i : ℕ) → held-in u i → held-to (u .counts .marks) (t .levels) i
+  same-levels : (i : ℕ) → held-in u i → at (u .levels) i ≡ at (t .levels) i
 
--- The rules left are those of the level that is now the newest.
 left-of : (n : ℕ) (t u : Tables) → n ≤ t .counts .marks → Popped n t u → Left n t u
-left-of zero t u few p = subst (Left zero t) (sym (p .dropped)) (record { marks-left = omega arith; rules-left = refl; same-rules = refl; same-marks = refl })
-left-of (suc n) t u few p = subst (Left (suc n) t) (sym (p .dropped)) (record { marks-left = omega arith; rules-left = refl; same-rules = refl; same-marks = refl })
+left-of n t u few p = subst (Left n t) (sym (p .dropped)) (record {
+  marks-left = omega arith;
+  same-rules = refl;
+  still-there = λ i. down-to-held (t .counts .marks - n) t i .1;
+  none-new = λ i. down-to-held (t .counts .marks - n) t i .0;
+  same-levels = λ i there. down-to-levels (t .counts .marks - n) t i (down-to-held (t .counts .marks - n) t i .0 there .1);
+})
 
 -- Levels taken off in two steps.
 drop-drop : (n k : ℕ) (h : History) → drop k (drop n h) ≡ drop (n + k) h
@@ -162,31 +142,24 @@ module _ (n : ℕ) (l : Lent) (h : History) (i : InForce l h) (few : n ≤ l .ta
           level ∙ same
 
   -- Each level that is left has the rules that it had.
-  left-cut : (k j : ℕ) → k + j ≡ u .counts .marks → cut-at (l .tables) (n + k) j ≡ cut-at u k j
-  left-cut zero j levels = ap (λ (m : ℕ). cut-at (l .tables) m j) same ∙ ap (cut-at (l .tables) n) here ∙ sym (left .rules-left)
-    where
-      same : n + 0 ≡ n
-      same = omega arith
+  rule-stays : (r : ℕ) → rules-of u r ≡ rules-of (l .tables) r
+  rule-stays r = ap (λ (x : Columns). rule-at x r) (left .same-rules)
 
-      here : j ≡ u .counts .marks
-      here = omega arith
-  left-cut (suc k) j levels = cut-older (l .tables) (n + suc k) j (omega arith) ∙ ap (λ (m : List ℕ). at m j) (sym (left .same-marks))
-
-  same-kept : (c : ℕ) (e : ℕ → ℤ) → KeptBelow (l .tables) c e ↔ KeptBelow u c e
-  same-kept c e =
-      let back = left .same-rules in (
-        (λ kept. subst (λ (x : Columns). KeptBelow (record { counts = u .counts; rules = x; days = u .days; marks = u .marks; watched = u .watched }) c e) (sym back) kept),
-        (λ kept. subst (λ (x : Columns). KeptBelow (record { counts = u .counts; rules = x; days = u .days; marks = u .marks; watched = u .watched }) c e) back kept),
-      )
+  left-kept : (j : ℕ) → j ≤ u .counts .marks → (e : ℕ → ℤ) → KeptTo (l .tables) j e ↔ KeptTo u j e
+  left-kept j in-it e = (
+    (λ kept r there. let was = left .none-new r (there .0) in
+        subst (Keeps e) (sym (rule-stays r)) (kept r (was .0, omega (arith, there .1, left .same-levels r (there .0))))),
+    (λ kept r there. let stays = left .still-there r (there .0, omega (arith, there .1, in-it)) in
+        subst (Keeps e) (rule-stays r) (kept r (stays, omega (arith, there .1, left .same-levels r stays)))),
+  )
 
   left-exact :
-      (k j : ℕ) → k + j ≡ u .counts .marks → Clear (broken-left (l .notes .broken) u) j →
-      (e : ℕ → ℤ) → KeptBelow u (cut-at u k j) e ↔ Agrees (by-name l e) (drop k (drop n h))
+      (k j : ℕ) → k + j ≡ u .counts .marks → Clear (broken-left (l .notes .broken) u) j → (e : ℕ → ℤ) → KeptTo u j e ↔ Agrees (by-name l e) (drop k (drop n h))
   left-exact k j levels clear e =
       let was = i .exact (n + k) j (omega (arith, levels, left .marks-left)) (left-clear j (omega arith) clear) e in
-      let same = same-kept (cut-at u k j) e in (
-        (λ kept. subst (Agrees (by-name l e)) (sym (drop-drop n k h)) (was .0 (subst (λ (c : ℕ). KeptBelow (l .tables) c e) (sym (left-cut k j levels)) (same .1 kept)))),
-        (λ agrees. same .0 (subst (λ (c : ℕ). KeptBelow (l .tables) c e) (left-cut k j levels) (was .1 (subst (Agrees (by-name l e)) (drop-drop n k h) agrees)))),
+      let same = left-kept j (omega (arith, levels)) e in (
+        (λ kept. subst (Agrees (by-name l e)) (sym (drop-drop n k h)) (was .0 (same .1 kept))),
+        (λ agrees. same .0 (was .1 (subst (Agrees (by-name l e)) (drop-drop n k h) agrees))),
       )
 
   pop-left-in-force : Fine (with-tables u (broken-left (l .notes .broken) u) l) → InForce (with-tables u (broken-left (l .notes .broken) u) l) (drop n h)

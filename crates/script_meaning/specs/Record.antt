@@ -28,8 +28,8 @@ pub record Lent : Type 0 where
 
 -- It, from its lists.
 abbrev pub lent : Counts → List ℕ → List ℕ → List ℤ → List ℕ → List ℕ → List ℕ → List ℕ → List ℤ → Notes → List ℕ → List ℕ → List ℕ → Lent
-lent counts xs ys cs days marks wxs wys wcs notes names lens out = record {
-  tables = tables counts xs ys cs days marks wxs wys wcs;
+lent counts xs ys cs days levels wxs wys wcs notes names lens out = record {
+  tables = tables counts xs ys cs days levels wxs wys wcs;
   notes = notes;
   names = names;
   lens = lens;

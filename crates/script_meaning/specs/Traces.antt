@@ -71,13 +71,14 @@ pub record Soonest (h : History) (p : List ℕ → ℕ) : Type 0 where
   pub agrees : Agrees (λ w. pos (p w)) h
   pub no-later : (q : List ℕ → ℕ) → Agrees (λ w. pos (q w)) h → (w : List ℕ) → p w ≤ q w
 
--- A call that sets no rule, mark or step anew: Watch, Trial, Consequences, Ring check and Last day, and the others where they are not carried out.
+-- A call that changes no rule, mark or step: Watch, Trial, Consequences, Ring check and Last day, and the others where they are not carried out.
 abbrev pub Quiet : Call → Given → Type 0
 Quiet (Call.opens n) g = g .number ≡ DONE → ⊥
 Quiet (Call.watches r) g = Unit {0}
 Quiet (Call.adds r l m) g = g .number ≡ DONE → ⊥
 Quiet Call.marks g = g .number ≡ DONE → ⊥
 Quiet Call.goes-back g = g .number ≡ DONE → ⊥
+Quiet (Call.withdraws i) g = g .number ≡ DONE → ⊥
 Quiet (Call.tries r l m n o) g = Unit {0}
 Quiet (Call.asks-consequences l m n o) g = Unit {0}
 Quiet (Call.checks-ring r l m) g = Unit {0}

@@ -5,7 +5,7 @@ use mathlib.Core.Bool.{Bool, true, false}
 use mathlib.Core.List.{List, [], _∷_, _++_}
 use lib.ListN.{length, take, drop, replicate}
 use lib.IntN.{pos}
-use Rattle.meaning.specs.Bounds.{STEPS, RULES, MARKS, WATCHED, NAME-BYTES, ROOM, TEXT, DONE, SHORT, SYNTAX, SIZE}
+use Rattle.meaning.specs.Bounds.{STEPS, RULES, WATCHED, NAME-BYTES, ROOM, TEXT, DONE, SHORT, SYNTAX, SIZE}
 use Rattle.meaning.specs.Tables.{at, steps-alone}
 use Rattle.meaning.specs.Promise.{First}
 use Rattle.text.specs.Lexicon.{END, token-at}
@@ -68,12 +68,13 @@ pub data Plays (s : List ℕ) : ℕ → Lent → ℕ → (g w : ℕ) → (out : 
       First (command-needs (form (command-at s i)) (command-at s i) l) DONE → Does (form (command-at s i)) (command-at s i) k l w l′ →
       exits (form (command-at s i)) ≡ false → Plays s (after-command s i) l′ (k + w) g v out → Plays s i l k g v out
 
--- What is lent at the start of a script: tables with room, STEPS steps on day 0, no rule, mark or watched rule, and an empty record.
+-- What is lent at the start of a script: tables with room, STEPS steps on day 0, no rule, mark or watched rule, every place free, and an empty record.
 pub record Fresh (l : Lent) : Type 0 where
   pub room : StartRoom l
   pub counts-are : l .tables .counts ≡ steps-alone STEPS
   pub notes-are : l .notes ≡ no-notes
   pub day-0 : (v : ℕ) → v < STEPS → at (l .tables .days) v ≡ 0
+  pub all-free : (i : ℕ) → i < RULES → at (l .tables .levels) i ≡ 0
 
 -- The tables of a script's own: zeros, each table exactly as long as its bound says.
 abbrev pub blank : List ℕ → Lent
@@ -82,7 +83,7 @@ blank out = record {
     counts = steps-alone STEPS;
     rules = record { firsts = replicate {A = ℕ} RULES 0; seconds = replicate {A = ℕ} RULES 0; amounts = replicate RULES (pos 0) };
     days = replicate {A = ℕ} STEPS 0;
-    marks = replicate {A = ℕ} MARKS 0;
+    levels = replicate {A = ℕ} RULES 0;
     watched = record { firsts = replicate {A = ℕ} WATCHED 0; seconds = replicate {A = ℕ} WATCHED 0; amounts = replicate WATCHED (pos 0) };
   };
   notes = no-notes;

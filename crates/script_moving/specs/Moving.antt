@@ -1,5 +1,5 @@
 -- What a command asks of the tables, and what is done to them.
-use Prim.Native.Nat.{ℕ, _+_, _≤_}
+use Prim.Native.Nat.{ℕ, _+_, _≤_, _<_}
 use mathlib.Core.Bool.{Bool, cond}
 use mathlib.Core.List.{List, [], map}
 use lib.Dec.{eqb}
@@ -11,7 +11,7 @@ use Rattle.meaning.specs.Promise.{First}
 use Rattle.form.specs.declared.Command.{Command}
 use Rattle.form.specs.declared.Command.the-variants.{SetLogic, Declare, Assert, Push, Pop, CheckSat, GetValue, Exit, Unsupported, Syntax, Oversize}
 use Rattle.atoms.specs.Atoms.{rules-at}
-use Rattle.levels.specs.Levels.{with-marks, Popped}
+use Rattle.levels.specs.Levels.{with-marks, Popped, InOrder}
 use Rattle.script_meaning.specs.Record.{KnownIn}
 use Rattle.script_meaning.specs.Effect.{AddsAll, resolved}
 use Rattle.script_meaning.specs.Commands.{term-needs}
@@ -71,3 +71,7 @@ pub record Movable (c : Command) (broken : ℕ) (s : List ℕ) (n : ℕ) (names 
 abbrev pub Moves : Command → ℕ → List ℕ → (List ℕ → ℕ) → Tables → Bool → Tables → Type 0
 Moves c broken s S before clash after =
     (t : Tables) × (AddsAll (map (resolved S) (rules-at s (term-place c broken (length s)))) before clash t × Popped (pops c) (with-marks (pushes c) t) after)
+
+-- Where days are kept beside the tables, the m rules held stand in the order in which they were added: a pop then frees the newest places.
+abbrev pub OrderKept : ℕ → List ℕ → List ℕ → Type 0
+OrderKept m levels kept = 0 < length kept → InOrder m levels

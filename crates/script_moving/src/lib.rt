@@ -2,10 +2,8 @@
 // nothing to do where it is not its turn: rules are added from the end of the text, where no atom stands; 0 marks are set or dropped.
 ghost use mathlib.Core.Path.{_≡_};
 ghost use Prim.Native.Nat.{_≤_};
-ghost use lib.ListN.{length};
-ghost use Rattle.meaning.specs.Bounds.{RULES};
 ghost use Rattle.meaning.specs.Tables.{rule-at};
-ghost use Rattle.lent.specs.Lent.{columns};
+ghost use Rattle.lent.specs.Lent.{columns, held-by};
 ghost use Rattle.lent.specs.Idle.{unwatched};
 ghost use Rattle.lent.specs.Promises.{Border};
 ghost use Rattle.chains.specs.Chains.{LentChains};
@@ -14,7 +12,7 @@ ghost use Rattle.names.specs.Names.{Shelved, Indexed, AllDifferent};
 ghost use Rattle.levels.specs.Levels.{KeptDays};
 ghost use Rattle.script_meaning.specs.Record.{step-in};
 ghost use Rattle.asserts.specs.Within.{Within};
-ghost use Rattle.script_moving.specs.Moving.{term-place, pushes, pops, Movable, Moves};
+ghost use Rattle.script_moving.specs.Moving.{term-place, pushes, pops, Movable, Moves, OrderKept};
 use form::Command;
 use meaning::Counts;
 
@@ -115,7 +113,7 @@ pub fn move_tables(
     ys: &mut [u16],
     cs: &mut [i32],
     days: &mut [u32],
-    marks: &mut [u32],
+    levels: &mut [u8],
     heads: &mut [u16],
     nexts: &mut [u16],
     kept: &mut [u32],
@@ -126,19 +124,19 @@ pub fn move_tables(
     requires { ⌜ Indexed n (now names) (now lens) (now hashes) (now «name_heads») (now «name_nexts») ⌝ }
     requires { ⌜ AllDifferent n (now names) (now lens) ⌝ }
     requires { ⌜ Movable c broken (now s) n (now names) (now lens) counts ⌝ }
-    requires { ⌜ Border (unwatched counts (now xs) (now ys) (now cs) (now days) (now marks)) ⌝ }
-    requires { ⌜ LentChains (counts .steps) (counts .rules) (now xs) (now heads) (now nexts) ⌝ }
-    requires { ⌜ RULES ≤ length (now nexts) ⌝ }
-    requires { ⌜ KeptDays (rule-at (columns (now xs) (now ys) (now cs))) (counts .steps) (counts .marks) (now marks) (now kept) ⌝ }
+    requires { ⌜ Border (unwatched counts (now xs) (now ys) (now cs) (now days) (now levels)) ⌝ }
+    requires { ⌜ LentChains (counts .steps) (held-by (now levels)) (now xs) (now heads) (now nexts) ⌝ }
+    requires { ⌜ KeptDays (rule-at (columns (now xs) (now ys) (now cs))) (counts .steps) (counts .marks) (now levels) (now kept) ⌝ }
+    requires { ⌜ OrderKept (counts .rules) (now levels) (now kept) ⌝ }
     requires { ⌜ n ≤ e ⌝ }
-    requires { ⌜ Within e counts (columns (now xs) (now ys) (now cs)) ⌝ }
+    requires { ⌜ Within e counts (now levels) (columns (now xs) (now ys) (now cs)) ⌝ }
     ensures { λ r. ⌜
         Moves c broken (now (s .entry)) (step-in n (now (names .entry)) (now (lens .entry)))
-        (unwatched counts (now (xs .entry)) (now (ys .entry)) (now (cs .entry)) (now (days .entry)) (now (marks .entry)))
+        (unwatched counts (now (xs .entry)) (now (ys .entry)) (now (cs .entry)) (now (days .entry)) (now (levels .entry)))
         (r .clash)
-        (unwatched (r .counts) (now (xs .exit)) (now (ys .exit)) (now (cs .exit)) (now (days .exit)) (now (marks .exit))) ⌝ }
-    ensures { λ r. ⌜ LentChains (r .counts .steps) (r .counts .rules) (now (xs .exit)) (now (heads .exit)) (now (nexts .exit)) ⌝ }
-    ensures { λ r. ⌜ KeptDays (rule-at (columns (now (xs .exit)) (now (ys .exit)) (now (cs .exit)))) (r .counts .steps) (r .counts .marks) (now (marks .exit)) (now (kept .exit)) ⌝ }
+        (unwatched (r .counts) (now (xs .exit)) (now (ys .exit)) (now (cs .exit)) (now (days .exit)) (now (levels .exit))) ⌝ }
+    ensures { λ r. ⌜ LentChains (r .counts .steps) (held-by (now (levels .exit))) (now (xs .exit)) (now (heads .exit)) (now (nexts .exit)) ⌝ }
+    ensures { λ r. ⌜ KeptDays (rule-at (columns (now (xs .exit)) (now (ys .exit)) (now (cs .exit)))) (r .counts .steps) (r .counts .marks) (now (levels .exit)) (now (kept .exit)) ⌝ }
 {
     let work = work_of(c, broken, s.len());
     let term = work.term;
@@ -157,23 +155,25 @@ pub fn move_tables(
         ys,
         cs,
         days,
+        levels,
         heads,
         nexts,
         e,
     );
     let grown = added.counts;
-    let pushed = levels::push(grown, days, marks, kept, work.push);
+    let pushed = levels::push(grown, days, kept, work.push);
     let popped = levels::pop(
         pushed,
         xs,
         ys,
         cs,
         days,
-        marks,
+        levels,
         heads,
         nexts,
         kept,
         work.pop,
+        0 < kept.len(),
     );
     asserts::Added {
         counts: popped,

@@ -42,8 +42,8 @@ maintained-out e d l o heads nexts kept hashes name-heads name-nexts more there 
     no-sat = m .sound .no-sat;
   };
   chained = m .chained;
-  nexts-room = m .nexts-room;
   days-kept = m .days-kept;
+  ordered = m .ordered;
   indexed = m .indexed;
   within = record {
     steps-there = there;

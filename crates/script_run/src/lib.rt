@@ -145,7 +145,7 @@ fn one(
     ys: &mut [u16],
     cs: &mut [i32],
     days: &mut [u32],
-    marks: &mut [u32],
+    levels: &mut [u8],
     heads: &mut [u16],
     nexts: &mut [u16],
     kept: &mut [u32],
@@ -158,9 +158,9 @@ fn one(
     to: usize,
 ) -> Step
     requires { ⌜ now tab ≡ TABLE ⌝ }
-    requires { ⌜ Maintained (notes .names) (in-hand counts (now xs) (now ys) (now cs) (now days) (now marks) notes (now names) (now lens) (now out)) (now heads) (now nexts) (now kept) (now hashes) (now «name_heads») (now «name_nexts») ⌝ }
-    ensures { λ r. ⌜ Steps (now (s .entry)) at (in-hand counts (now (xs .entry)) (now (ys .entry)) (now (cs .entry)) (now (days .entry)) (now (marks .entry)) notes (now (names .entry)) (now (lens .entry)) (now (out .entry))) to (r .number) (r .going) (r .paused) (r .at) (r .to) (in-hand (r .counts) (now (xs .exit)) (now (ys .exit)) (now (cs .exit)) (now (days .exit)) (now (marks .exit)) (r .notes) (now (names .exit)) (now (lens .exit)) (now (out .exit))) ⌝ }
-    ensures { λ r. ⌜ Maintained (r .notes .names) (in-hand (r .counts) (now (xs .exit)) (now (ys .exit)) (now (cs .exit)) (now (days .exit)) (now (marks .exit)) (r .notes) (now (names .exit)) (now (lens .exit)) (now (out .exit))) (now (heads .exit)) (now (nexts .exit)) (now (kept .exit)) (now (hashes .exit)) (now («name_heads» .exit)) (now («name_nexts» .exit)) ⌝ }
+    requires { ⌜ Maintained (notes .names) (in-hand counts (now xs) (now ys) (now cs) (now days) (now levels) notes (now names) (now lens) (now out)) (now heads) (now nexts) (now kept) (now hashes) (now «name_heads») (now «name_nexts») ⌝ }
+    ensures { λ r. ⌜ Steps (now (s .entry)) at (in-hand counts (now (xs .entry)) (now (ys .entry)) (now (cs .entry)) (now (days .entry)) (now (levels .entry)) notes (now (names .entry)) (now (lens .entry)) (now (out .entry))) to (r .number) (r .going) (r .paused) (r .at) (r .to) (in-hand (r .counts) (now (xs .exit)) (now (ys .exit)) (now (cs .exit)) (now (days .exit)) (now (levels .exit)) (r .notes) (now (names .exit)) (now (lens .exit)) (now (out .exit))) ⌝ }
+    ensures { λ r. ⌜ Maintained (r .notes .names) (in-hand (r .counts) (now (xs .exit)) (now (ys .exit)) (now (cs .exit)) (now (days .exit)) (now (levels .exit)) (r .notes) (now (names .exit)) (now (lens .exit)) (now (out .exit))) (now (heads .exit)) (now (nexts .exit)) (now (kept .exit)) (now (hashes .exit)) (now («name_heads» .exit)) (now («name_nexts» .exit)) ⌝ }
 {
     let b = begin(s, tab, at, out.len(), to);
     if !b.ready {
@@ -186,7 +186,7 @@ fn one(
         ys,
         cs,
         days,
-        marks,
+        levels,
         heads,
         nexts,
         kept,
@@ -225,7 +225,7 @@ pub fn advance(
     ys: &mut [u16],
     cs: &mut [i32],
     days: &mut [u32],
-    marks: &mut [u32],
+    levels: &mut [u8],
     heads: &mut [u16],
     nexts: &mut [u16],
     kept: &mut [u32],
@@ -237,9 +237,9 @@ pub fn advance(
     out: &mut [u8],
 ) -> Played
     requires { ⌜ now tab ≡ TABLE ⌝ }
-    requires { ⌜ Maintained (notes .names) (in-hand counts (now xs) (now ys) (now cs) (now days) (now marks) notes (now names) (now lens) (now out)) (now heads) (now nexts) (now kept) (now hashes) (now «name_heads») (now «name_nexts») ⌝ }
-    ensures { λ r. ⌜ Advances (now (s .entry)) start (in-hand counts (now (xs .entry)) (now (ys .entry)) (now (cs .entry)) (now (days .entry)) (now (marks .entry)) notes (now (names .entry)) (now (lens .entry)) (now (out .entry))) (r .number) (r .paused) (r .at) (r .written) (in-hand (r .counts) (now (xs .exit)) (now (ys .exit)) (now (cs .exit)) (now (days .exit)) (now (marks .exit)) (r .notes) (now (names .exit)) (now (lens .exit)) (now (out .exit))) ⌝ }
-    ensures { λ r. ⌜ Maintained (r .notes .names) (in-hand (r .counts) (now (xs .exit)) (now (ys .exit)) (now (cs .exit)) (now (days .exit)) (now (marks .exit)) (r .notes) (now (names .exit)) (now (lens .exit)) (now (out .exit))) (now (heads .exit)) (now (nexts .exit)) (now (kept .exit)) (now (hashes .exit)) (now («name_heads» .exit)) (now («name_nexts» .exit)) ⌝ }
+    requires { ⌜ Maintained (notes .names) (in-hand counts (now xs) (now ys) (now cs) (now days) (now levels) notes (now names) (now lens) (now out)) (now heads) (now nexts) (now kept) (now hashes) (now «name_heads») (now «name_nexts») ⌝ }
+    ensures { λ r. ⌜ Advances (now (s .entry)) start (in-hand counts (now (xs .entry)) (now (ys .entry)) (now (cs .entry)) (now (days .entry)) (now (levels .entry)) notes (now (names .entry)) (now (lens .entry)) (now (out .entry))) (r .number) (r .paused) (r .at) (r .written) (in-hand (r .counts) (now (xs .exit)) (now (ys .exit)) (now (cs .exit)) (now (days .exit)) (now (levels .exit)) (r .notes) (now (names .exit)) (now (lens .exit)) (now (out .exit))) ⌝ }
+    ensures { λ r. ⌜ Maintained (r .notes .names) (in-hand (r .counts) (now (xs .exit)) (now (ys .exit)) (now (cs .exit)) (now (days .exit)) (now (levels .exit)) (r .notes) (now (names .exit)) (now (lens .exit)) (now (out .exit))) (now (heads .exit)) (now (nexts .exit)) (now (kept .exit)) (now (hashes .exit)) (now («name_heads» .exit)) (now («name_nexts» .exit)) ⌝ }
 {
     let mut at = start;
     let mut to = 0;
@@ -256,7 +256,7 @@ pub fn advance(
             ys,
             cs,
             days,
-            marks,
+            levels,
             heads,
             nexts,
             kept,
@@ -298,9 +298,9 @@ fn play_fresh(s: &[u8], out: &mut [u8]) -> Ran
     let mut ys = [0u16; meaning::RULES];
     let mut cs = [0i32; meaning::RULES];
     let mut days = [0u32; meaning::STEPS];
-    let mut marks = [0u32; meaning::MARKS];
+    let mut levels = [0u8; meaning::RULES];
     let mut heads = [0u16; meaning::STEPS];
-    let mut nexts = [0u16; meaning::RULES];
+    let mut nexts = [chains::OFF; meaning::RULES];
     let mut kept = [0u32; levels::KEPT];
     let mut names = [0u8; names::SHELF];
     let mut lens = [0u8; meaning::STEPS];
@@ -317,7 +317,7 @@ fn play_fresh(s: &[u8], out: &mut [u8]) -> Ran
         &mut ys,
         &mut cs,
         &mut days,
-        &mut marks,
+        &mut levels,
         &mut heads,
         &mut nexts,
         &mut kept,

@@ -5,22 +5,22 @@ use mathlib.Core.Path.{_≡_, refl, sym, _∙_, subst}
 use mathlib.Core.List.{_∷_}
 use Rattle.meaning.specs.Rules.{Rule, InSteps}
 use Rattle.shortest.specs.Walks.{Least, part}
-use Rattle.shortest.specs.Layers.{Layer, Lowest}
+use Rattle.shortest.specs.Layers.{Deep, Layer, Lowest}
 use Rattle.shortest.specs.Contracts.{Joins}
 use Rattle.shortest.proofs.Picking.{goes-on, least-more, least-none}
 
-module _ (n : ℕ) (R : ℕ → Rule) (H : ℕ → Type 0) (w : ℕ → ℕ) (x t : ℕ) (in-steps : (i : ℕ) → H i → InSteps n (R i)) where
+module _ (n : ℕ) (R : ℕ → Rule) (H : ℕ → Type 0) (w : ℕ → ℕ) (x t : ℕ) (in-steps : (i : ℕ) → H i → InSteps n (R i)) (d : ℕ → ℕ) (g : ℕ) (deep : Deep R H w t d) where
   -- One rule: the lowest that fits.
   pub joins-one :
-      (lo hi : ℕ) (f : ℕ → ℕ) → Layer n R H w x t lo f → (v bound place i : ℕ) (list : ℕ → ℕ) → hi ≡ suc lo → bound ≤ t → Lowest R H w f v bound i → list place ≡ i →
+      (lo hi : ℕ) (f : ℕ → ℕ) → Layer n R H w d g x t lo f → (v bound place i : ℕ) (list : ℕ → ℕ) → hi ≡ suc lo → bound ≤ t → d v + suc lo ≤ g → Lowest R H w f v bound i → list place ≡ i →
       Joins R H w x lo hi v bound place list (R i .second) (bound - w i)
-  joins-one lo hi f layer v bound place i list one bound-in low there = record {
-    way = goes-on n R H w x t in-steps lo f layer v bound bound-in i (low .fits);
-    least = λ g same least.
-        subst (λ (k : ℕ). Least R H w x v k bound (part g place k)) (sym one)
-        (subst (λ (j : ℕ). Least R H w x v (suc lo) bound (j ∷ part g (suc place) lo)) (sym (same place (omega arith) (omega arith) ∙ there))
-        (least-more n R H w x t in-steps lo f layer v bound bound-in i low (part g (suc place) lo)
-        (subst (λ (j : ℕ). Least R H w x (R i .second) lo (bound - w i) (part g j lo)) next least)));
+  joins-one lo hi f layer v bound place i list one bound-in near low there = record {
+    way = goes-on n R H w x t in-steps d g deep lo f layer v bound bound-in near i (low .fits);
+    least = λ l same least.
+        subst (λ (k : ℕ). Least R H w x v k bound (part l place k)) (sym one)
+        (subst (λ (j : ℕ). Least R H w x v (suc lo) bound (j ∷ part l (suc place) lo)) (sym (same place (omega arith) (omega arith) ∙ there))
+        (least-more n R H w x t in-steps d g deep lo f layer v bound bound-in near i low (part l (suc place) lo)
+        (subst (λ (j : ℕ). Least R H w x (R i .second) lo (bound - w i) (part l j lo)) next least)));
   }
     where
       next : place + (hi - lo) ≡ suc place

@@ -1,7 +1,7 @@
 -- A layer is lowered, one step after the other, by the rules that lead to the step.
 use Prim.Native.Nat.{ℕ, suc, _+_, _≤_, _<_}
 use native.Mathlib.Omega.{arith}
-use native.Mathlib.Decide.{ℕ-discrete}
+use native.Mathlib.Decide.{ℕ-discrete, decLt}
 use mathlib.Core.Path.{_≡_, sym, _∙_, ap, subst}
 use mathlib.Core.List.{List}
 use mathlib.Core.Logic.{_⊎_, inl, inr}
@@ -12,17 +12,17 @@ use Rattle.meaning.specs.Tables.{at}
 use Rattle.chains.specs.Chains.{top}
 use Rattle.chains.proofs.Walk.{above-next}
 use Rattle.shortest.specs.Layers.{Fitting, Follows, Next}
-use Rattle.shortest.specs.Contracts.{rules, spares, from, Kept, Chained, Between, AllSet, Lowered, FollowedBy, Passed}
+use Rattle.shortest.specs.Contracts.{rules, spares, from, Kept, Chained, Skipped, Between, AllSet, LoweredNear, FollowedBy, Passed}
 use Rattle.shortest.proofs.Cells.{between-none, between-both}
 
-module _ (n : ℕ) (H : ℕ → Type 0) (xs ys : List ℕ) (cs : List ℤ) (days : List ℕ) (t : ℕ) where
-  -- The layer g follows f by the rules that P holds of.
+module _ (n : ℕ) (H : ℕ → Type 0) (xs ys : List ℕ) (cs : List ℤ) (days depths : List ℕ) (limit t : ℕ) where
+  -- The layer g follows f by the rules that P holds of, as far as the limit of depth.
   abbrev pub By : (ℕ → Type 0) → (ℕ → ℕ) → (ℕ → ℕ) → Type 0
-  By P f g = Follows P n (rules xs ys cs) H (spares xs ys cs days) t f g
+  By P f g = Follows (λ i. P i × (at depths (at xs i) ≤ limit)) n (rules xs ys cs) H (spares xs ys cs days) t f g
 
   -- It does by fewer rules too.
   pub by-fewer : (P Q : ℕ → Type 0) (f g : ℕ → ℕ) → ((i : ℕ) → H i → spares xs ys cs days i + f (at ys i) < t → Q i → P i) → By P f g → By Q f g
-  by-fewer P Q f g fewer b = record { comes = b .comes; lowered = λ i held q small. b .lowered i held (fewer i held small q) small }
+  by-fewer P Q f g fewer b = record { comes = b .comes; lowered = λ i held q small. b .lowered i held (fewer i held small (q .0), q .1) small }
 
   -- It follows whatever has the same values as f.
   pub by-same : Kept n H xs ys cs days → (P : ℕ → Type 0) (f f′ g : ℕ → ℕ) → ((v : ℕ) → v < n → f′ v ≡ f v) → By P f g → By P f′ g
@@ -40,11 +40,11 @@ module _ (n : ℕ) (H : ℕ → Type 0) (xs ys : List ℕ) (cs : List ℤ) (days
 
   -- Where no value is below t, no rule has lowered any yet.
   pub by-none : (f g : ℕ → ℕ) → ((v : ℕ) → v < n → g v ≡ t) → By (λ i. at ys i < 0) f g
-  by-none f g all = record { comes = λ v v-in small. absurd (omega (arith, all v v-in)); lowered = λ i held none. absurd (omega arith) }
+  by-none f g all = record { comes = λ v v-in small. absurd (omega (arith, all v v-in)); lowered = λ i held none. absurd (omega (arith, none .0)) }
 
   -- Once all steps are passed, all rules have.
-  pub by-all : Kept n H xs ys cs days → (f g : ℕ → ℕ) → By (λ i. at ys i < n) f g → Next n (rules xs ys cs) H (spares xs ys cs days) t f g
-  by-all kept f g b = record { comes = b .comes; lowered = λ i held every small. b .lowered i held (kept .in-steps i held .second-in) small }
+  pub by-all : Kept n H xs ys cs days → (f g : ℕ → ℕ) → By (λ i. at ys i < n) f g → Next n (rules xs ys cs) H (spares xs ys cs days) (at depths) limit t f g
+  by-all kept f g b = record { comes = b .comes; lowered = λ i held near small. b .lowered i held (kept .in-steps i held .second-in, near) small }
 
   -- A step for which f has no value below t is passed as it is.
   pub by-past : (u : ℕ) (f g : ℕ → ℕ) → t ≤ f u → By (λ i. at ys i < u) f g → By (λ i. at ys i < u + 1) f g
@@ -61,18 +61,30 @@ module _ (n : ℕ) (H : ℕ → Type 0) (xs ys : List ℕ) (cs : List ℤ) (days
   -- One value is lowered by a rule.
   pub by-more :
       Kept n H xs ys cs days → (P Q : ℕ → Type 0) (f : ℕ → ℕ) (b i : ℕ) (cells cells′ : List ℕ) → H i → b + n ≤ length cells →
-      Lowered (b + at xs i) (spares xs ys cs days i + f (at ys i)) cells cells′ → ((j : ℕ) → H j → Q j → (j ≡ i) ⊎ P j) →
+      LoweredNear (at depths (at xs i)) limit (b + at xs i) (spares xs ys cs days i + f (at ys i)) cells cells′ → ((j : ℕ) → H j → Q j → (j ≡ i) ⊎ P j) →
       By P f (from b cells) → By Q f (from b cells′)
-  by-more kept P Q f b i cells cells′ held room (inr (enough, same)) or by =
+  by-more kept P Q f b i cells cells′ held room (inl (far, same)) or by =
       subst (λ (l : List ℕ). By Q f (from b l)) (sym same)
-      (record { comes = by .comes; lowered = λ j h q small. tell j h small (or j h q) })
+      (record { comes = by .comes; lowered = λ j h q small. tell j h (q .1) small (or j h (q .0)) })
     where
-      tell : (j : ℕ) → H j → spares xs ys cs days j + f (at ys j) < t → (j ≡ i) ⊎ P j → from b cells (at xs j) ≤ spares xs ys cs days j + f (at ys j)
-      tell j h small (inl e) = subst (λ (k : ℕ). from b cells (at xs k) ≤ spares xs ys cs days k + f (at ys k)) (sym e) enough
-      tell j h small (inr p) = by .lowered j h p small
-  by-more kept P Q f b i cells cells′ held room (inl (less, is)) or by =
+      tell :
+          (j : ℕ) → H j → at depths (at xs j) ≤ limit → spares xs ys cs days j + f (at ys j) < t → (j ≡ i) ⊎ P j → from b cells (at xs j) ≤ spares xs ys cs days j + f (at ys j)
+      tell j h near small (inl e) = absurd (omega (arith, near, far, ap (λ (k : ℕ). at depths (at xs k)) e))
+      tell j h near small (inr p) = by .lowered j h (p, near) small
+  by-more kept P Q f b i cells cells′ held room (inr (inr (enough, same))) or by =
+      subst (λ (l : List ℕ). By Q f (from b l)) (sym same)
+      (record { comes = by .comes; lowered = λ j h q small. tell j h (q .1) small (or j h (q .0)) })
+    where
+      tell :
+          (j : ℕ) → H j → at depths (at xs j) ≤ limit → spares xs ys cs days j + f (at ys j) < t → (j ≡ i) ⊎ P j → from b cells (at xs j) ≤ spares xs ys cs days j + f (at ys j)
+      tell j h near small (inl e) = subst (λ (k : ℕ). from b cells (at xs k) ≤ spares xs ys cs days k + f (at ys k)) (sym e) enough
+      tell j h near small (inr p) = by .lowered j h (p, near) small
+  by-more kept P Q f b i cells cells′ held room (inr (inl (less, is))) or by =
       subst (λ (l : List ℕ). By Q f (from b l)) (sym is)
-      (record { comes = λ v v-in small. comes v v-in small (ℕ-discrete v (at xs i)); lowered = λ j h q small. lowered j h small (or j h q) (ℕ-discrete (at xs j) (at xs i)) })
+      (record {
+        comes = λ v v-in small. comes v v-in small (ℕ-discrete v (at xs i));
+        lowered = λ j h q small. lowered j h (q .1) small (or j h (q .0)) (ℕ-discrete (at xs j) (at xs i));
+      })
     where
       sum : ℕ
       sum = spares xs ys cs days i + f (at ys i)
@@ -92,16 +104,19 @@ module _ (n : ℕ) (H : ℕ → Type 0) (xs ys : List ℕ) (cs : List ℤ) (days
           subst (λ (k : ℕ). (j : ℕ) × Fitting (rules xs ys cs) H (spares xs ys cs days) f v (suc k) j) (sym (elsewhere v other))
           (by .comes v v-in (omega (arith, elsewhere v other)))
 
-      lowered : (j : ℕ) → H j → spares xs ys cs days j + f (at ys j) < t → (j ≡ i) ⊎ P j → Dec (at xs j ≡ at xs i) → g (at xs j) ≤ spares xs ys cs days j + f (at ys j)
-      lowered j h small (inl e) own = subst (λ (k : ℕ). g (at xs k) ≤ spares xs ys cs days k + f (at ys k)) (sym e) (omega (arith, there))
-      lowered j h small (inr p) (yes e) = omega (arith, ap g e, there, less, ap (from b cells) e, by .lowered j h p small)
-      lowered j h small (inr p) (no other) = omega (arith, elsewhere (at xs j) other, by .lowered j h p small)
+      lowered :
+          (j : ℕ) → H j → at depths (at xs j) ≤ limit → spares xs ys cs days j + f (at ys j) < t → (j ≡ i) ⊎ P j → Dec (at xs j ≡ at xs i) →
+          g (at xs j) ≤ spares xs ys cs days j + f (at ys j)
+      lowered j h near small (inl e) own = subst (λ (k : ℕ). g (at xs k) ≤ spares xs ys cs days k + f (at ys k)) (sym e) (omega (arith, there))
+      lowered j h near small (inr p) (yes e) = omega (arith, ap g e, there, less, ap (from b cells) e, by .lowered j h (p, near) small)
+      lowered j h near small (inr p) (no other) = omega (arith, elsewhere (at xs j) other, by .lowered j h (p, near) small)
 
   -- A cell of the layer from place b on is lowered, and no other.
   lowered-between :
-      Kept n H xs ys cs days → (b i sum : ℕ) (cells cells′ : List ℕ) → H i → Lowered (b + at xs i) sum cells cells′ → Between b (b + n) cells cells′
-  lowered-between kept b i sum cells cells′ held (inr (enough, same)) j outside = ap (λ (l : List ℕ). at l j) same
-  lowered-between kept b i sum cells cells′ held (inl (less, is)) j outside =
+      Kept n H xs ys cs days → (b i sum : ℕ) (cells cells′ : List ℕ) → H i → LoweredNear (at depths (at xs i)) limit (b + at xs i) sum cells cells′ → Between b (b + n) cells cells′
+  lowered-between kept b i sum cells cells′ held (inl (far, same)) j outside = ap (λ (l : List ℕ). at l j) same
+  lowered-between kept b i sum cells cells′ held (inr (inr (enough, same))) j outside = ap (λ (l : List ℕ). at l j) same
+  lowered-between kept b i sum cells cells′ held (inr (inl (less, is))) j outside =
       ap (λ (l : List ℕ). at l j) is ∙ getD-set-other cells (b + at xs i) j sum 0 (λ e. apart e outside)
     where
       apart : j ≡ b + at xs i → (j < b) ⊎ (b + n ≤ j) → ⊥
@@ -123,7 +138,7 @@ module _ (n : ℕ) (H : ℕ → Type 0) (xs ys : List ℕ) (cs : List ℤ) (days
   lowering-none a b before cells all = record { follows = by-none (from a cells) (from b cells) (all .each); others = between-none b (b + n) cells }
 
   pub lowering-more :
-      Kept n H xs ys cs days → (u a b : ℕ) (before cells cells′ : List ℕ) → a + n ≤ b → Lowering u a b before cells → Passed n H xs ys cs days t u a b cells cells′ →
+      Kept n H xs ys cs days → (u a b : ℕ) (before cells cells′ : List ℕ) → a + n ≤ b → Lowering u a b before cells → Passed n H xs ys cs days depths limit t u a b cells cells′ →
       Lowering (u + 1) a b before cells′
   lowering-more kept u a b before cells cells′ apart low passed = record {
     follows = by-same kept (λ i. at ys i < u + 1) (from a cells) (from a before) (from b cells′) (λ v v-in. sym (as-before v v-in))
@@ -134,16 +149,29 @@ module _ (n : ℕ) (H : ℕ → Type 0) (xs ys : List ℕ) (cs : List ℤ) (days
       as-before : (v : ℕ) → v < n → from a cells v ≡ from a before v
       as-before v v-in = low .others (a + v) (inl (omega arith))
 
+  -- Steps for which the layer from place a on has nothing below t are passed as they are.
+  pub lowering-skipped :
+      Kept n H xs ys cs days → (u r a b : ℕ) (before cells : List ℕ) → a + n ≤ b → Skipped (λ v. from a cells v < t) n u r → Lowering u a b before cells → Lowering r a b before cells
+  lowering-skipped kept u r a b before cells apart skipped low = record {
+    follows = by-fewer (λ i. at ys i < u) (λ i. at ys i < r) (from a before) (from b cells) (λ i held small q. lower i held small q (decLt (at ys i) u)) (low .follows);
+    others = low .others;
+  }
+    where
+      lower : (i : ℕ) → H i → spares xs ys cs days i + from a before (at ys i) < t → at ys i < r → Dec (at ys i < u) → at ys i < u
+      lower i held small q (yes is) = is
+      lower i held small q (no not-lower) =
+          absurd (skipped .none (at ys i) (omega (arith, not-lower)) q (omega (arith, small, low .others (a + at ys i) (inl (omega (arith, kept .in-steps i held .second-in))))))
+
   pub lowering-all :
       Kept n H xs ys cs days → (a b : ℕ) (before cells after : List ℕ) → a + n ≤ b → AllSet n b t before cells → Lowering n a b cells after →
-      FollowedBy n H xs ys cs days t a b before after
+      FollowedBy n H xs ys cs days depths limit t a b before after
   lowering-all kept a b before cells after apart all low = record {
     follows = by-all kept (from a before) (from b after)
         (by-same kept (λ i. at ys i < n) (from a cells) (from a before) (from b after) (λ v v-in. sym (all .others (a + v) (inl (omega arith)))) (low .follows));
     others = between-both b (b + n) before cells after (all .others) (low .others);
   }
 
-  module _ (order : ℕ → ℕ) (heads nexts : List ℕ) (ground : Chained n H order xs ys cs days heads nexts) (u : ℕ) (f : ℕ → ℕ) where
+  module _ (order : ℕ → ℕ) (heads nexts : List ℕ) (ground : Chained n H order xs ys cs days heads nexts depths t) (u : ℕ) (f : ℕ → ℕ) where
     -- Before the chain of u is walked, no rule of it ranks at or above its head.
     pub by-head : (g : ℕ → ℕ) → u < n → By (λ i. at ys i < u) f g → By (Above order u (at heads u)) f g
     by-head g u-in = by-fewer (λ i. at ys i < u) (Above order u (at heads u)) f g (λ i held small q. before i held q)
@@ -154,11 +182,11 @@ module _ (n : ℕ) (H : ℕ → Type 0) (xs ys : List ℕ) (cs : List ℤ) (days
 
     -- One rule of the chain more.
     pub by-link :
-        (b i : ℕ) (cells cells′ : List ℕ) → H i → at ys i ≡ u → b + n ≤ length cells → Lowered (b + at xs i) (spares xs ys cs days i + f u) cells cells′ →
+        (b i : ℕ) (cells cells′ : List ℕ) → H i → at ys i ≡ u → b + n ≤ length cells → LoweredNear (at depths (at xs i)) limit (b + at xs i) (spares xs ys cs days i + f u) cells cells′ →
         By (Above order u (suc i)) f (from b cells) → By (Above order u (at nexts i)) f (from b cells′)
     by-link b i cells cells′ held own room lowered =
         by-more (ground .kept) (Above order u (suc i)) (Above order u (at nexts i)) f b i cells cells′ held room
-        (subst (λ (s : ℕ). Lowered (b + at xs i) (spares xs ys cs days i + f s) cells cells′) (sym own) lowered)
+        (subst (λ (s : ℕ). LoweredNear (at depths (at xs i)) limit (b + at xs i) (spares xs ys cs days i + f s) cells cells′) (sym own) lowered)
         (λ j h q. or j h q (ℕ-discrete j i))
       where
         or : (j : ℕ) → H j → Above order u (at nexts i) j → Dec (j ≡ i) → (j ≡ i) ⊎ Above order u (suc i) j
@@ -180,7 +208,7 @@ module _ (n : ℕ) (H : ℕ → Type 0) (xs ys : List ℕ) (cs : List ℤ) (days
     walked-none b before u-in = record { follows = by-head (from b before) u-in; others = between-none b (b + n) before }
 
     pub walked-more :
-        (b i : ℕ) (before cells cells′ : List ℕ) → H i → at ys i ≡ u → b + n ≤ length cells → Lowered (b + at xs i) (spares xs ys cs days i + f u) cells cells′ →
+        (b i : ℕ) (before cells cells′ : List ℕ) → H i → at ys i ≡ u → b + n ≤ length cells → LoweredNear (at depths (at xs i)) limit (b + at xs i) (spares xs ys cs days i + f u) cells cells′ →
         Walked u (Above order u (suc i)) f b before cells → Walked u (Above order u (at nexts i)) f b before cells′
     walked-more b i before cells cells′ held own room lowered walked = record {
       follows = λ by. by-link b i cells cells′ held own room lowered (walked .follows by);

@@ -1,12 +1,12 @@
 -- Layers are made one from the other: layer 0 knows the empty way alone, and what follows layer h is layer h + 1.
-use Prim.Native.Nat.{ℕ, suc, _-_, _≤_, _<_}
+use Prim.Native.Nat.{ℕ, suc, _+_, _-_, _≤_, _<_}
 use native.Mathlib.Omega.{arith}
 use native.Mathlib.Decide.{ℕ-discrete}
 use mathlib.Core.Path.{_≡_, refl, sym, ap, subst}
 use mathlib.Core.List.{List, [], _∷_}
 use Rattle.meaning.specs.Rules.{Rule, InSteps}
 use Rattle.shortest.specs.Walks.{spent, Way, Open}
-use Rattle.shortest.specs.Layers.{Layer, Begun, Next}
+use Rattle.shortest.specs.Layers.{Deep, Layer, Begun, Next}
 
 module _ (R : ℕ → Rule) (H : ℕ → Type 0) (w : ℕ → ℕ) (x : ℕ) where
   -- The empty way, from x.
@@ -49,12 +49,12 @@ module _ (R : ℕ → Rule) (H : ℕ → Type 0) (w : ℕ → ℕ) (x : ℕ) whe
   none-there v bound [] way = (way .leads, refl)
   none-there v bound (i ∷ l) way = absurd (omega (arith, way .long))
 
-  module _ (n t : ℕ) (in-steps : (i : ℕ) → H i → InSteps n (R i)) where
+  module _ (n t : ℕ) (in-steps : (i : ℕ) → H i → InSteps n (R i)) (d : ℕ → ℕ) (g : ℕ) where
     -- Layer 0.
-    pub layer-none : (f : ℕ → ℕ) → Begun n x t f → Layer n R H w x t 0 f
+    pub layer-none : (f : ℕ → ℕ) → Begun n x t f → Layer n R H w d g x t 0 f
     layer-none f b = record {
       reached = λ v v-in small. ([], way-none v (suc (f v)) (at-x v v-in small (ℕ-discrete v x)) (omega arith));
-      least = λ v v-in l way. omega (arith, ap f (none-there v t l way .0), b .here);
+      least = λ v v-in near l way. omega (arith, ap f (none-there v t l way .0), b .here);
     }
       where
         at-x : (v : ℕ) → v < n → f v < t → Dec (v ≡ x) → v ≡ x
@@ -62,37 +62,39 @@ module _ (R : ℕ → Rule) (H : ℕ → Type 0) (w : ℕ → ℕ) (x : ℕ) whe
         at-x v v-in small (no other) = absurd (omega (arith, b .elsewhere v v-in other))
 
     -- What has the same values is the same layer.
-    pub layer-same : (h : ℕ) (f g : ℕ → ℕ) → ((v : ℕ) → v < n → g v ≡ f v) → Layer n R H w x t h f → Layer n R H w x t h g
-    layer-same h f g same layer = record {
+    pub layer-same : (h : ℕ) (f f′ : ℕ → ℕ) → ((v : ℕ) → v < n → f′ v ≡ f v) → Layer n R H w d g x t h f → Layer n R H w d g x t h f′
+    layer-same h f f′ same layer = record {
       reached = λ v v-in small. subst (λ (s : ℕ). Open R H w x v h (suc s)) (sym (same v v-in)) (layer .reached v v-in (omega (arith, same v v-in)));
-      least = λ v v-in l way. omega (arith, same v v-in, layer .least v v-in l way);
+      least = λ v v-in near l way. omega (arith, same v v-in, layer .least v v-in near l way);
     }
 
-    -- What follows layer h is layer h + 1.
-    pub layer-next : (h : ℕ) (f g : ℕ → ℕ) → Layer n R H w x t h f → Next n R H w t f g → Layer n R H w x t (suc h) g
-    layer-next h f g layer next = record { reached = reached; least = least }
+    -- What follows layer h is layer h + 1, where the limit leaves as many rules.
+    pub layer-next :
+        Deep R H w t d → (h limit : ℕ) (f f′ : ℕ → ℕ) → g ≤ limit + suc h → Layer n R H w d g x t h f → Next n R H w d limit t f f′ → Layer n R H w d g x t (suc h) f′
+    layer-next deep h limit f f′ enough layer next = record { reached = reached; least = least }
       where
-        reached : (v : ℕ) → v < n → g v < t → Open R H w x v (suc h) (suc (g v))
+        reached : (v : ℕ) → v < n → f′ v < t → Open R H w x v (suc h) (suc (f′ v))
         reached v v-in small =
             let (i, fit) = next .comes v v-in small in
             let (l, way) = layer .reached (R i .second) (in-steps i (fit .held) .second-in) (omega (arith, fit .below)) in (
               i ∷ l,
-              subst (λ (u : ℕ). Way R H w x u (suc h) (suc (g v)) (i ∷ l)) (fit .own)
-                  (way-more h (suc (g v)) i l (fit .held) (omega (arith, fit .below))
-                  (way-wider (R i .second) h (suc (f (R i .second))) (suc (g v) - w i) l (omega (arith, fit .below)) way)),
+              subst (λ (u : ℕ). Way R H w x u (suc h) (suc (f′ v)) (i ∷ l)) (fit .own)
+                  (way-more h (suc (f′ v)) i l (fit .held) (omega (arith, fit .below))
+                  (way-wider (R i .second) h (suc (f (R i .second))) (suc (f′ v) - w i) l (omega (arith, fit .below)) way)),
             )
 
-        least : (v : ℕ) → v < n → (o : List ℕ) → Way R H w x v (suc h) t o → g v ≤ spent w o
-        least v v-in o way =
+        least : (v : ℕ) → v < n → d v + suc h ≤ g → (o : List ℕ) → Way R H w x v (suc h) t o → f′ v ≤ spent w o
+        least v v-in near o way =
             let s : Split v h t o = split v h t o way in
             let i : ℕ = s .rule in
+            let at-first : d (R i .first) ≡ d v = ap d (s .own) in
             let rest-least : f (R i .second) ≤ spent w (s .rest) =
-            layer .least (R i .second) (in-steps i (s .held) .second-in) (s .rest) (way-wider (R i .second) h (t - w i) t (s .rest) (omega arith) (s .way)) in
+            layer .least (R i .second) (in-steps i (s .held) .second-in) (omega (arith, near, at-first, deep i (s .held) (s .small))) (s .rest) (way-wider (R i .second) h (t - w i) t (s .rest) (omega arith) (s .way)) in
             omega (
               arith,
-              ap g (s .own),
+              ap f′ (s .own),
               ap (spent w) (s .is),
               rest-least,
               s .way .below,
-              next .lowered i (s .held) tt (omega (arith, rest-least, s .way .below)),
+              next .lowered i (s .held) (omega (arith, near, at-first, enough)) (omega (arith, rest-least, s .way .below)),
             )

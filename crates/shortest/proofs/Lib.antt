@@ -2,6 +2,8 @@
 pub mod Layers
 pub mod Picking
 pub mod Following
+pub mod Grouping
+pub mod Deepening
 pub mod Advancing
 pub mod Descending
 pub mod Finishing

@@ -1,16 +1,16 @@
 -- The lowest rule that fits is the first of the least way.
-use Prim.Native.Nat.{ℕ, suc, _-_, _≤_}
+use Prim.Native.Nat.{ℕ, suc, _+_, _-_, _≤_}
 use native.Mathlib.Omega.{arith}
 use native.Mathlib.Decide.{ℕ-discrete}
-use mathlib.Core.Path.{_≡_, sym, subst}
+use mathlib.Core.Path.{_≡_, sym, ap, subst}
 use mathlib.Core.List.{List, [], _∷_}
 use mathlib.Core.Logic.{_⊎_, inl, inr}
 use Rattle.meaning.specs.Rules.{Rule, InSteps, Before}
 use Rattle.shortest.specs.Walks.{Way, Least, Open}
-use Rattle.shortest.specs.Layers.{Layer, Fitting, Lowest}
+use Rattle.shortest.specs.Layers.{Deep, Layer, Fitting, Lowest}
 use Rattle.shortest.proofs.Layers.{way-none, way-more, way-wider, Split, split, none-there}
 
-module _ (n : ℕ) (R : ℕ → Rule) (H : ℕ → Type 0) (w : ℕ → ℕ) (x t : ℕ) (in-steps : (i : ℕ) → H i → InSteps n (R i)) (h : ℕ) (f : ℕ → ℕ) (layer : Layer n R H w x t h f) (v bound : ℕ) (bound-in : bound ≤ t) where
+module _ (n : ℕ) (R : ℕ → Rule) (H : ℕ → Type 0) (w : ℕ → ℕ) (x t : ℕ) (in-steps : (i : ℕ) → H i → InSteps n (R i)) (d : ℕ → ℕ) (g : ℕ) (deep : Deep R H w t d) (h : ℕ) (f : ℕ → ℕ) (layer : Layer n R H w d g x t h f) (v bound : ℕ) (bound-in : bound ≤ t) (near : d v + suc h ≤ g) where
   -- The first rule of a way fits.
   pub first-fits : (o : List ℕ) (s : Split R H w x v h bound o) → Fitting R H w f v bound (s .rule)
   first-fits o s = record {
@@ -20,7 +20,8 @@ module _ (n : ℕ) (R : ℕ → Rule) (H : ℕ → Type 0) (w : ℕ → ℕ) (x 
       arith,
       s .small,
       s .way .below,
-      layer .least (R (s .rule) .second) (in-steps (s .rule) (s .held) .second-in) (s .rest)
+      layer .least (R (s .rule) .second) (in-steps (s .rule) (s .held) .second-in)
+          (omega (arith, near, ap d (s .own), deep (s .rule) (s .held) (omega (arith, s .small)))) (s .rest)
           (way-wider R H w x (R (s .rule) .second) h (bound - w (s .rule)) t (s .rest) (omega arith) (s .way)),
     );
   }

@@ -1,19 +1,20 @@
 -- What a rule has to spare, as the machine reckons it, and the cell that it lowers.
-use Prim.Native.Nat.{ℕ, _+_, _-_, _≤_, _<_}
+use Prim.Native.Nat.{ℕ, zero, suc, _+_, _-_, _≤_, _<_}
 use native.Mathlib.Omega.{arith}
 use native.Mathlib.Decide.{ℕ-discrete, decLt}
 use mathlib.Core.Path.{_≡_, refl, subst}
 use mathlib.Core.List.{List}
 use mathlib.Core.Bool.{Bool, true, false}
 use mathlib.Core.Logic.{inl, inr}
-use lib.ListN.{getD, set}
+use lib.ListN.{length, getD, set}
 use lib.IntN.{ℤ, pos}
+use Rattle.meaning.specs.Bounds.{RULES}
 use Rattle.meaning.specs.Tables.{at}
 use Rattle.meaning.proofs.Whole.{plan→}
-use Rattle.lent.specs.Decides.{Decides, decides-no}
-use Rattle.lent.specs.Lent.{KeptAt, Biased, Dated, BIAS, first}
+use Rattle.lent.specs.Decides.{Decides, decides-no, decides-same}
+use Rattle.lent.specs.Lent.{KeptAt, Biased, Dated, BIAS}
 use Rattle.shortest.specs.Layers.{Fitting, Lowest}
-use Rattle.shortest.specs.Contracts.{rules, spares, from, Kept, Lowered, SpareIs, FitsHere, Pickable}
+use Rattle.shortest.specs.Contracts.{rules, spares, from, Kept, Lowered, SpareIs, Skipped, FitsHere, Pickable}
 
 -- The day of the first step is within the rule's limit.
 pub day-within :
@@ -65,52 +66,61 @@ fits-test xs ys cs days v bound f i s r own s-is r-is b below past = record {
 
 -- ---- the lowest that fits
 
--- No rule below i fits.
-abbrev pub NonePassed : ℕ → List ℕ → List ℕ → List ℤ → List ℕ → ℕ → ℕ → (ℕ → ℕ) → ℕ → Type 0
-NonePassed m xs ys cs days v bound f i = (j : ℕ) → j < i → FitsHere xs ys cs days v bound f j → ⊥
+-- What fits and is held is so of the rules held.
+pub fits-held :
+    (H : ℕ → Type 0) (xs ys : List ℕ) (cs : List ℤ) (days : List ℕ) (v bound : ℕ) (f : ℕ → ℕ) (i : ℕ) → H i → (b : Bool) → Decides b (FitsHere xs ys cs days v bound f i) →
+    Decides b (Fitting (rules xs ys cs) H (spares xs ys cs days) f v bound i)
+fits-held H xs ys cs days v bound f i held b =
+    decides-same (λ fit. record { held = held; own = fit .own; below = fit .below }) (λ fit. record { held = tt; own = fit .own; below = fit .below })
 
-module _ (m : ℕ) (xs ys : List ℕ) (cs : List ℤ) (days : List ℕ) (v bound : ℕ) (f : ℕ → ℕ) where
+-- No rule held below i fits.
+abbrev pub NonePassed : (ℕ → Type 0) → List ℕ → List ℕ → List ℤ → List ℕ → ℕ → ℕ → (ℕ → ℕ) → ℕ → Type 0
+NonePassed H xs ys cs days v bound f i = (j : ℕ) → j < i → Fitting (rules xs ys cs) H (spares xs ys cs days) f v bound j → ⊥
+
+module _ (H : ℕ → Type 0) (xs ys : List ℕ) (cs : List ℤ) (days : List ℕ) (v bound : ℕ) (f : ℕ → ℕ) where
   -- Before the first rule.
-  pub passed-none : NonePassed m xs ys cs days v bound f 0
+  pub passed-none : NonePassed H xs ys cs days v bound f 0
   passed-none j below = absurd (omega arith)
 
   -- One rule more that does not fit.
-  pub passed-more : (i : ℕ) → (FitsHere xs ys cs days v bound f i → ⊥) → NonePassed m xs ys cs days v bound f i → NonePassed m xs ys cs days v bound f (i + 1)
+  pub passed-more :
+      (i : ℕ) → (Fitting (rules xs ys cs) H (spares xs ys cs days) f v bound i → ⊥) → NonePassed H xs ys cs days v bound f i → NonePassed H xs ys cs days v bound f (i + 1)
   passed-more i not-here none j below = by-place (ℕ-discrete j i)
     where
-      by-place : Dec (j ≡ i) → FitsHere xs ys cs days v bound f j → ⊥
-      by-place (yes e) fit = not-here (subst (FitsHere xs ys cs days v bound f) e fit)
+      by-place : Dec (j ≡ i) → Fitting (rules xs ys cs) H (spares xs ys cs days) f v bound j → ⊥
+      by-place (yes e) fit = not-here (subst (Fitting (rules xs ys cs) H (spares xs ys cs days) f v bound) e fit)
       by-place (no other) fit = none j (omega arith) fit
 
-  -- A rule held that fits fits.
-  here : (H : ℕ → Type 0) (j : ℕ) → Fitting (rules xs ys cs) H (spares xs ys cs days) f v bound j → FitsHere xs ys cs days v bound f j
-  here H j fit = record { held = tt; own = fit .own; below = fit .below }
-
-  -- The first that fits is the lowest.
-  pub passed-lowest :
-      (i : ℕ) → i < m → FitsHere xs ys cs days v bound f i → NonePassed m xs ys cs days v bound f i →
-      Lowest (rules xs ys cs) (first m) (spares xs ys cs days) f v bound i
-  passed-lowest i i-in fit none = record {
-    fits = record { held = i-in; own = fit .own; below = fit .below };
-    lowest = λ j other. no-lower j other (decLt j i);
-  }
+  -- Rules of other steps that are skipped.
+  pub passed-skipped : (m i r : ℕ) → Skipped (λ k. at xs k ≡ v) m i r → NonePassed H xs ys cs days v bound f i → NonePassed H xs ys cs days v bound f r
+  passed-skipped m i r skipped none j below = by-place (decLt j i)
     where
-      no-lower : (j : ℕ) → Fitting (rules xs ys cs) (first m) (spares xs ys cs days) f v bound j → Dec (j < i) → i ≤ j
-      no-lower j other (yes below) = absurd (none j below (here (first m) j other))
-      no-lower j other (no not-below) = omega (arith, not-below)
+      by-place : Dec (j < i) → Fitting (rules xs ys cs) H (spares xs ys cs days) f v bound j → ⊥
+      by-place (yes lower) fit = none j lower fit
+      by-place (no not-lower) fit = skipped .none j (omega (arith, not-lower)) below (fit .own)
 
   -- A rule that fits is not below i.
-  pub to-come : (i j : ℕ) → Fitting (rules xs ys cs) (first m) (spares xs ys cs days) f v bound j → NonePassed m xs ys cs days v bound f i → i ≤ j
+  pub to-come : (i j : ℕ) → Fitting (rules xs ys cs) H (spares xs ys cs days) f v bound j → NonePassed H xs ys cs days v bound f i → i ≤ j
   to-come i j fit none = by-place (decLt j i)
     where
       by-place : Dec (j < i) → i ≤ j
-      by-place (yes below) = absurd (none j below (here (first m) j fit))
+      by-place (yes below) = absurd (none j below fit)
       by-place (no not-below) = omega (arith, not-below)
 
--- So while none has come, rules are left.
-pub still-to-come :
-    (n m : ℕ) (xs ys : List ℕ) (cs : List ℤ) (days : List ℕ) (v bound a : ℕ) (cells : List ℕ) → Pickable n (first m) xs ys cs days v bound a cells → (i : ℕ) →
-    NonePassed m xs ys cs days v bound (from a cells) i → i < m
-still-to-come n m xs ys cs days v bound a cells pickable i none =
-    let (j, fit) = pickable .some in
-    omega (arith, fit .held, to-come m xs ys cs days v bound (from a cells) i j fit none)
+  -- The first that fits is the lowest.
+  pub passed-lowest :
+      (i : ℕ) → Fitting (rules xs ys cs) H (spares xs ys cs days) f v bound i → NonePassed H xs ys cs days v bound f i → Lowest (rules xs ys cs) H (spares xs ys cs days) f v bound i
+  passed-lowest i fit none = record { fits = fit; lowest = λ j other. to-come i j other none }
+
+module _ (n : ℕ) (H : ℕ → Type 0) (xs ys : List ℕ) (cs : List ℤ) (days : List ℕ) (v bound a : ℕ) (cells : List ℕ) (pickable : Pickable n H xs ys cs days v bound a cells) where
+  -- The step is one of the steps.
+  pub picked-in : v < n
+  picked-in =
+      let (i, fit) = pickable .some in
+      omega (arith, pickable .kept .in-steps i (fit .held) .first-in, fit .own)
+
+  -- So while none has come, places are left.
+  pub still-to-come : (i : ℕ) → NonePassed H xs ys cs days v bound (from a cells) i → i < RULES
+  still-to-come i none =
+      let (j, fit) = pickable .some in
+      omega (arith, pickable .kept .number-in j (fit .held), to-come H xs ys cs days v bound (from a cells) i j fit none)

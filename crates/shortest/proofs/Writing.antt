@@ -11,11 +11,12 @@ use Rattle.meaning.specs.Bounds.{STEPS}
 use Rattle.meaning.specs.Tables.{at}
 use Rattle.meaning.specs.Rules.{rule, Reason}
 use Rattle.meaning.specs.Reckoning.{up, dn}
-use Rattle.lent.specs.Lent.{first, Biased, BIAS}
-use Rattle.chains.specs.Chains.{number, ChainsOf, Buildable}
+use Rattle.lent.specs.Lent.{Biased, BIAS}
+use Rattle.chains.specs.Chains.{ChainsOf, number, linked, ChainsNow, Turnable}
+use Rattle.chains.proofs.Held.{refutes-same, filled-same}
 use Rattle.shortest.specs.Walks.{Open, Least, part}
 use Rattle.shortest.specs.Layers.{Begun}
-use Rattle.shortest.specs.Contracts.{LAYERS, rules, spares, from, Chained, Descendable, Descended, Seekable, Fewest, Refuted, ReasonIn}
+use Rattle.shortest.specs.Contracts.{LAYERS, cap-of, rules, spares, from, Leading, Chained, Deepened, Descendable, Descended, Seekable, Fewest, Refuted, ReasonIn}
 use Rattle.shortest.proofs.Cells.{from-first}
 use Rattle.shortest.proofs.Layers.{layer-none, layer-same}
 use Rattle.shortest.proofs.Picking.{least-none}
@@ -54,8 +55,9 @@ module _ (n : ℕ) (H : ℕ → Type 0) (k : ℕ) (xs ys : List ℕ) (cs : List 
   short-is dx dy b dx-is dy-is biased = (omega (arith, lacks, biased .is), omega (arith, lacks, biased .is))
 
   -- A way can be looked for.
-  pub seekable : (t : ℕ) (cells : List ℕ) → t ≡ short → 2 * STEPS ≤ length cells → Seekable n H xs ys cs days t x y cells
-  seekable t cells is room = record {
+  pub seekable : (t : ℕ) (depths cells : List ℕ) → t ≡ short → at depths y ≡ 0 → 2 * STEPS ≤ length cells → Seekable n H xs ys cs days depths t x y cells
+  seekable t depths cells is begins room = record {
+    begins = begins;
     first-in = refuted .first-in;
     second-in = refuted .second-in;
     narrow = omega (arith, is, refuted .small);
@@ -71,20 +73,22 @@ module _ (n : ℕ) (H : ℕ → Type 0) (k : ℕ) (xs ys : List ℕ) (cs : List 
 
   -- With layer 0 in the first cells, its rules can be looked for.
   pub all-descendable :
-      (t h : ℕ) (cells list′ : List ℕ) → t ≡ short → Fewest (rules xs ys cs) H (spares xs ys cs days) t x y h → 0 < h → LAYERS * STEPS ≤ length cells → length list′ ≡ length list →
-      Begun n x t (at cells) → Descendable n H xs ys cs days t 0 h y t 1 0 cells list′
-  all-descendable t h cells list′ is few some-rules room long begun = record {
+      (t h : ℕ) (depths cells list′ : List ℕ) → t ≡ short → at depths y ≡ 0 → Fewest (rules xs ys cs) H (spares xs ys cs days) t x y h → 0 < h → LAYERS * STEPS ≤ length cells → length list′ ≡ length list →
+      Begun n x t (at cells) → Descendable n H xs ys cs days depths h t 0 h y t 1 0 (cap-of (LAYERS - 2)) cells list′
+  all-descendable t h depths cells list′ is begins few some-rules room long begun = record {
     some = some-rules;
     step-in = refuted .second-in;
     bound-in = omega arith;
     narrow = omega (arith, is, refuted .small);
     list-room = omega (arith, few-rules t h is few, long, refuted .list-room);
     depth = LAYERS - 2;
-    span-in = omega (arith, few-rules t h is few, refuted .kept .steps-in);
+    cap-is = refl;
+    some-cap = λ more. omega arith;
     cells-room = omega (arith, room);
     goal = x;
-    layer = layer-same (rules xs ys cs) H (spares xs ys cs days) x n t (refuted .kept .in-steps) 0 (at cells) (from 0 cells) (λ v v-in. sym (from-first cells v))
-        (layer-none (rules xs ys cs) H (spares xs ys cs days) x n t (refuted .kept .in-steps) (at cells) begun);
+    layer = layer-same (rules xs ys cs) H (spares xs ys cs days) x n t (refuted .kept .in-steps) (at depths) h 0 (at cells) (from 0 cells) (λ v v-in. sym (from-first cells v))
+        (layer-none (rules xs ys cs) H (spares xs ys cs days) x n t (refuted .kept .in-steps) (at depths) h (at cells) begun);
+    near = omega (arith, begins);
     way = few .way;
   }
 
@@ -121,38 +125,77 @@ module _ (n : ℕ) (H : ℕ → Type 0) (k : ℕ) (xs ys : List ℕ) (cs : List 
 
   -- Where rules do, they stand behind it.
   pub written-all :
-      (t h : ℕ) (cells cells′ list′ : List ℕ) (v′ bound′ : ℕ) → t ≡ short → Fewest (rules xs ys cs) H (spares xs ys cs days) t x y h → Begun n x t (at cells) →
-      length list′ ≡ length list → Descended n H xs ys cs days t 0 h y t 1 0 cells (set list 0 k) cells′ list′ v′ bound′ → ReasonIn H k xs ys cs x y c (h + 1) list list′
-  written-all t h cells cells′ list′ v′ bound′ is few begun long descended =
+      (t h : ℕ) (depths cells cells′ list′ : List ℕ) (v′ bound′ : ℕ) → t ≡ short → Fewest (rules xs ys cs) H (spares xs ys cs days) t x y h → Begun n x t (at cells) →
+      length list′ ≡ length list → Descended n H xs ys cs days depths h t 0 h y t 1 0 cells (set list 0 k) cells′ list′ v′ bound′ → ReasonIn H k xs ys cs x y c (h + 1) list list′
+  written-all t h depths cells cells′ list′ v′ bound′ is few begun long descended =
       written t h list′ is few
       (joins-all (rules xs ys cs) H (spares xs ys cs days) x h y t 1 (at list′) v′ bound′
       (descended .joins x
-      (layer-same (rules xs ys cs) H (spares xs ys cs days) x n t (refuted .kept .in-steps) 0 (at cells) (from 0 cells) (λ v v-in. sym (from-first cells v))
-      (layer-none (rules xs ys cs) H (spares xs ys cs days) x n t (refuted .kept .in-steps) (at cells) begun))))
+      (layer-same (rules xs ys cs) H (spares xs ys cs days) x n t (refuted .kept .in-steps) (at depths) h 0 (at cells) (from 0 cells) (λ v v-in. sym (from-first cells v))
+      (layer-none (rules xs ys cs) H (spares xs ys cs days) x n t (refuted .kept .in-steps) (at depths) h (at cells) begun))))
       long
       (descended .others 0 (inl (omega arith)) ∙ getD-set-same list 0 k 0 (omega (arith, refuted .first-in, refuted .list-room)))
       (λ i past. descended .others i (inr (omega arith)) ∙ getD-set-other list 0 i k 0 (λ e. omega arith))
 
 -- ---- the chains
 
-pub buildable :
-    (n m : ℕ) (xs ys : List ℕ) (cs : List ℤ) (days heads nexts : List ℕ) (x y : ℕ) (c : ℤ) (list : List ℕ) → Refuted n (first m) m xs ys cs days heads nexts x y c list →
-    Buildable n m ys heads nexts
-buildable n m xs ys cs days heads nexts x y c list refuted = record {
-  heads-room = refuted .heads-room;
-  firsts-room = refuted .seconds-room;
-  nexts-room = refuted .nexts-room;
-  links-fit = omega (arith, refuted .free-in);
-  firsts-in = λ i held. refuted .kept .in-steps i held .second-in;
-}
+module _ (n m : ℕ) (xs ys : List ℕ) (cs : List ℤ) (days heads nexts : List ℕ) (x y : ℕ) (c : ℤ) (list : List ℕ) (refuted : Refuted n (linked nexts) m xs ys cs days heads nexts x y c list) where
+  -- Those by first steps, that were lent.
+  pub leading : ChainsOf n (linked nexts) number xs heads nexts → Leading n (linked nexts) number xs ys cs days heads nexts
+  leading chained = record {
+    kept = refuted .kept;
+    heads-room = refuted .heads-room;
+    next-place = λ i on. omega (arith, on .0, refuted .nexts-room);
+    chained = chained;
+  }
 
-pub built :
-    (n m : ℕ) (xs ys : List ℕ) (cs : List ℤ) (days heads nexts : List ℕ) (x y : ℕ) (c : ℤ) (list : List ℕ) → Refuted n (first m) m xs ys cs days heads nexts x y c list →
-    (heads′ nexts′ : List ℕ) → length heads′ ≡ length heads → length nexts′ ≡ length nexts → ChainsOf n (first m) number ys heads′ nexts′ →
-    Chained n (first m) number xs ys cs days heads′ nexts′
-built n m xs ys cs days heads nexts x y c list refuted heads′ nexts′ heads-long nexts-long chained = record {
-  kept = refuted .kept;
-  heads-room = omega (arith, heads-long, refuted .heads-room);
-  next-place = λ i held. omega (arith, nexts-long, refuted .nexts-room);
-  chained = chained;
-}
+  -- They can be made anew by second steps.
+  pub turnable : Turnable n ys heads nexts
+  turnable = record {
+    heads-room = refuted .heads-room;
+    nexts-room = refuted .nexts-room;
+    steps-room = refuted .seconds-room;
+    steps-in = λ i held. refuted .kept .in-steps i held .second-in;
+  }
+
+  module _ (heads′ nexts′ : List ℕ) (heads-long : length heads′ ≡ length heads) (nexts-long : length nexts′ ≡ length nexts) (now : ChainsNow n (linked nexts) ys heads′ nexts′) where
+    -- The rules that are on them then are those that were, so the rule is refuted still.
+    pub refuted-still : Refuted n (linked nexts′) m xs ys cs days heads′ nexts′ x y c list
+    refuted-still = record {
+      kept = record {
+        steps-in = refuted .kept .steps-in;
+        number-in = λ i on. on .0;
+        placed = λ i on. refuted .kept .placed i (now .only i on);
+        days-room = refuted .kept .days-room;
+        in-steps = λ i on. refuted .kept .in-steps i (now .only i on);
+        plan = λ i on. refuted .kept .plan i (now .only i on);
+      };
+      heads-room = omega (arith, heads-long, refuted .heads-room);
+      nexts-room = omega (arith, nexts-long, refuted .nexts-room);
+      firsts-room = refuted .firsts-room;
+      seconds-room = refuted .seconds-room;
+      first-in = refuted .first-in;
+      second-in = refuted .second-in;
+      free = λ on. refuted .free (now .only m on);
+      free-in = refuted .free-in;
+      small = refuted .small;
+      list-room = refuted .list-room;
+      refuted = let (l, refutes) = refuted .refuted in (l, refutes-same (rules xs ys cs) (linked nexts) (linked nexts′) (now .on) m (rule x y c) l refutes);
+    }
+
+    -- With the depths.
+    pub turned :
+        (depths : List ℕ) (t : ℕ) → n ≤ length depths → Deepened n (linked nexts) xs ys cs days t y depths → Chained n (linked nexts′) number xs ys cs days heads′ nexts′ depths t
+    turned depths t room deepened = record {
+      kept = refuted-still .kept;
+      heads-room = refuted-still .heads-room;
+      firsts-room = refuted-still .firsts-room;
+      nexts-room = refuted-still .nexts-room;
+      chained = now .chained;
+      depths-room = room;
+      deep = λ i on. deepened .deep i (now .only i on);
+    }
+
+    -- And what is the reason of the rules that are on them is that of those that were.
+    pub reason-before : (r : ℕ) (before after : List ℕ) → ReasonIn (linked nexts′) m xs ys cs x y c r before after → ReasonIn (linked nexts) m xs ys cs x y c r before after
+    reason-before r before after = filled-same (now .only) (now .on)

@@ -6,11 +6,11 @@ use mathlib.Core.Bool.{Bool, false, false≢true}
 use mathlib.Core.List.{List}
 use lib.ListN.{length}
 use Rattle.meaning.specs.Tables.{Columns, Tables, ColumnsRoom, InCounts, Sound}
+use Rattle.meaning.proofs.Theory.{earliest-same}
 use Rattle.lent.specs.Decides.{Decides, decides-no}
-use Rattle.chains.specs.Chains.{Chained}
-use Rattle.sound.specs.Parts.{AllIn, MarksIn, DaysIn, ChainsRoom, Testable, Tested}
-use Rattle.lent.specs.Lent.{first}
-use Rattle.chains.specs.Chains.{number}
+use Rattle.sound.specs.Parts.{AllIn, DaysIn, ChainsRoom, HeldIn, Testable, Tested}
+use Rattle.lent.specs.Lent.{held-by}
+use Rattle.chains.specs.Chains.{number, linked, LentChains}
 use Rattle.sound.specs.Ground.{Groundable}
 
 -- Columns with room for k rules have room for fewer.
@@ -37,53 +37,54 @@ module _ (t : Tables) (counts : InCounts (t .counts)) where
   -- With counts in bounds, the rules held can be tested and put on chains.
   pub chains-room :
       (heads nexts : List ℕ) → Testable t heads nexts →
-      ChainsRoom (t .counts .steps) (t .counts .rules) (t .rules .firsts) (t .rules .seconds) (t .rules .amounts) heads nexts
+      ChainsRoom (t .counts .steps) (t .counts .marks) (t .rules .firsts) (t .rules .seconds) (t .rules .amounts) (t .levels) heads nexts
   chains-room heads nexts able = record {
-    columns-room = room-for-fewer _ _ (t .rules) (counts .rules-in) (able .room .rules-room);
+    columns-room = able .room .rules-room;
+    levels-room = able .room .levels-room;
     heads-room = omega (arith, counts .steps-in, able .heads-room);
-    nexts-room = omega (arith, counts .rules-in, able .nexts-room);
-    links-fit = omega (arith, counts .rules-in);
+    nexts-room = able .nexts-room;
+    marks-in = counts .marks-in;
   }
 
   module _
-      (rules : AllIn (t .counts .steps) (t .counts .rules) (t .rules .firsts) (t .rules .seconds) (t .rules .amounts)) (heads nexts : List ℕ)
-      (chained : Chained (t .counts .steps) (t .counts .rules) (t .rules .firsts) heads nexts)
+      (rules : HeldIn (t .counts .steps) (t .counts .rules) (t .counts .marks) (t .rules .firsts) (t .rules .seconds) (t .rules .amounts) (t .levels)) (heads nexts : List ℕ)
+      (chains : LentChains (t .counts .steps) (held-by (t .levels)) (t .rules .firsts) heads nexts)
     where
       -- With the rules held in bounds, and on chains, the days can be tested.
       pub ready :
           Testable t heads nexts →
-          Groundable (t .counts .steps) (first (t .counts .rules)) number (t .rules .firsts) (t .rules .seconds) (t .rules .amounts) (t .days) heads nexts
+          Groundable (t .counts .steps) (linked nexts) number (t .rules .firsts) (t .rules .seconds) (t .rules .amounts) (t .days) heads nexts
       ready able = record {
         steps-few = counts .steps-in;
-        placed = λ i h. record {
-          first-place = omega (arith, counts .rules-in, able .room .rules-room .firsts-room);
-          second-place = omega (arith, counts .rules-in, able .room .rules-room .seconds-room);
-          amount-place = omega (arith, counts .rules-in, able .room .rules-room .amounts-room);
+        placed = λ i on. record {
+          first-place = omega (arith, on .0, able .room .rules-room .firsts-room);
+          second-place = omega (arith, on .0, able .room .rules-room .seconds-room);
+          amount-place = omega (arith, on .0, able .room .rules-room .amounts-room);
         };
-        next-place = λ i h. omega (arith, counts .rules-in, able .nexts-room);
+        next-place = λ i on. omega (arith, on .0, able .nexts-room);
         days-room = omega (arith, counts .steps-in, able .room .days-room);
         heads-room = omega (arith, counts .steps-in, able .heads-room);
-        rules-in = λ i h. rules i h .steps-in;
-        chained = chained;
+        rules-in = λ i on. rules .rules-good i (chains .only i on) .steps-in;
+        chained = chains .chained;
       }
 
       -- Where every other part holds, the days are the answer.
       pub tested-by-days :
           AllIn (t .counts .steps) (t .counts .watched) (t .watched .firsts) (t .watched .seconds) (t .watched .amounts) →
-          MarksIn (t .counts .rules) (t .counts .marks) (t .marks) → (r : Bool) →
-          Decides r (DaysIn (t .counts .steps) (first (t .counts .rules)) (t .rules .firsts) (t .rules .seconds) (t .rules .amounts) (t .days) (t .counts .last)) → Tested t r heads nexts
-      tested-by-days watched marks r days = record {
+          (r : Bool) →
+          Decides r (DaysIn (t .counts .steps) (linked nexts) (t .rules .firsts) (t .rules .seconds) (t .rules .amounts) (t .days) (t .counts .last)) → Tested t r heads nexts
+      tested-by-days watched r days = record {
         decides = record {
           so = λ e. record {
             counts-in = counts;
-            rules-good = rules;
+            rules-good = rules .rules-good;
+            levels-open = rules .levels-open;
+            rules-counted = rules .rules-counted;
             watched-good = watched;
-            marks-never-fall = marks .never-fall;
-            marks-held = marks .held;
-            days-earliest = days .so e .earliest;
+            days-earliest = earliest-same (chains .on) (chains .only) (λ i h. refl) (days .so e .earliest);
             last-largest = days .so e .last-largest;
           };
-          not-so = λ e sound. days .not-so e (record { earliest = sound .days-earliest; last-largest = sound .last-largest });
+          not-so = λ e sound. days .not-so e (record { earliest = earliest-same (chains .only) (chains .on) (λ i h. refl) (sound .days-earliest); last-largest = sound .last-largest });
         };
-        chained = λ e. chained;
+        chained = λ e. chains;
       }

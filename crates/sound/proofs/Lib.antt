@@ -2,6 +2,6 @@
 pub mod Counted
 pub mod Entering
 pub mod Grounding
-pub mod Marks
+pub mod Settling
 pub mod Answers
 pub mod Opened

@@ -7,12 +7,12 @@ use Rattle.meaning.specs.Tables.{Tables, at, opened, steps-alone, last-now, wit
 use Rattle.meaning.proofs.LastDay.{largest-zeros}
 
 pub opened-days :
-    (n : ℕ) (t : Tables) (days : List ℕ) → ((v : ℕ) → v < n → at days v ≡ 0) →
-    record { counts = steps-alone n; rules = t .rules; days = days; marks = t .marks; watched = t .watched } ≡ with-days days (opened n t)
-opened-days n t days zeros i = record {
+    (n : ℕ) (t : Tables) (levels days : List ℕ) → ((v : ℕ) → v < n → at days v ≡ 0) →
+    record { counts = steps-alone n; rules = t .rules; days = days; levels = levels; watched = t .watched } ≡ with-days days (opened n levels t)
+opened-days n t levels days zeros i = record {
   counts = last-now (sym (largest-zeros n (at days) zeros) i) (steps-alone n);
   rules = t .rules;
   days = days;
-  marks = t .marks;
+  levels = levels;
   watched = t .watched;
 }

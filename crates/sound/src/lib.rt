@@ -5,13 +5,13 @@ ghost use mathlib.Core.Logic.{_⊎_};
 ghost use Prim.Native.Nat.{_≤_, _<_};
 ghost use lib.ListN.{length};
 ghost use Rattle.meaning.specs.declared.Counts.{Counts};
-ghost use Rattle.meaning.specs.Bounds.{STEPS};
+ghost use Rattle.meaning.specs.Bounds.{STEPS, RULES};
 ghost use Rattle.meaning.specs.Rules.{Earliest};
 ghost use Rattle.meaning.specs.Tables.{ColumnsRoom, InCounts, Room, rule-at, at};
 ghost use Rattle.lent.specs.Decides.{Decides};
-ghost use Rattle.lent.specs.Lent.{columns, tables, first};
-ghost use Rattle.chains.specs.Chains.{number};
-ghost use Rattle.sound.specs.Parts.{AllIn, MarksIn, DaysIn, ChainsRoom, RulesTested, Testable, Tested};
+ghost use Rattle.lent.specs.Lent.{columns, tables};
+ghost use Rattle.chains.specs.Chains.{number, linked};
+ghost use Rattle.sound.specs.Parts.{AllIn, DaysIn, ChainsRoom, Settled, RulesTested, Testable, Tested};
 ghost use Rattle.sound.specs.Ground.{Worklist, Enterable, Stays, Comes, ListsRoom, Seeded, Groundable, Underway, AfterStep};
 use meaning::Counts;
 
@@ -34,12 +34,12 @@ pub fn has_room(
     ys: &[u16],
     cs: &[i32],
     days: &[u32],
-    marks: &[u32],
+    levels: &[u8],
     wxs: &[u16],
     wys: &[u16],
     wcs: &[i32],
 ) -> bool
-    ensures { λ r. ⌜ ((counts : Counts) → Decides r (Room (tables counts (now (xs .entry)) (now (ys .entry)) (now (cs .entry)) (now (days .entry)) (now (marks .entry)) (now (wxs .entry)) (now (wys .entry)) (now (wcs .entry))))) ⌝ }
+    ensures { λ r. ⌜ ((counts : Counts) → Decides r (Room (tables counts (now (xs .entry)) (now (ys .entry)) (now (cs .entry)) (now (days .entry)) (now (levels .entry)) (now (wxs .entry)) (now (wys .entry)) (now (wcs .entry))))) ⌝ }
 {
     if !columns_have(meaning::RULES, xs, ys, cs) {
         return false;
@@ -47,7 +47,7 @@ pub fn has_room(
     if days.len() < meaning::STEPS {
         return false;
     }
-    if marks.len() < meaning::MARKS {
+    if levels.len() < meaning::RULES {
         return false;
     }
     columns_have(meaning::WATCHED, wxs, wys, wcs)
@@ -85,43 +85,73 @@ fn all_in(n: usize, m: usize, xs: &[u16], ys: &[u16], cs: &[i32]) -> bool
     true
 }
 
-// Whether every rule below number m is within bounds, over n steps; where all are, heads and nexts are left with their chains.
-fn rules_in(
+// Looks at place i, where so many marks are open: 0 where it is free, and no chain has it then; 1 where the rule held there is within bounds, over n steps, and its
+// level is open, and it is put on its chain then; else 2.
+fn settle(
     n: usize,
-    m: usize,
+    marks: usize,
     xs: &[u16],
     ys: &[u16],
     cs: &[i32],
+    levels: &[u8],
+    heads: &mut [u16],
+    nexts: &mut [u16],
+    i: usize,
+) -> usize
+    requires { ⌜ ChainsRoom n marks (now xs) (now ys) (now cs) (now levels) (now heads) (now nexts) ⌝ }
+    requires { ⌜ i < RULES ⌝ }
+    ensures { λ r. ⌜ Settled n marks (now (xs .entry)) (now (ys .entry)) (now (cs .entry)) (now (levels .entry)) i (now (heads .entry)) (now (nexts .entry)) r (now (heads .exit)) (now (nexts .exit)) ⌝ }
+{
+    let level = lent::level_at(levels, i);
+    if level == 0 {
+        nexts[i] = chains::OFF;
+        return 0;
+    }
+    if marks + 1 < level {
+        return 2;
+    }
+    if !lent::rule_in(n, xs, ys, cs, i) {
+        return 2;
+    }
+    chains::push(xs, heads, nexts, i);
+    1
+}
+
+// Whether every rule held is within bounds, over n steps, and of a level that is open with so many marks, and m rules are held; where it is so, heads and nexts are
+// left with their chains, and no other rule is on one. The places behind the last rule are looked at together.
+fn rules_in(
+    n: usize,
+    m: usize,
+    marks: usize,
+    xs: &[u16],
+    ys: &[u16],
+    cs: &[i32],
+    levels: &[u8],
     heads: &mut [u16],
     nexts: &mut [u16],
 ) -> bool
-    requires { ⌜ ChainsRoom n m (now xs) (now ys) (now cs) (now heads) (now nexts) ⌝ }
-    ensures { λ r. ⌜ RulesTested n m (now (xs .entry)) (now (ys .entry)) (now (cs .entry)) r (now (heads .exit)) (now (nexts .exit)) ⌝ }
+    requires { ⌜ ChainsRoom n marks (now xs) (now ys) (now cs) (now levels) (now heads) (now nexts) ⌝ }
+    ensures { λ r. ⌜ RulesTested n m marks (now (xs .entry)) (now (ys .entry)) (now (cs .entry)) (now (levels .entry)) r (now (heads .exit)) (now (nexts .exit)) ⌝ }
 {
     chains::clear(n, heads);
-    for i in 0..m {
-        if !lent::rule_in(n, xs, ys, cs, i) {
+    let mut i: usize = 0;
+    let mut seen: usize = 0;
+    while seen < m {
+        if meaning::RULES <= i {
             return false;
         }
-        chains::push(xs, heads, nexts, i);
+        let held = settle(n, marks, xs, ys, cs, levels, heads, nexts, i);
+        if 1 < held {
+            return false;
+        }
+        seen += held;
+        i += 1;
     }
+    if !lent::free_from(i, levels) {
+        return false;
+    }
+    chains::off_from(i, nexts);
     true
-}
-
-// Whether the first k marks never fall and none exceeds m.
-fn marks_in(m: usize, k: usize, marks: &[u32]) -> bool
-    requires { ⌜ k ≤ length (now marks) ⌝ }
-    ensures { λ r. ⌜ Decides r (MarksIn m k (now (marks .entry))) ⌝ }
-{
-    let mut newest: u64 = 0;
-    for i in 0..k {
-        let mark = lent::day_at(marks, i);
-        if mark < newest {
-            return false;
-        }
-        newest = mark;
-    }
-    newest <= m as u64
 }
 
 // Enters step v as the k-th, unless it is entered; returns how many steps are now entered.
@@ -161,10 +191,8 @@ struct Walked {
 }
 
 // Follows the rules of step a, up to one that the days break: the second step of each that has nothing to spare is entered.
-// The promise speaks of m rules over n steps; the chain says by itself which of them are a's.
 fn follow(
     n: usize,
-    m: usize,
     a: usize,
     xs: &[u16],
     ys: &[u16],
@@ -176,11 +204,11 @@ fn follow(
     places: &mut [u16],
     work: &mut [u16],
 ) -> Walked
-    requires { ⌜ Groundable n (first m) number (now xs) (now ys) (now cs) (now days) (now heads) (now nexts) ⌝ }
+    requires { ⌜ Groundable n (linked (now nexts)) number (now xs) (now ys) (now cs) (now days) (now heads) (now nexts) ⌝ }
     requires { ⌜ ListsRoom n (now places) (now work) ⌝ }
-    requires { ⌜ Underway n (first m) (now xs) (now ys) (now cs) (now days) entered (now places) (now work) ⌝ }
+    requires { ⌜ Underway n (linked (now nexts)) (now xs) (now ys) (now cs) (now days) entered (now places) (now work) ⌝ }
     requires { ⌜ (a < n) × (1 ≤ at (now places) a) ⌝ }
-    ensures { λ r. ⌜ AfterStep n (first m) (now (xs .entry)) (now (ys .entry)) (now (cs .entry)) (now (days .entry)) a (now (places .entry)) (r .kept) (r .entered) (now (places .exit)) (now (work .exit)) ⌝ }
+    ensures { λ r. ⌜ AfterStep n (linked (now (nexts .entry))) (now (xs .entry)) (now (ys .entry)) (now (cs .entry)) (now (days .entry)) a (now (places .entry)) (r .kept) (r .entered) (now (places .exit)) (now (work .exit)) ⌝ }
 {
     let mut k = entered;
     let mut link = lent::number_at(heads, a);
@@ -203,10 +231,9 @@ fn follow(
     }
 }
 
-// Whether the days are the earliest plan of the first m rules, over n steps.
+// Whether the days are the earliest plan of the rules on the chains, over n steps.
 fn is_earliest(
     n: usize,
-    m: usize,
     xs: &[u16],
     ys: &[u16],
     cs: &[i32],
@@ -214,8 +241,8 @@ fn is_earliest(
     heads: &[u16],
     nexts: &[u16],
 ) -> bool
-    requires { ⌜ Groundable n (first m) number (now xs) (now ys) (now cs) (now days) (now heads) (now nexts) ⌝ }
-    ensures { λ r. ⌜ Decides r (Earliest n (rule-at (columns (now (xs .entry)) (now (ys .entry)) (now (cs .entry)))) (first m) (at (now (days .entry)))) ⌝ }
+    requires { ⌜ Groundable n (linked (now nexts)) number (now xs) (now ys) (now cs) (now days) (now heads) (now nexts) ⌝ }
+    ensures { λ r. ⌜ Decides r (Earliest n (rule-at (columns (now (xs .entry)) (now (ys .entry)) (now (cs .entry)))) (linked (now (nexts .entry))) (at (now (days .entry)))) ⌝ }
 {
     let mut places = [0u16; meaning::STEPS];
     let mut work = [0u16; meaning::STEPS];
@@ -225,7 +252,6 @@ fn is_earliest(
         let a = lent::number_at(&work, done);
         let walked = follow(
             n,
-            m,
             a,
             xs,
             ys,
@@ -246,11 +272,10 @@ fn is_earliest(
     entered == n
 }
 
-// Whether the days are the earliest plan of the first m rules, over n steps, and `last` is the last of them.
+// Whether the days are the earliest plan of the rules on the chains, over n steps, and `last` is the last of them.
 fn days_in(
     last: u32,
     n: usize,
-    m: usize,
     xs: &[u16],
     ys: &[u16],
     cs: &[i32],
@@ -258,13 +283,13 @@ fn days_in(
     heads: &[u16],
     nexts: &[u16],
 ) -> bool
-    requires { ⌜ Groundable n (first m) number (now xs) (now ys) (now cs) (now days) (now heads) (now nexts) ⌝ }
-    ensures { λ r. ⌜ Decides r (DaysIn n (first m) (now (xs .entry)) (now (ys .entry)) (now (cs .entry)) (now (days .entry)) last) ⌝ }
+    requires { ⌜ Groundable n (linked (now nexts)) number (now xs) (now ys) (now cs) (now days) (now heads) (now nexts) ⌝ }
+    ensures { λ r. ⌜ Decides r (DaysIn n (linked (now (nexts .entry))) (now (xs .entry)) (now (ys .entry)) (now (cs .entry)) (now (days .entry)) last) ⌝ }
 {
     if lent::last_day(n, days) != last {
         return false;
     }
-    is_earliest(n, m, xs, ys, cs, days, heads, nexts)
+    is_earliest(n, xs, ys, cs, days, heads, nexts)
 }
 
 // Whether the tables, which have room, are sound; where they are, heads and nexts are left with the chains of the rules held.
@@ -274,29 +299,36 @@ pub fn is_sound(
     ys: &[u16],
     cs: &[i32],
     days: &[u32],
-    marks: &[u32],
+    levels: &[u8],
     wxs: &[u16],
     wys: &[u16],
     wcs: &[i32],
     heads: &mut [u16],
     nexts: &mut [u16],
 ) -> bool
-    requires { ⌜ Testable (tables counts (now xs) (now ys) (now cs) (now days) (now marks) (now wxs) (now wys) (now wcs)) (now heads) (now nexts) ⌝ }
-    ensures { λ r. ⌜ Tested (tables counts (now (xs .entry)) (now (ys .entry)) (now (cs .entry)) (now (days .entry)) (now (marks .entry)) (now (wxs .entry)) (now (wys .entry)) (now (wcs .entry))) r (now (heads .exit)) (now (nexts .exit)) ⌝ }
+    requires { ⌜ Testable (tables counts (now xs) (now ys) (now cs) (now days) (now levels) (now wxs) (now wys) (now wcs)) (now heads) (now nexts) ⌝ }
+    ensures { λ r. ⌜ Tested (tables counts (now (xs .entry)) (now (ys .entry)) (now (cs .entry)) (now (days .entry)) (now (levels .entry)) (now (wxs .entry)) (now (wys .entry)) (now (wcs .entry))) r (now (heads .exit)) (now (nexts .exit)) ⌝ }
 {
     if !counts_in(counts) {
         return false;
     }
     let n = counts.steps as usize;
     let m = counts.rules as usize;
-    if !rules_in(n, m, xs, ys, cs, heads, nexts) {
+    if !rules_in(
+        n,
+        m,
+        counts.marks as usize,
+        xs,
+        ys,
+        cs,
+        levels,
+        heads,
+        nexts,
+    ) {
         return false;
     }
     if !all_in(n, counts.watched as usize, wxs, wys, wcs) {
         return false;
     }
-    if !marks_in(m, counts.marks as usize, marks) {
-        return false;
-    }
-    days_in(counts.last, n, m, xs, ys, cs, days, heads, nexts)
+    days_in(counts.last, n, xs, ys, cs, days, heads, nexts)
 }

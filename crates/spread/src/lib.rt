@@ -1,15 +1,14 @@
 // The least gains that keep the rules. Given days that keep the rules held and a gain for each step, a spread raises the gains as little as
 // keeps every rule: the days with their gains are then the earliest plan that is not before the days with the gains at the start. Each turn
 // settles the open step of largest gain and relaxes its rules; the open steps with a gain wait in a list (crate waiting).
-// The code reads which rules are held from their chains; m, their count, is there for the contracts, which say by it which numbers are held.
+// Which rules are held is read from their chains, by the code and by the contracts: those that nexts has on a chain.
 ghost use mathlib.Core.Path.{_≡_};
 ghost use Prim.Native.Nat.{_+_, _<_, _≤_};
 ghost use lib.ListN.{length};
 ghost use Rattle.meaning.specs.Bounds.{STEPS};
 ghost use Rattle.meaning.specs.Tables.{at};
 ghost use Rattle.lent.specs.Decides.{Decides};
-ghost use Rattle.lent.specs.Lent.{first};
-ghost use Rattle.chains.specs.Chains.{number};
+ghost use Rattle.chains.specs.Chains.{number, linked};
 ghost use Rattle.spread.specs.Ground.{Ground};
 ghost use Rattle.spread.specs.State.{Ready};
 ghost use Rattle.spread.specs.Relax.{Relaxable, Relaxed};
@@ -92,7 +91,6 @@ fn relax(
 // Relaxes each rule of step x. Gives back how many steps the list has then.
 fn relax_all(
     n: usize,
-    m: usize,
     xs: &[u16],
     ys: &[u16],
     cs: &[i32],
@@ -107,13 +105,13 @@ fn relax_all(
     leaders: &mut [u16],
     k: usize,
 ) -> usize
-    requires { ⌜ Ground n (first m) number (now xs) (now ys) (now cs) (now days) (now heads) (now nexts) ⌝ }
+    requires { ⌜ Ground n (linked (now nexts)) number (now xs) (now ys) (now cs) (now days) (now heads) (now nexts) ⌝ }
     requires { ⌜ StepsRoom n (now gains) (now by) (now list) (now places) (now leaders) ⌝ }
     requires { ⌜ Ready n (at (now gains)) (at (now list)) k ⌝ }
     requires { ⌜ Led n (at (now gains)) (at (now list)) (at (now places)) (at (now leaders)) k ⌝ }
     requires { ⌜ x < n ⌝ }
     ensures { λ r. ⌜
-        RelaxedAll n (first m) (now (xs .entry)) (now (ys .entry)) (now (cs .entry)) (now (days .entry)) x
+        RelaxedAll n (linked (now (nexts .entry))) (now (xs .entry)) (now (ys .entry)) (now (cs .entry)) (now (days .entry)) x
         (now (gains .entry)) (now (by .entry)) (now (list .entry)) k
         (now (gains .exit)) (now (by .exit)) (now (list .exit)) r ⌝ }
     ensures { λ r. ⌜ Led n (at (now (gains .exit))) (at (now (list .exit))) (at (now (places .exit))) (at (now (leaders .exit))) r ⌝ }
@@ -145,7 +143,6 @@ fn relax_all(
 // One turn: settles a step of largest gain in the list, which has one, and relaxes its rules. Gives back how many steps the list has then.
 fn turn(
     n: usize,
-    m: usize,
     xs: &[u16],
     ys: &[u16],
     cs: &[i32],
@@ -159,13 +156,13 @@ fn turn(
     leaders: &mut [u16],
     k: usize,
 ) -> usize
-    requires { ⌜ Ground n (first m) number (now xs) (now ys) (now cs) (now days) (now heads) (now nexts) ⌝ }
+    requires { ⌜ Ground n (linked (now nexts)) number (now xs) (now ys) (now cs) (now days) (now heads) (now nexts) ⌝ }
     requires { ⌜ StepsRoom n (now gains) (now by) (now list) (now places) (now leaders) ⌝ }
     requires { ⌜ Ready n (at (now gains)) (at (now list)) k ⌝ }
     requires { ⌜ Led n (at (now gains)) (at (now list)) (at (now places)) (at (now leaders)) k ⌝ }
     requires { ⌜ 0 < k ⌝ }
     ensures { λ r. ⌜
-        Turned n (first m) (now (xs .entry)) (now (ys .entry)) (now (cs .entry)) (now (days .entry))
+        Turned n (linked (now (nexts .entry))) (now (xs .entry)) (now (ys .entry)) (now (cs .entry)) (now (days .entry))
         (now (gains .entry)) (now (by .entry)) (now (list .entry)) k
         (now (gains .exit)) (now (by .exit)) (now (list .exit)) r ⌝ }
     ensures { λ r. ⌜ Led n (at (now (gains .exit))) (at (now (list .exit))) (at (now (places .exit))) (at (now (leaders .exit))) r ⌝ }
@@ -173,7 +170,6 @@ fn turn(
     let x = waiting::take(n, gains, list, places, leaders, k);
     relax_all(
         n,
-        m,
         xs,
         ys,
         cs,
@@ -222,7 +218,6 @@ fn reached(n: usize, gains: &[u64], goal: usize) -> bool
 // Turn by turn, settles the steps of the list, which first has k, and those that enter it, until none is left or the goal is a step with a gain.
 fn settle_all(
     n: usize,
-    m: usize,
     xs: &[u16],
     ys: &[u16],
     cs: &[i32],
@@ -237,12 +232,12 @@ fn settle_all(
     leaders: &mut [u16],
     k: usize,
 )
-    requires { ⌜ Ground n (first m) number (now xs) (now ys) (now cs) (now days) (now heads) (now nexts) ⌝ }
+    requires { ⌜ Ground n (linked (now nexts)) number (now xs) (now ys) (now cs) (now days) (now heads) (now nexts) ⌝ }
     requires { ⌜ StepsRoom n (now gains) (now by) (now list) (now places) (now leaders) ⌝ }
     requires { ⌜ Ready n (at (now gains)) (at (now list)) k ⌝ }
     requires { ⌜ Led n (at (now gains)) (at (now list)) (at (now places)) (at (now leaders)) k ⌝ }
     ensures { λ _. ⌜
-        SettledAll n (first m) (now (xs .entry)) (now (ys .entry)) (now (cs .entry)) (now (days .entry)) goal
+        SettledAll n (linked (now (nexts .entry))) (now (xs .entry)) (now (ys .entry)) (now (cs .entry)) (now (days .entry)) goal
         (now (gains .entry)) (now (by .entry)) (now (list .entry)) k
         (now (gains .exit)) (now (by .exit)) ⌝ }
 {
@@ -253,7 +248,6 @@ fn settle_all(
         }
         left = turn(
             n,
-            m,
             xs,
             ys,
             cs,
@@ -270,12 +264,11 @@ fn settle_all(
     }
 }
 
-// Raises the gains of n steps as little as keeps each of m rules, which the days keep, where heads and nexts are the chains of the rules: the days
+// Raises the gains of n steps as little as keeps each rule held, which the days keep, where heads and nexts are the chains of the rules: the days
 // with their gains are then the earliest plan that is not before the days with the gains at entry. It stops early where the goal is a step below n
 // that has a gain. `by` has for each step with a gain the number, plus 1, of the rule that it came by, or 0 where it kept its gain.
 pub fn spread(
     n: usize,
-    m: usize,
     xs: &[u16],
     ys: &[u16],
     cs: &[i32],
@@ -286,10 +279,10 @@ pub fn spread(
     gains: &mut [u64],
     by: &mut [u16],
 )
-    requires { ⌜ Ground n (first m) number (now xs) (now ys) (now cs) (now days) (now heads) (now nexts) ⌝ }
+    requires { ⌜ Ground n (linked (now nexts)) number (now xs) (now ys) (now cs) (now days) (now heads) (now nexts) ⌝ }
     requires { ⌜ Askable n (now gains) (now by) ⌝ }
     ensures { λ _. ⌜
-        Spread n (first m) (now (xs .entry)) (now (ys .entry)) (now (cs .entry)) (now (days .entry)) goal
+        Spread n (linked (now (nexts .entry))) (now (xs .entry)) (now (ys .entry)) (now (cs .entry)) (now (days .entry)) goal
         (λ v. at (now (days .entry)) v + at (now (gains .entry)) v)
         (now (gains .entry)) (now (gains .exit)) (now (by .exit)) ⌝ }
 {
@@ -299,7 +292,6 @@ pub fn spread(
     let k = collect(n, gains, by, &mut list, &mut places, &mut leaders);
     settle_all(
         n,
-        m,
         xs,
         ys,
         cs,
@@ -319,7 +311,6 @@ pub fn spread(
 // The same, where the gain is asked for at step y alone and no step below n has one at entry, with list, places and leaders to work in.
 fn spread_in(
     n: usize,
-    m: usize,
     xs: &[u16],
     ys: &[u16],
     cs: &[i32],
@@ -335,18 +326,17 @@ fn spread_in(
     places: &mut [u16],
     leaders: &mut [u16],
 )
-    requires { ⌜ Ground n (first m) number (now xs) (now ys) (now cs) (now days) (now heads) (now nexts) ⌝ }
+    requires { ⌜ Ground n (linked (now nexts)) number (now xs) (now ys) (now cs) (now days) (now heads) (now nexts) ⌝ }
     requires { ⌜ AskableAlone n y gain (now gains) (now by) ⌝ }
     requires { ⌜ Room n (now gains) (now list) (now places) (now leaders) ⌝ }
     ensures { λ _. ⌜
-        Spread n (first m) (now (xs .entry)) (now (ys .entry)) (now (cs .entry)) (now (days .entry)) goal
+        Spread n (linked (now (nexts .entry))) (now (xs .entry)) (now (ys .entry)) (now (cs .entry)) (now (days .entry)) goal
         (λ v. at (now (days .entry)) v + alone y gain v)
         (now (gains .entry)) (now (gains .exit)) (now (by .exit)) ⌝ }
 {
     let k = begin(n, y, gain, gains, by, list, places, leaders);
     settle_all(
         n,
-        m,
         xs,
         ys,
         cs,
@@ -366,7 +356,6 @@ fn spread_in(
 // The same, with lists of its own: short ones for few steps, which are cleared sooner.
 pub fn spread_one(
     n: usize,
-    m: usize,
     xs: &[u16],
     ys: &[u16],
     cs: &[i32],
@@ -379,10 +368,10 @@ pub fn spread_one(
     gains: &mut [u64],
     by: &mut [u16],
 )
-    requires { ⌜ Ground n (first m) number (now xs) (now ys) (now cs) (now days) (now heads) (now nexts) ⌝ }
+    requires { ⌜ Ground n (linked (now nexts)) number (now xs) (now ys) (now cs) (now days) (now heads) (now nexts) ⌝ }
     requires { ⌜ AskableAlone n y gain (now gains) (now by) ⌝ }
     ensures { λ _. ⌜
-        Spread n (first m) (now (xs .entry)) (now (ys .entry)) (now (cs .entry)) (now (days .entry)) goal
+        Spread n (linked (now (nexts .entry))) (now (xs .entry)) (now (ys .entry)) (now (cs .entry)) (now (days .entry)) goal
         (λ v. at (now (days .entry)) v + alone y gain v)
         (now (gains .entry)) (now (gains .exit)) (now (by .exit)) ⌝ }
 {
@@ -392,7 +381,6 @@ pub fn spread_one(
         let mut leaders = [0u16; FEW_GROUPS];
         spread_in(
             n,
-            m,
             xs,
             ys,
             cs,
@@ -415,7 +403,6 @@ pub fn spread_one(
     let mut leaders = [0u16; waiting::GROUPS];
     spread_in(
         n,
-        m,
         xs,
         ys,
         cs,
@@ -441,12 +428,13 @@ fn hops(
     ys: &[u16],
     cs: &[i32],
     days: &[u32],
+    nexts: &[u16],
     gains: &[u64],
     by: &[u16],
     x: usize,
     y: usize,
 ) -> usize
-    requires { ⌜ Reached n (first m) m (now xs) (now ys) (now cs) (now days) (now gains) (now by) x y ⌝ }
+    requires { ⌜ Reached n (linked (now nexts)) m (now xs) (now ys) (now cs) (now days) (now gains) (now by) x y ⌝ }
     ensures { λ r. ⌜ Hops n (now (xs .entry)) (now (by .entry)) x y r ⌝ }
 {
     let mut v = x;
@@ -467,6 +455,7 @@ pub fn ring(
     ys: &[u16],
     cs: &[i32],
     days: &[u32],
+    nexts: &[u16],
     gains: &[u64],
     by: &[u16],
     x: usize,
@@ -474,12 +463,12 @@ pub fn ring(
     c: i32,
     list: &mut [u32],
 ) -> usize
-    requires { ⌜ Reached n (first m) m (now xs) (now ys) (now cs) (now days) (now gains) (now by) x y ⌝ }
+    requires { ⌜ Reached n (linked (now nexts)) m (now xs) (now ys) (now cs) (now days) (now gains) (now by) x y ⌝ }
     requires { ⌜ Lacks (now days) (now gains) x y c ⌝ }
     requires { ⌜ n ≤ length (now list) ⌝ }
-    ensures { λ r. ⌜ RingIn (first m) m (now (xs .entry)) (now (ys .entry)) (now (cs .entry)) x y c r (now (list .entry)) (now (list .exit)) ⌝ }
+    ensures { λ r. ⌜ RingIn (linked (now (nexts .entry))) m (now (xs .entry)) (now (ys .entry)) (now (cs .entry)) x y c r (now (list .entry)) (now (list .exit)) ⌝ }
 {
-    let k = hops(n, m, xs, ys, cs, days, gains, by, x, y) + 1;
+    let k = hops(n, m, xs, ys, cs, days, nexts, gains, by, x, y) + 1;
     let mut v = x;
     let mut j = k;
     while v != y {

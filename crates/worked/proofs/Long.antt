@@ -6,7 +6,7 @@ use denote.Laws.{Is}
 use denote.Struct.Declared.{row}
 use denote.Struct.Laws as S
 use borrow.Author.Needs.{needs}
-use Rattle.meaning.specs.Bounds.{STEPS, RULES, MARKS, WATCHED}
+use Rattle.meaning.specs.Bounds.{STEPS, RULES, WATCHED}
 use Rattle.worked.specs.declared.office.Office.{Office}
 use Rattle.worked.specs.declared.words.Ask.{Ask}
 use Rattle.worked.proofs.office.Office as O
@@ -24,7 +24,7 @@ pub record Long (o : Office) : Type 0 where
   pub ys : RULES + 1 ≡ length (o .ys)
   pub cs : RULES + 1 ≡ length (o .cs)
   pub days : STEPS + 1 ≡ length (o .days)
-  pub marks : MARKS + 1 ≡ length (o .marks)
+  pub levels : RULES + 1 ≡ length (o .levels)
   pub wxs : WATCHED + 1 ≡ length (o .wxs)
   pub wys : WATCHED + 1 ≡ length (o .wys)
   pub wcs : WATCHED + 1 ≡ length (o .wcs)
@@ -43,8 +43,8 @@ the-cs o g = search needs
 the-days : (o : Office) → Held o → length (o .days) ≡ STEPS + 1
 the-days o g = search needs
 
-the-marks : (o : Office) → Held o → length (o .marks) ≡ MARKS + 1
-the-marks o g = search needs
+the-levels : (o : Office) → Held o → length (o .levels) ≡ RULES + 1
+the-levels o g = search needs
 
 the-wxs : (o : Office) → Held o → length (o .wxs) ≡ WATCHED + 1
 the-wxs o g = search needs
@@ -62,7 +62,7 @@ the-two : (o : Office) → Held o → length (o .two) ≡ WATCHED + 1
 the-two o g = search needs
 
 pub long : (o : Office) → Held o → Long o
-long o g = record { xs = sym (the-xs o g); ys = sym (the-ys o g); cs = sym (the-cs o g); days = sym (the-days o g); marks = sym (the-marks o g); wxs = sym (the-wxs o g); wys = sym (the-wys o g); wcs = sym (the-wcs o g); one = sym (the-one o g); two = sym (the-two o g) }
+long o g = record { xs = sym (the-xs o g); ys = sym (the-ys o g); cs = sym (the-cs o g); days = sym (the-days o g); levels = sym (the-levels o g); wxs = sym (the-wxs o g); wys = sym (the-wys o g); wcs = sym (the-wcs o g); one = sym (the-one o g); two = sym (the-two o g) }
 
 the-numbers : (a : Ask) → Is (row A.the-type) a (S.vals A.the-type AL.the-laws a) → length (a .numbers) ≡ 16
 the-numbers a g = search needs

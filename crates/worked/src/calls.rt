@@ -12,19 +12,19 @@ pub fn open_steps<'a>(
     xs: &'a [u16],
     ys: &'a [u16],
     cs: &'a [i32],
-    marks: &'a [u32],
     wxs: &'a [u16],
     wys: &'a [u16],
     wcs: &'a [i32],
 ) -> Office {
     let mut days = o.days;
+    let mut levels = o.levels;
     let reply = desk::open(
         o.counts,
         xs,
         ys,
         cs,
         cells::lend_numbers(ask, words::DAYS, &mut days),
-        marks,
+        cells::lend_levels(ask, words::LEVELS, &mut levels),
         wxs,
         wys,
         wcs,
@@ -32,6 +32,7 @@ pub fn open_steps<'a>(
     );
     let mut next = office::after(o, reply);
     next.days = days;
+    next.levels = levels;
     next
 }
 
@@ -43,7 +44,7 @@ pub fn watch<'a>(
     ys: &'a [u16],
     cs: &'a [i32],
     days: &'a [u32],
-    marks: &'a [u32],
+    levels: &'a [u8],
 ) -> Office {
     let mut wxs = o.wxs;
     let mut wys = o.wys;
@@ -54,7 +55,7 @@ pub fn watch<'a>(
         ys,
         cs,
         days,
-        marks,
+        levels,
         cells::lend_steps(ask, words::WXS, &mut wxs),
         cells::lend_steps(ask, words::WYS, &mut wys),
         cells::lend_amounts(ask, words::WCS, &mut wcs),
@@ -71,31 +72,18 @@ pub fn watch<'a>(
 
 // Mark.
 pub fn mark<'a>(
-    ask: Ask,
     o: Office,
     xs: &'a [u16],
     ys: &'a [u16],
     cs: &'a [i32],
     days: &'a [u32],
+    levels: &'a [u8],
     wxs: &'a [u16],
     wys: &'a [u16],
     wcs: &'a [i32],
 ) -> Office {
-    let mut marks = o.marks;
-    let reply = desk::mark(
-        o.counts,
-        xs,
-        ys,
-        cs,
-        days,
-        cells::lend_numbers(ask, words::MARKS, &mut marks),
-        wxs,
-        wys,
-        wcs,
-    );
-    let mut next = office::after(o, reply);
-    next.marks = marks;
-    next
+    let reply = desk::mark(o.counts, xs, ys, cs, days, levels, wxs, wys, wcs);
+    office::after(o, reply)
 }
 
 // Back.
@@ -105,41 +93,67 @@ pub fn back<'a>(
     xs: &'a [u16],
     ys: &'a [u16],
     cs: &'a [i32],
-    marks: &'a [u32],
     wxs: &'a [u16],
     wys: &'a [u16],
     wcs: &'a [i32],
 ) -> Office {
     let mut days = o.days;
+    let mut levels = o.levels;
     let reply = desk::back(
         o.counts,
         xs,
         ys,
         cs,
         cells::lend_numbers(ask, words::DAYS, &mut days),
-        marks,
+        cells::lend_levels(ask, words::LEVELS, &mut levels),
         wxs,
         wys,
         wcs,
     );
     let mut next = office::after(o, reply);
     next.days = days;
+    next.levels = levels;
     next
 }
 
-// Add, with list one for the ring.
-pub fn add<'a>(
+// Withdraw.
+pub fn withdraw<'a>(
     ask: Ask,
     o: Office,
-    marks: &'a [u32],
+    xs: &'a [u16],
+    ys: &'a [u16],
+    cs: &'a [i32],
     wxs: &'a [u16],
     wys: &'a [u16],
     wcs: &'a [i32],
 ) -> Office {
+    let mut days = o.days;
+    let mut levels = o.levels;
+    let reply = desk::withdraw(
+        o.counts,
+        xs,
+        ys,
+        cs,
+        cells::lend_numbers(ask, words::DAYS, &mut days),
+        cells::lend_levels(ask, words::LEVELS, &mut levels),
+        wxs,
+        wys,
+        wcs,
+        ask.first,
+    );
+    let mut next = office::after(o, reply);
+    next.days = days;
+    next.levels = levels;
+    next
+}
+
+// Add, with list one for the ring.
+pub fn add<'a>(ask: Ask, o: Office, wxs: &'a [u16], wys: &'a [u16], wcs: &'a [i32]) -> Office {
     let mut xs = o.xs;
     let mut ys = o.ys;
     let mut cs = o.cs;
     let mut days = o.days;
+    let mut levels = o.levels;
     let mut one = o.one;
     let reply = desk::add(
         o.counts,
@@ -147,7 +161,7 @@ pub fn add<'a>(
         cells::lend_steps(ask, words::YS, &mut ys),
         cells::lend_amounts(ask, words::CS, &mut cs),
         cells::lend_numbers(ask, words::DAYS, &mut days),
-        marks,
+        cells::lend_levels(ask, words::LEVELS, &mut levels),
         wxs,
         wys,
         wcs,
@@ -161,6 +175,7 @@ pub fn add<'a>(
     next.ys = ys;
     next.cs = cs;
     next.days = days;
+    next.levels = levels;
     next.one = one;
     next
 }
@@ -173,7 +188,7 @@ pub fn trial<'a>(
     ys: &'a [u16],
     cs: &'a [i32],
     days: &'a [u32],
-    marks: &'a [u32],
+    levels: &'a [u8],
     wxs: &'a [u16],
     wys: &'a [u16],
     wcs: &'a [i32],
@@ -186,7 +201,7 @@ pub fn trial<'a>(
         ys,
         cs,
         days,
-        marks,
+        levels,
         wxs,
         wys,
         wcs,
@@ -210,7 +225,7 @@ pub fn consequences<'a>(
     ys: &'a [u16],
     cs: &'a [i32],
     days: &'a [u32],
-    marks: &'a [u32],
+    levels: &'a [u8],
     wxs: &'a [u16],
     wys: &'a [u16],
     wcs: &'a [i32],
@@ -223,7 +238,7 @@ pub fn consequences<'a>(
         ys,
         cs,
         days,
-        marks,
+        levels,
         wxs,
         wys,
         wcs,
@@ -256,7 +271,7 @@ pub fn ring_check<'a>(
     ys: &'a [u16],
     cs: &'a [i32],
     days: &'a [u32],
-    marks: &'a [u32],
+    levels: &'a [u8],
     wxs: &'a [u16],
     wys: &'a [u16],
     wcs: &'a [i32],
@@ -269,7 +284,7 @@ pub fn ring_check<'a>(
         ys,
         cs,
         days,
-        marks,
+        levels,
         wxs,
         wys,
         wcs,
@@ -288,11 +303,11 @@ pub fn last_day<'a>(
     ys: &'a [u16],
     cs: &'a [i32],
     days: &'a [u32],
-    marks: &'a [u32],
+    levels: &'a [u8],
     wxs: &'a [u16],
     wys: &'a [u16],
     wcs: &'a [i32],
 ) -> Office {
-    let reply = desk::last_day(o.counts, xs, ys, cs, days, marks, wxs, wys, wcs);
+    let reply = desk::last_day(o.counts, xs, ys, cs, days, levels, wxs, wys, wcs);
     office::after(o, reply)
 }

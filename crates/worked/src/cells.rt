@@ -22,6 +22,12 @@ pub fn lent_numbers<'a>(ask: Ask, which: u32, list: &'a [u32]) -> &'a [u32] {
     &list[0..n]
 }
 
+// As many places of the list as the line lends.
+pub fn lent_levels<'a>(ask: Ask, which: u32, list: &'a [u8]) -> &'a [u8] {
+    let n = words::places(ask, which, list.len());
+    &list[0..n]
+}
+
 // As many places of the list as the line lends, to be written.
 pub fn lend_steps<'a>(ask: Ask, which: u32, list: &'a mut [u16]) -> &'a mut [u16] {
     let n = words::places(ask, which, list.len());
@@ -36,6 +42,12 @@ pub fn lend_amounts<'a>(ask: Ask, which: u32, list: &'a mut [i32]) -> &'a mut [i
 
 // As many places of the list as the line lends, to be written.
 pub fn lend_numbers<'a>(ask: Ask, which: u32, list: &'a mut [u32]) -> &'a mut [u32] {
+    let n = words::places(ask, which, list.len());
+    &mut list[0..n]
+}
+
+// As many places of the list as the line lends, to be written.
+pub fn lend_levels<'a>(ask: Ask, which: u32, list: &'a mut [u8]) -> &'a mut [u8] {
     let n = words::places(ask, which, list.len());
     &mut list[0..n]
 }
@@ -79,6 +91,19 @@ fn same_numbers<'a>(before: bool, list: &'a [u32], other: &'a [u32], a: u32) -> 
     before
 }
 
+// Whether it was so before, and the places from a on that both lists have hold the same.
+fn same_levels<'a>(before: bool, list: &'a [u8], other: &'a [u8], a: u32) -> bool {
+    let n = words::within(list.len(), other.len());
+    let mut i = a as usize;
+    while i < n {
+        if list[i] != other[i] {
+            return false;
+        }
+        i += 1;
+    }
+    before
+}
+
 // Whether the counts are the same.
 pub fn same_counts(a: Counts, b: Counts) -> bool {
     (a.steps ^ b.steps)
@@ -101,18 +126,19 @@ pub fn all_same(s: Same) -> bool {
     s.tables && s.one && s.two
 }
 
-// What is the same as in the office: of the tables from these counts on, if it was so before, and of the lists from k and l on.
+// What is the same as in the office: of the tables from these counts on and of the levels from f on, if it was so before, and of the lists from k and l on.
 pub fn compared<'a>(
     o: Office,
     before: bool,
     from: Counts,
+    f: u32,
     k: u32,
     l: u32,
     xs: &'a [u16],
     ys: &'a [u16],
     cs: &'a [i32],
     days: &'a [u32],
-    marks: &'a [u32],
+    levels: &'a [u8],
     wxs: &'a [u16],
     wys: &'a [u16],
     wcs: &'a [i32],
@@ -123,7 +149,7 @@ pub fn compared<'a>(
     let t = same_steps(t, ys, &o.ys, from.rules);
     let t = same_amounts(t, cs, &o.cs, from.rules);
     let t = same_numbers(t, days, &o.days, from.steps);
-    let t = same_numbers(t, marks, &o.marks, from.marks);
+    let t = same_levels(t, levels, &o.levels, f);
     let t = same_steps(t, wxs, &o.wxs, from.watched);
     let t = same_steps(t, wys, &o.wys, from.watched);
     let t = same_amounts(t, wcs, &o.wcs, from.watched);

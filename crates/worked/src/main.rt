@@ -1,16 +1,17 @@
-// Runs a text of cases through the nine public calls and writes what is seen: each line of standard input as it stands, and after it what the line
+// Runs a text of cases through the ten public calls and writes what is seen: each line of standard input as it stands, and after it what the line
 // gives. A line that starts with `#` is only copied. The lists that are lent have one place more than the calls need. Its file `stdin` has the
 // worked cases and the refusals of every call at their boundaries; its file `stdout` is written by hand from the paper.
-//   open N | watch X Y C | add X Y C | mark | back | trial X Y C | consequences | last day    a public call
+//   open N | watch X Y C | add X Y C | mark | back | withdraw N | trial X Y C | consequences | last day    a public call
 //   part X Y C                           Trial, and the part that is then handed back
 //   ring check X Y C of N ..             Ring check of the list of these numbers; with `two` for them, of list two
-//   each X Y C                           every call but Open and part, one after the other
+//   each X Y C                           every call but Open and part, one after the other; Withdraw of the number X
 //   .. LIST N places                     N places of the list are lent in this line
 //   N times .. | N times onward ..       the line N times, and its last answer; onward, both steps of the rule rise by one each time
 //   fill | put LIST I V                  the pattern into every place; one place
 //   counts S R M W L                     the four counts, and the last day
-//   past K L                             whether all places past the counts, past K of list one and past L of list two hold the pattern
-//   rule I | show days I                 a held rule; a day
+//   past K L | past K L N                whether all places past the counts, past K of list one and past L of list two hold the pattern; of the rules past N where
+//                                        that is more, since there can be holes; of the levels past the bound, since Open writes every cell before it
+//   rule I | show days I | show levels I the rule in a place, held or free; a day; a cell of the levels
 ghost use Prim.Native.Nat.{_≤_};
 ghost use lib.ListN.{length};
 
@@ -34,7 +35,7 @@ fn tell<'a>(
     ys: &'a [u16],
     cs: &'a [i32],
     days: &'a [u32],
-    marks: &'a [u32],
+    levels: &'a [u8],
     wxs: &'a [u16],
     wys: &'a [u16],
     wcs: &'a [i32],
@@ -54,11 +55,12 @@ fn tell<'a>(
         all,
         0,
         0,
+        0,
         xs,
         ys,
         cs,
         days,
-        marks,
+        levels,
         wxs,
         wys,
         wcs,
@@ -71,7 +73,11 @@ fn tell<'a>(
     o
 }
 
-// Writes whether the places past the counts, past the first k of list one and past the first l of list two still hold the pattern, all of them.
+// So many cells of the levels are the calls' own; Open writes every one.
+const BOUND: u32 = meaning::RULES as u32;
+
+// Writes whether the places past the counts, past the first k of list one and past the first l of list two still hold the pattern, all of them; of the rules past the line's
+// third number where that is more, and of the levels past the bound.
 fn past<'a>(
     ask: Ask,
     o: Office,
@@ -80,24 +86,29 @@ fn past<'a>(
     ys: &'a [u16],
     cs: &'a [i32],
     days: &'a [u32],
-    marks: &'a [u32],
+    levels: &'a [u8],
     wxs: &'a [u16],
     wys: &'a [u16],
     wcs: &'a [i32],
     one: &'a [u32],
     two: &'a [u32],
 ) -> Office {
+    let mut from = o.counts;
+    if from.rules < ask.third {
+        from.rules = ask.third;
+    }
     let s = cells::compared(
         pattern,
         true,
-        o.counts,
+        from,
+        BOUND,
         ask.first,
         ask.second,
         xs,
         ys,
         cs,
         days,
-        marks,
+        levels,
         wxs,
         wys,
         wcs,
@@ -119,7 +130,7 @@ fn made<'a>(
     ys: &'a [u16],
     cs: &'a [i32],
     days: &'a [u32],
-    marks: &'a [u32],
+    levels: &'a [u8],
     wxs: &'a [u16],
     wys: &'a [u16],
     wcs: &'a [i32],
@@ -127,17 +138,18 @@ fn made<'a>(
     two: &'a [u32],
 ) -> Office {
     match op {
-        words::OPEN => calls::open_steps(ask, o, xs, ys, cs, marks, wxs, wys, wcs),
-        words::WATCH => calls::watch(ask, o, xs, ys, cs, days, marks),
-        words::MARK => calls::mark(ask, o, xs, ys, cs, days, wxs, wys, wcs),
-        words::BACK => calls::back(ask, o, xs, ys, cs, marks, wxs, wys, wcs),
-        words::ADD => calls::add(ask, o, marks, wxs, wys, wcs),
-        words::TRIAL => calls::trial(ask, o, xs, ys, cs, days, marks, wxs, wys, wcs),
+        words::OPEN => calls::open_steps(ask, o, xs, ys, cs, wxs, wys, wcs),
+        words::WATCH => calls::watch(ask, o, xs, ys, cs, days, levels),
+        words::MARK => calls::mark(o, xs, ys, cs, days, levels, wxs, wys, wcs),
+        words::BACK => calls::back(ask, o, xs, ys, cs, wxs, wys, wcs),
+        words::WITHDRAW => calls::withdraw(ask, o, xs, ys, cs, wxs, wys, wcs),
+        words::ADD => calls::add(ask, o, wxs, wys, wcs),
+        words::TRIAL => calls::trial(ask, o, xs, ys, cs, days, levels, wxs, wys, wcs),
         words::CONSEQUENCES => {
-            calls::consequences(ask, o, xs, ys, cs, days, marks, wxs, wys, wcs)
+            calls::consequences(ask, o, xs, ys, cs, days, levels, wxs, wys, wcs)
         }
-        words::RING => { calls::ring_check(ask, o, xs, ys, cs, days, marks, wxs, wys, wcs, two) }
-        words::LAST => calls::last_day(o, xs, ys, cs, days, marks, wxs, wys, wcs),
+        words::RING => { calls::ring_check(ask, o, xs, ys, cs, days, levels, wxs, wys, wcs, two) }
+        words::LAST => calls::last_day(o, xs, ys, cs, days, levels, wxs, wys, wcs),
         words::PART => {
             show::part(desk::trial_part(one, two, o.last));
             o
@@ -150,7 +162,7 @@ fn made<'a>(
             ys,
             cs,
             days,
-            marks,
+            levels,
             wxs,
             wys,
             wcs,
@@ -165,7 +177,7 @@ fn made<'a>(
             ys,
             cs,
             days,
-            marks,
+            levels,
             wxs,
             wys,
             wcs,
@@ -177,7 +189,7 @@ fn made<'a>(
             o
         }
         _ => {
-            show::day(days, ask.first);
+            show::cell(ask, days, levels);
             o
         }
     }
@@ -189,7 +201,7 @@ fn lend(op: u32, ask: Ask, o: Office, other: Office) -> Office {
     let ys = o.ys;
     let cs = o.cs;
     let days = o.days;
-    let marks = o.marks;
+    let levels = o.levels;
     let wxs = o.wxs;
     let wys = o.wys;
     let wcs = o.wcs;
@@ -204,7 +216,7 @@ fn lend(op: u32, ask: Ask, o: Office, other: Office) -> Office {
         cells::lent_steps(ask, words::YS, &ys),
         cells::lent_amounts(ask, words::CS, &cs),
         cells::lent_numbers(ask, words::DAYS, &days),
-        cells::lent_numbers(ask, words::MARKS, &marks),
+        cells::lent_levels(ask, words::LEVELS, &levels),
         cells::lent_steps(ask, words::WXS, &wxs),
         cells::lent_steps(ask, words::WYS, &wys),
         cells::lent_amounts(ask, words::WCS, &wcs),
@@ -228,6 +240,7 @@ fn each(ask: Ask, o: Office) -> Office {
     let o = public(words::WATCH, ask, o);
     let o = public(words::MARK, ask, o);
     let o = public(words::BACK, ask, o);
+    let o = public(words::WITHDRAW, ask, o);
     let o = public(words::ADD, ask, o);
     let o = public(words::TRIAL, ask, o);
     let o = public(words::CONSEQUENCES, ask, o);

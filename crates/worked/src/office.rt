@@ -10,8 +10,6 @@ const RULE_PLACES: usize = meaning::RULES + 1;
 
 const STEP_PLACES: usize = meaning::STEPS + 1;
 
-const MARK_PLACES: usize = meaning::MARKS + 1;
-
 const WATCH_PLACES: usize = meaning::WATCHED + 1;
 
 // A reply's number and its two values.
@@ -29,7 +27,7 @@ pub struct Office {
     pub ys: [u16; RULE_PLACES],
     pub cs: [i32; RULE_PLACES],
     pub days: [u32; STEP_PLACES],
-    pub marks: [u32; MARK_PLACES],
+    pub levels: [u8; RULE_PLACES],
     pub wxs: [u16; WATCH_PLACES],
     pub wys: [u16; WATCH_PLACES],
     pub wcs: [i32; WATCH_PLACES],
@@ -55,7 +53,7 @@ pub fn fresh(counts: Counts) -> Office {
         ys: [7; RULE_PLACES],
         cs: [7; RULE_PLACES],
         days: [7; STEP_PLACES],
-        marks: [7; MARK_PLACES],
+        levels: [7; RULE_PLACES],
         wxs: [7; WATCH_PLACES],
         wys: [7; WATCH_PLACES],
         wcs: [7; WATCH_PLACES],
@@ -94,6 +92,7 @@ pub fn put(ask: Ask, o: Office) -> Office {
     let step = ask.y;
     let amount = ask.signed;
     let number = ask.second;
+    let level = (number % 256) as u8;
     let list = ask.list;
     match list {
         words::XS => {
@@ -116,9 +115,9 @@ pub fn put(ask: Ask, o: Office) -> Office {
                 next.days[at] = number;
             }
         }
-        words::MARKS => {
-            if at < MARK_PLACES {
-                next.marks[at] = number;
+        words::LEVELS => {
+            if at < RULE_PLACES {
+                next.levels[at] = level;
             }
         }
         words::WXS => {

@@ -7,34 +7,34 @@ use crate::words::Ask;
 use meaning::Counts;
 
 // Every piece of text that is written, each with a bar after it. A piece's number is its place here, from 0 on; those of the calls come first, by the calls' numbers.
-const PIECES: [u8; 164] =
-    *b":|: open|: watch|, mark|, back|, add|, trial|, consequences|, ring check|, last day|,| same| changed|, counts|, days|, ring|, one|, two|, first|, second|, part|: ?|";
+const PIECES: [u8; 175] =
+    *b":|: open|: watch|, mark|, back|, withdraw|, add|, trial|, consequences|, ring check|, last day|,| same| changed|, counts|, days|, ring|, one|, two|, first|, second|, part|: ?|";
 
 pub const COLON: u32 = 0;
 
-const COMMA: u32 = 10;
+const COMMA: u32 = 11;
 
-const SAME: u32 = 11;
+const SAME: u32 = 12;
 
-const CHANGED: u32 = 12;
+const CHANGED: u32 = 13;
 
-const COUNTS: u32 = 13;
+const COUNTS: u32 = 14;
 
-const DAYS: u32 = 14;
+const DAYS: u32 = 15;
 
-const RING: u32 = 15;
+const RING: u32 = 16;
 
-const ONE: u32 = 16;
+const ONE: u32 = 17;
 
-const TWO: u32 = 17;
+const TWO: u32 = 18;
 
-const FIRST: u32 = 18;
+const FIRST: u32 = 19;
 
-const SECOND: u32 = 19;
+const SECOND: u32 = 20;
 
-const PART: u32 = 20;
+const PART: u32 = 21;
 
-pub const UNKNOWN: u32 = 21;
+pub const UNKNOWN: u32 = 22;
 
 // What `lent::biased` makes of the amount 0.
 const ZERO: u64 = lent::BIAS;
@@ -47,17 +47,19 @@ const WATCHED: u32 = 32;
 
 const MARKED: u32 = 48;
 
-const ADDED: u32 = 80;
+const WITHDRAWN: u32 = 80;
 
-const CLASH: u32 = 86;
+const ADDED: u32 = 96;
 
-const TRIED: u32 = 96;
+const CLASH: u32 = 102;
 
-const TRIED_CLASH: u32 = 102;
+const TRIED: u32 = 112;
 
-const SPLIT: u32 = 112;
+const TRIED_CLASH: u32 = 118;
 
-const LAST_TOLD: u32 = 144;
+const SPLIT: u32 = 128;
+
+const LAST_TOLD: u32 = 160;
 
 // Writes the words as they are.
 pub fn text(words: &[u8]) {
@@ -189,11 +191,11 @@ fn plan(c: Counts, days: &[u32]) {
     }
 }
 
-// Writes the counts after Open, Watch, Mark, Back and Add, and the days where the call can write them.
+// Writes the counts after Open, Watch, Mark, Back, Withdraw and Add, and the days where the call can write them.
 fn planned(seen: u32, c: Counts, days: &[u32]) {
     match seen {
         WATCHED | MARKED => counts(c),
-        16 | 64 | ADDED => {
+        16 | 64 | WITHDRAWN | ADDED => {
             counts(c);
             plan(c, days);
         }
@@ -259,10 +261,32 @@ pub fn rule<'a>(xs: &'a [u16], ys: &'a [u16], cs: &'a [i32], i: u32) {
 }
 
 // Writes the day at place i, where there is one.
-pub fn day(days: &[u32], i: u32) {
-    say(COLON);
+fn day(days: &[u32], i: u32) {
     let at = i as usize;
     if at < days.len() {
         number(days[at]);
+    }
+}
+
+// Writes a space and the cell of a level.
+fn level_number(n: u8) {
+    number(n as u32);
+}
+
+// Writes the cell of the levels at place i, where there is one.
+fn level(levels: &[u8], i: u32) {
+    let at = i as usize;
+    if at < levels.len() {
+        level_number(levels[at]);
+    }
+}
+
+// Writes the cell at the line's place of the list that it names: the levels, else the days.
+pub fn cell<'a>(ask: Ask, days: &'a [u32], levels: &'a [u8]) {
+    say(COLON);
+    if ask.list == words::LEVELS {
+        level(levels, ask.first);
+    } else {
+        day(days, ask.first);
     }
 }

@@ -3,8 +3,8 @@ ghost use Prim.Native.Nat.{_≤_};
 
 // Every word that is known, each with a space after it: the calls, what else a line can ask for, the lists, and what is said of the line. A word's
 // number is its place here, from 1 on.
-const KNOWN: [u8; 155] =
-    *b"open watch mark back add trial consequences ring last part each counts put fill past rule show xs ys cs days marks wxs wys wcs one two times onward places ";
+const KNOWN: [u8; 165] =
+    *b"open watch mark back withdraw add trial consequences ring last part each counts put fill past rule show xs ys cs days levels wxs wys wcs one two times onward places ";
 
 // No word, or a word that is not known.
 pub const NONE: u32 = 0;
@@ -17,65 +17,67 @@ pub const MARK: u32 = 3;
 
 pub const BACK: u32 = 4;
 
-pub const ADD: u32 = 5;
+pub const WITHDRAW: u32 = 5;
 
-pub const TRIAL: u32 = 6;
+pub const ADD: u32 = 6;
 
-pub const CONSEQUENCES: u32 = 7;
+pub const TRIAL: u32 = 7;
 
-pub const RING: u32 = 8;
+pub const CONSEQUENCES: u32 = 8;
 
-pub const LAST: u32 = 9;
+pub const RING: u32 = 9;
 
-pub const PART: u32 = 10;
+pub const LAST: u32 = 10;
 
-pub const EACH: u32 = 11;
+pub const PART: u32 = 11;
 
-pub const COUNTS: u32 = 12;
+pub const EACH: u32 = 12;
 
-pub const PUT: u32 = 13;
+pub const COUNTS: u32 = 13;
 
-pub const FILL: u32 = 14;
+pub const PUT: u32 = 14;
 
-pub const PAST: u32 = 15;
+pub const FILL: u32 = 15;
 
-pub const RULE: u32 = 16;
+pub const PAST: u32 = 16;
 
-pub const SHOW: u32 = 17;
+pub const RULE: u32 = 17;
+
+pub const SHOW: u32 = 18;
 
 // The lists' names.
-pub const XS: u32 = 18;
+pub const XS: u32 = 19;
 
-pub const YS: u32 = 19;
+pub const YS: u32 = 20;
 
-pub const CS: u32 = 20;
+pub const CS: u32 = 21;
 
-pub const DAYS: u32 = 21;
+pub const DAYS: u32 = 22;
 
-pub const MARKS: u32 = 22;
+pub const LEVELS: u32 = 23;
 
-pub const WXS: u32 = 23;
+pub const WXS: u32 = 24;
 
-pub const WYS: u32 = 24;
+pub const WYS: u32 = 25;
 
-pub const WCS: u32 = 25;
+pub const WCS: u32 = 26;
 
-pub const ONE: u32 = 26;
+pub const ONE: u32 = 27;
 
-pub const TWO: u32 = 27;
+pub const TWO: u32 = 28;
 
 // What is said of the line.
-const TIMES: u32 = 28;
+const TIMES: u32 = 29;
 
-const ONWARD: u32 = 29;
+const ONWARD: u32 = 30;
 
-const PLACES: u32 = 30;
+const PLACES: u32 = 31;
 
 // A line that is only copied; no word asks for it.
-pub const HEADING: u32 = 31;
+pub const HEADING: u32 = 32;
 
 // Writing what the last call gave; no word asks for it.
-pub const TELL: u32 = 32;
+pub const TELL: u32 = 33;
 
 // How often a line is carried out at most.
 pub const MOST: u32 = 5000;

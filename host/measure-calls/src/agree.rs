@@ -1,7 +1,7 @@
 //! Holds the calls written by hand against the library: the same number, values, counts, tables and lists after every call, over random
 //! sequences of calls, with spoiled and short tables among them.
 
-use crate::byhand::CONFLICT;
+use crate::byhand::{ABSENT, CONFLICT, NOMARK};
 use crate::office::{Call, Office, Outcome, BY_HAND, LIBRARY};
 use common::Random;
 use planner::bounds::{MARKS, RULES, STEPS, WATCHED};
@@ -18,9 +18,12 @@ pub fn both(office: &Office, call: Call) -> (Office, Outcome) {
     (ours, wanted)
 }
 
-/// Returns how many calls were compared, and how many of them gave each number from DONE to NOMARK.
-pub fn check() -> (usize, [usize; 8]) {
-    let (mut compared, mut given) = (0, [0; 8]);
+/// The numbers that the calls give: DONE to NOMARK, and ABSENT at the end.
+const NUMBERS: usize = NOMARK as usize + 2;
+
+/// Returns how many calls were compared, and how many of them gave each number.
+pub fn check() -> (usize, [usize; NUMBERS]) {
+    let (mut compared, mut given) = (0, [0; NUMBERS]);
     for seed in 0..SEQUENCES {
         let random = &mut Random::new(seed);
         let steps = if seed % 8 == 0 { 1 + random.below(STEPS) } else { 1 + random.below(9) };
@@ -29,7 +32,7 @@ pub fn check() -> (usize, [usize; 8]) {
             fill(&mut office, random);
         }
         for _ in 0..CALLS {
-            let call = any_call(steps, random);
+            let call = any_call(&office, random);
             let number = if random.chance(120) {
                 both(&spoiled(&office, random), call).1.number
             } else {
@@ -39,7 +42,7 @@ pub fn check() -> (usize, [usize; 8]) {
                 outcome.number
             };
             compared += 1;
-            given[number as usize] += 1;
+            given[if number == ABSENT { NUMBERS - 1 } else { number as usize }] += 1;
         }
     }
     assert!(given.iter().all(|count| *count > 0), "some number was never given: {:?}", given);
@@ -71,8 +74,9 @@ fn fill(office: &mut Office, random: &mut Random) {
     }
 }
 
-fn any_call(steps: usize, random: &mut Random) -> Call {
-    match random.below(26) {
+fn any_call(office: &Office, random: &mut Random) -> Call {
+    let steps = office.counts.steps as usize;
+    match random.below(29) {
         0..=9 => Call::Add(any_rule(steps, random)),
         10..=13 => Call::Trial(any_rule(steps, random)),
         14..=16 => Call::Watch(any_rule(steps, random)),
@@ -80,8 +84,18 @@ fn any_call(steps: usize, random: &mut Random) -> Call {
         19..=20 => Call::Back,
         21..=22 => Call::LastDay,
         23 if random.chance(150) => Call::Open(random.pick(&[0, steps as u32, STEPS as u32 + 1])),
+        24..=26 => Call::Withdraw(any_number(office, random)),
         _ => Call::Consequences,
     }
+}
+
+/// The number of a rule held, or now and then of a place that is free, or of none.
+fn any_number(office: &Office, random: &mut Random) -> u32 {
+    let held: Vec<u32> = (0..RULES as u32).filter(|number| office.levels[*number as usize] != 0).collect();
+    if held.is_empty() || random.chance(120) {
+        return random.pick(&[0, 1, office.counts.rules, RULES as u32 - 1, RULES as u32, 65_536, u32::MAX]);
+    }
+    random.pick(&held)
 }
 
 /// A rule over the steps, now and then one that is out of bounds.
@@ -95,13 +109,14 @@ fn any_rule(steps: usize, random: &mut Random) -> Rule {
     Rule { first: random.between(0, last + past) as u32, second: random.between(0, last + past) as u32, amount }
 }
 
-/// The office with one thing spoiled: a count, the last day, a cell, or a table or list with a place too few.
+/// The office with one thing spoiled: a count, the last day, a level, another cell, or a table or list with a place too few.
 fn spoiled(office: &Office, random: &mut Random) -> Office {
     let mut spoiled = office.clone();
     let bound = random.pick(&[MARKS, STEPS, WATCHED, RULES]) as u32;
     let number = random.pick(&[0u32, 1, 2, 5, bound, bound + 1, u32::MAX]);
     let place = random.below(12);
-    match random.below(22) {
+    let deepest = spoiled.counts.marks as u8 + 1;
+    match random.below(25) {
         0 => spoiled.counts.steps = number,
         1 => spoiled.counts.rules = number,
         2 => spoiled.counts.marks = number,
@@ -111,17 +126,25 @@ fn spoiled(office: &Office, random: &mut Random) -> Office {
         6 => spoiled.cs[place] = number as i32,
         7 | 8 => spoiled.days[place] = spoiled.days[place].wrapping_add(1),
         9 => spoiled.days[place] = number,
-        10 => spoiled.marks[place] = number,
+        10 => spoiled.levels[place] = random.pick(&[0, 1, deepest, deepest + 1, u8::MAX]),
         11 => spoiled.wxs[place] = number as u16,
         12 => spoiled.wcs[place] = number as i32,
         13 => spoiled.xs.truncate(RULES - 1),
         14 => spoiled.cs.truncate(RULES - 1),
         15 => spoiled.days.truncate(STEPS - 1),
-        16 => spoiled.marks.truncate(MARKS - 1),
+        16 => spoiled.levels.truncate(RULES - 1),
         17 => spoiled.wys.truncate(WATCHED - 1),
         18 => spoiled.one.truncate(random.below(STEPS + 1)),
         19 => spoiled.counts.last = random.pick(&[spoiled.counts.last.wrapping_add(1), spoiled.counts.last.wrapping_sub(1)]),
         20 => spoiled.counts.last = number,
+        21 => spoiled.counts.rules = random.pick(&[spoiled.counts.rules.wrapping_add(1), spoiled.counts.rules.wrapping_sub(1)]),
+        // A rule more or less, and counted.
+        22 => {
+            let more = spoiled.levels[place] == 0;
+            spoiled.levels[place] = if more { 1 } else { 0 };
+            spoiled.counts.rules = if more { spoiled.counts.rules + 1 } else { spoiled.counts.rules - 1 };
+        }
+        23 => spoiled.levels[RULES - 1] = random.pick(&[0, 1, u8::MAX]),
         _ => spoiled.two.truncate(random.below(STEPS + 1)),
     }
     spoiled

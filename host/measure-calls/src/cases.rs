@@ -4,7 +4,7 @@
 use crate::agree::both;
 use crate::byhand::{CONFLICT, DONE, FULL};
 use crate::office::{Call, Office, BY_HAND, LIBRARY};
-use crate::shapes::{clashing, crowded, moving, office, rule, still, tight, Shape, Size};
+use crate::shapes::{clashing, crowded, moving, office, rule, sparing, still, tight, Shape, Size};
 use planner::calls::Rule;
 
 pub struct Case {
@@ -23,6 +23,8 @@ pub const ADD_CLASHING: &str = "Add, conflict, up to 16 rules";
 pub const ADD_CROWDED: &str = "Add, conflict, 16 rules, crowded";
 pub const ADD_LONGEST: &str = "Add, conflict, as many as steps";
 pub const BACK: &str = "Back, half of the rules go";
+pub const WITHDRAW_SPARING: &str = "Withdraw, with days to spare";
+pub const WITHDRAW_MOVING: &str = "Withdraw, moves most steps";
 pub const TRIAL: &str = "Trial, all but one step moves";
 pub const RING: &str = "Ring check, as many as steps";
 pub const SPLIT_SOME: &str = "Consequences, 64 steps watched";
@@ -44,6 +46,9 @@ pub fn cases(shape: Shape, steps: usize, rules: usize, watched: usize) -> Vec<Ca
         case(ADD_MOVING, Call::Add(moving), DONE, before_add.clone()),
         case(TRIAL, Call::Trial(moving), DONE, before_add.clone()),
         clash(shape, &before_add),
+        case(WITHDRAW_SPARING, Call::Withdraw(sparing(&held)), DONE, held.clone()),
+        // The rule that moved them, and that came last.
+        case(WITHDRAW_MOVING, Call::Withdraw(before_add.counts.rules), DONE, both(&before_add, Call::Add(moving)).0),
         case(BACK, Call::Back, DONE, held),
     ];
     if shape == Shape::Chain {
@@ -66,8 +71,8 @@ fn case(name: &'static str, call: Call, wanted: u32, office: Office) -> Case {
     let (steps, ring) = (office.counts.steps as usize, given.values[0] as usize);
     let moved = office.days.iter().zip(&after.days).filter(|(before, after)| before != after).count();
     match name {
-        ADD_STILL => assert!(moved == 0, "{} steps move", moved),
-        ADD_MOVING => assert!(moved == steps - 1, "{} of {} steps move", moved, steps),
+        ADD_STILL | WITHDRAW_SPARING => assert!(moved == 0, "{} steps move", moved),
+        ADD_MOVING | WITHDRAW_MOVING => assert!(moved == steps - 1, "{} of {} steps move", moved, steps),
         ADD_CLASHING => assert!(ring <= LONG, "a ring of {} rules", ring),
         ADD_CROWDED => assert!(ring == LONG, "a ring of {} rules", ring),
         ADD_LONGEST => assert!(ring == steps, "a ring of {} rules and {} steps", ring, steps),

@@ -19,7 +19,7 @@ fn main() {
     let mut words = std::env::args().skip(1);
     let (chart, table) = (words.next().expect("a file for the chart"), words.next().expect("a file for the table"));
     let (compared, given) = agree::check();
-    println!("{} random calls by the library and by hand: the same answers and tables. How many gave each number, DONE to NOMARK: {:?}", compared, given);
+    println!("{} random calls by the library and by hand: the same answers and tables. How many gave each number, DONE to NOMARK and ABSENT: {:?}", compared, given);
     let rows = table::rows();
     print!("{}", table::targets(&rows));
     let lines = growth::lines();

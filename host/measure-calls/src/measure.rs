@@ -17,14 +17,15 @@ pub struct Times {
     pub plain: f64,
 }
 
-/// Measures a case. Before each call the counts and the days are set again, which undoes it: places past the counts may hold anything. The time that this
-/// takes is measured as well and taken off.
+/// Measures a case. Before each call the counts, the days and the levels are set again, which undoes it: free places, and those past the counts, may hold anything. The
+/// time that this takes is measured as well and taken off.
 pub fn measure(case: &Case) -> Times {
-    let (counts, days) = (case.office.counts, case.office.days.clone());
+    let (counts, days, levels) = (case.office.counts, case.office.days.clone(), case.office.levels.clone());
     let call: Call = case.call;
     let undo = |office: &mut Office| {
         office.counts = counts;
         office.days.copy_from_slice(&days);
+        office.levels.copy_from_slice(&levels);
     };
     let by = |engine: &'static Engine| {
         move |office: &mut Office| {

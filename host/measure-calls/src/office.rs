@@ -1,7 +1,7 @@
 //! Tables with everything that a call is lent, and the two engines that carry calls out on them.
 
 use crate::byhand;
-use planner::bounds::{MARKS, RULES, STEPS, WATCHED};
+use planner::bounds::{RULES, STEPS, WATCHED};
 use planner::calls::{self, Counts, Rule, Tables};
 
 /// The calls of one engine.
@@ -10,6 +10,7 @@ pub struct Engine {
     watch: fn(&mut Counts, &mut Tables, Rule) -> u32,
     mark: fn(&mut Counts, &mut Tables) -> u32,
     back: fn(&mut Counts, &mut Tables) -> u32,
+    withdraw: fn(&mut Counts, &mut Tables, u32) -> u32,
     add: fn(&mut Counts, &mut Tables, &mut [u32], Rule, &mut u32) -> u32,
     trial: fn(&Counts, &mut Tables, &mut [u32], &mut [u32], Rule, &mut u32) -> u32,
     consequences: fn(&Counts, &mut Tables, &mut [u32], &mut [u32], &mut u32, &mut u32) -> u32,
@@ -23,6 +24,7 @@ pub static LIBRARY: Engine = Engine {
     watch: calls::watch,
     mark: calls::mark,
     back: calls::back,
+    withdraw: calls::withdraw,
     add: calls::add,
     trial: calls::trial,
     consequences: calls::consequences,
@@ -36,6 +38,7 @@ pub static BY_HAND: Engine = Engine {
     watch: byhand::watch,
     mark: byhand::mark,
     back: byhand::back,
+    withdraw: byhand::withdraw,
     add: byhand::add,
     trial: byhand::trial,
     consequences: byhand::consequences,
@@ -52,6 +55,7 @@ pub enum Call {
     Watch(Rule),
     Mark,
     Back,
+    Withdraw(u32),
     Add(Rule),
     Trial(Rule),
     Consequences,
@@ -78,7 +82,7 @@ pub struct Office {
     pub ys: Vec<u16>,
     pub cs: Vec<i32>,
     pub days: Vec<u32>,
-    pub marks: Vec<u32>,
+    pub levels: Vec<u8>,
     pub wxs: Vec<u16>,
     pub wys: Vec<u16>,
     pub wcs: Vec<i32>,
@@ -95,7 +99,7 @@ impl Office {
             ys: vec![0; RULES],
             cs: vec![0; RULES],
             days: vec![0; STEPS],
-            marks: vec![0; MARKS],
+            levels: vec![0; RULES],
             wxs: vec![0; WATCHED],
             wys: vec![0; WATCHED],
             wcs: vec![0; WATCHED],
@@ -104,11 +108,13 @@ impl Office {
         }
     }
 
+    /// Holds a rule at the lowest free place, as one from before all marks. There is a free place, and none below the rules held.
     pub fn hold(&mut self, rule: Rule) {
         let at = self.counts.rules as usize;
         self.xs[at] = rule.first as u16;
         self.ys[at] = rule.second as u16;
         self.cs[at] = rule.amount;
+        self.levels[at] = 1;
         self.counts.rules += 1;
     }
 
@@ -122,8 +128,8 @@ impl Office {
 
     /// Carries a call out.
     pub fn carry(&mut self, engine: &Engine, call: Call) -> Outcome {
-        let Office { counts, xs, ys, cs, days, marks, wxs, wys, wcs, one, two } = self;
-        let t = &mut Tables { xs, ys, cs, days, marks, wxs, wys, wcs };
+        let Office { counts, xs, ys, cs, days, levels, wxs, wys, wcs, one, two } = self;
+        let t = &mut Tables { xs, ys, cs, days, levels, wxs, wys, wcs };
         let mut values = [0; 2];
         let [first, second] = &mut values;
         let number = match call {
@@ -131,6 +137,7 @@ impl Office {
             Call::Watch(rule) => (engine.watch)(counts, t, rule),
             Call::Mark => (engine.mark)(counts, t),
             Call::Back => (engine.back)(counts, t),
+            Call::Withdraw(number) => (engine.withdraw)(counts, t, number),
             Call::Add(rule) => (engine.add)(counts, t, one, rule, first),
             Call::Trial(rule) => (engine.trial)(counts, t, one, two, rule, first),
             Call::Consequences => (engine.consequences)(counts, t, one, two, first, second),
@@ -147,8 +154,8 @@ impl Office {
         days.into_boxed_slice().try_into().expect("a place for every number")
     }
 
-    /// One plain pass over the rules held: how many the days break. It tests nothing else: the days have a place for whatever a step is, so that no index
-    /// needs a test.
+    /// One plain pass over the rules held, which stand at the first places: how many the days break. It tests nothing else: the days have a place for whatever a step
+    /// is, so that no index needs a test.
     #[inline(never)]
     pub fn plain_pass(&self, days: &WideDays) -> u32 {
         let rules = self.counts.rules as usize;

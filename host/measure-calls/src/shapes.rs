@@ -53,8 +53,9 @@ pub fn office(shape: Shape, size: Size) -> Office {
         let amount = i64::from(office.days[x]) - i64::from(office.days[y]) + random.between(-200, 400);
         office.watch(rule(x, y, amount));
     }
-    for mark in 0..size.marks {
-        office.marks[mark] = ((mark + 1) * size.rules / 2 / size.marks) as u32;
+    // Each mark was set when so many rules were held.
+    for held in (1..=size.marks).map(|mark| mark * size.rules / 2 / size.marks) {
+        office.levels[held..size.rules].iter_mut().for_each(|level| *level += 1);
     }
     office.counts.marks = size.marks as u32;
     office
@@ -103,6 +104,13 @@ fn plan(office: &mut Office) {
         }
     }
     office.counts.last = office.days[..office.counts.steps as usize].iter().copied().max().expect("a step");
+}
+
+/// The number of a rule held that has days to spare.
+pub fn sparing(office: &Office) -> u32 {
+    let day = |step: u16| i64::from(office.days[usize::from(step)]);
+    let spare = |at: usize| day(office.ys[at]) + i64::from(office.cs[at]) - day(office.xs[at]);
+    (0..office.counts.rules).find(|number| spare(*number as usize) > 0).expect("a rule with days to spare")
 }
 
 /// A rule that the days keep.

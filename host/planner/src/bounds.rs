@@ -3,7 +3,7 @@
 /// There are 1 to so many steps, numbered from 0.
 pub const STEPS: usize = 1024;
 
-/// At most so many rules are held, numbered from 0 in order of adding.
+/// At most so many rules are held. The number of a rule is its place, from 0; a new rule takes the lowest free place.
 pub const RULES: usize = 4096;
 
 /// The largest amount; the smallest is `-LARGEST`.

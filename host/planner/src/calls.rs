@@ -8,7 +8,7 @@
 pub struct Counts {
     /// Steps, numbered from 0.
     pub steps: u32,
-    /// Rules held; the next one gets this number.
+    /// Rules held; the number of the next one is the lowest free place, which the levels tell.
     pub rules: u32,
     /// Marks open.
     pub marks: u32,
@@ -44,7 +44,7 @@ pub struct Rule {
     pub amount: i32,
 }
 
-/// The lent tables: the columns of the rules held, the days, the marks, and the columns of the watched rules. They may have any length.
+/// The lent tables: the columns of the rules held, the days, the levels of the rules, and the columns of the watched rules. They may have any length.
 pub struct Tables<'a> {
     /// First steps of the rules held.
     pub xs: &'a mut [u16],
@@ -54,8 +54,8 @@ pub struct Tables<'a> {
     pub cs: &'a mut [i32],
     /// The day of each step.
     pub days: &'a mut [u32],
-    /// For each open mark the rules held when it was set.
-    pub marks: &'a mut [u32],
+    /// For each place 0 where it is free, `k + 1` for a rule that was added while `k` marks were open.
+    pub levels: &'a mut [u8],
     /// First steps of the watched rules.
     pub wxs: &'a mut [u16],
     /// Second steps of the watched rules.
@@ -74,8 +74,8 @@ pub struct View<'a> {
     pub cs: &'a [i32],
     /// The day of each step.
     pub days: &'a [u32],
-    /// For each open mark the rules held when it was set.
-    pub marks: &'a [u32],
+    /// For each place 0 where it is free, `k + 1` for a rule that was added while `k` marks were open.
+    pub levels: &'a [u8],
     /// First steps of the watched rules.
     pub wxs: &'a [u16],
     /// Second steps of the watched rules.
@@ -94,12 +94,12 @@ pub struct Names<'a> {
 
 // The tables of every call, as C has them; `$c` is `const` or `mut` for each in turn.
 macro_rules! declare {
-    ($( fn $name:ident($($before:ident: $before_type:ty,)* [$x:ident $y:ident $c:ident $d:ident $m:ident $wx:ident $wy:ident $wc:ident] $($after:ident: $after_type:ty,)*); )*) => {
+    ($( fn $name:ident($($before:ident: $before_type:ty,)* [$x:ident $y:ident $c:ident $d:ident $l:ident $wx:ident $wy:ident $wc:ident] $($after:ident: $after_type:ty,)*); )*) => {
         extern "C" {
             $( fn $name(
                 $($before: $before_type,)*
                 xs: *$x u16, xs_len: usize, ys: *$y u16, ys_len: usize, cs: *$c i32, cs_len: usize,
-                days: *$d u32, days_len: usize, marks: *$m u32, marks_len: usize,
+                days: *$d u32, days_len: usize, levels: *$l u8, levels_len: usize,
                 wxs: *$wx u16, wxs_len: usize, wys: *$wy u16, wys_len: usize, wcs: *$wc i32, wcs_len: usize,
                 $($after: $after_type,)*
             ) -> u32; )*
@@ -108,11 +108,12 @@ macro_rules! declare {
 }
 
 declare! {
-    fn dates_open(counts: *mut Counts, [const const const mut const const const const] steps: u32,);
+    fn dates_open(counts: *mut Counts, [const const const mut mut const const const] steps: u32,);
     fn dates_watch(counts: *mut Counts, [const const const const const mut mut mut] x: u32, y: u32, c: i32,);
-    fn dates_mark(counts: *mut Counts, [const const const const mut const const const]);
-    fn dates_back(counts: *mut Counts, [const const const mut const const const const]);
-    fn dates_add(counts: *mut Counts, [mut mut mut mut const const const const] list: *mut u32, list_len: usize, x: u32, y: u32, c: i32, value: *mut u32,);
+    fn dates_mark(counts: *mut Counts, [const const const const const const const const]);
+    fn dates_back(counts: *mut Counts, [const const const mut mut const const const]);
+    fn dates_withdraw(counts: *mut Counts, [const const const mut mut const const const] number: u32,);
+    fn dates_add(counts: *mut Counts, [mut mut mut mut mut const const const] list: *mut u32, list_len: usize, x: u32, y: u32, c: i32, value: *mut u32,);
     fn dates_trial(counts: *const Counts, [const const const const const const const const]
         one: *mut u32, one_len: usize, two: *mut u32, two_len: usize, x: u32, y: u32, c: i32, value: *mut u32,);
     fn dates_consequences(counts: *const Counts, [const const const const const const const const]
@@ -120,7 +121,7 @@ declare! {
     fn dates_ring_check(counts: *const Counts, [const const const const const const const const]
         list: *const u32, list_len: usize, x: u32, y: u32, c: i32, verdict: *mut u32,);
     fn dates_last_day(counts: *const Counts, [const const const const const const const const] day: *mut u32,);
-    fn dates_start(counts: *mut Counts, record: *mut Record, [const const const mut const const const const]
+    fn dates_start(counts: *mut Counts, record: *mut Record, [const const const mut mut const const const]
         names: *const u8, names_len: usize, lens: *const u8, lens_len: usize,);
     fn dates_command(text: *const u8, text_len: usize, counts: *mut Counts, record: *mut Record, [mut mut mut mut mut const const const]
         names: *mut u8, names_len: usize, lens: *mut u8, lens_len: usize, out: *mut u8, out_len: usize, read: *mut usize, written: *mut usize,);
@@ -139,7 +140,7 @@ macro_rules! lend {
             $name(
                 $($before,)*
                 $t.xs.as_mut_ptr(), $t.xs.len(), $t.ys.as_mut_ptr(), $t.ys.len(), $t.cs.as_mut_ptr(), $t.cs.len(),
-                $t.days.as_mut_ptr(), $t.days.len(), $t.marks.as_mut_ptr(), $t.marks.len(),
+                $t.days.as_mut_ptr(), $t.days.len(), $t.levels.as_mut_ptr(), $t.levels.len(),
                 $t.wxs.as_mut_ptr(), $t.wxs.len(), $t.wys.as_mut_ptr(), $t.wys.len(), $t.wcs.as_mut_ptr(), $t.wcs.len(),
                 $($after,)*
             )
@@ -155,7 +156,7 @@ macro_rules! show {
             $name(
                 $($before,)*
                 $t.xs.as_ptr(), $t.xs.len(), $t.ys.as_ptr(), $t.ys.len(), $t.cs.as_ptr(), $t.cs.len(),
-                $t.days.as_ptr(), $t.days.len(), $t.marks.as_ptr(), $t.marks.len(),
+                $t.days.as_ptr(), $t.days.len(), $t.levels.as_ptr(), $t.levels.len(),
                 $t.wxs.as_ptr(), $t.wxs.len(), $t.wys.as_ptr(), $t.wys.len(), $t.wcs.as_ptr(), $t.wcs.len(),
                 $($after,)*
             )
@@ -173,7 +174,7 @@ pub fn watch(counts: &mut Counts, t: &mut Tables, r: Rule) -> u32 {
     lend!(dates_watch(counts; t; r.first, r.second, r.amount))
 }
 
-/// Mark: the rule count is the newest mark.
+/// Mark: one more mark is open; no table is written.
 pub fn mark(counts: &mut Counts, t: &mut Tables) -> u32 {
     lend!(dates_mark(counts; t;))
 }
@@ -183,7 +184,12 @@ pub fn back(counts: &mut Counts, t: &mut Tables) -> u32 {
     lend!(dates_back(counts; t;))
 }
 
-/// Add: the rule is held, and `value` is how many steps moved; on CONFLICT the ring, the shortest there is, is in the list, and `value` is its length.
+/// Withdraw: the rule held under the number is dropped, whenever it was added; the others keep their numbers.
+pub fn withdraw(counts: &mut Counts, t: &mut Tables, number: u32) -> u32 {
+    lend!(dates_withdraw(counts; t; number))
+}
+
+/// Add: the rule is held at the lowest free place, and `value` is how many steps moved; on CONFLICT the ring, the shortest there is, is in the list, and `value` is its length.
 pub fn add(counts: &mut Counts, t: &mut Tables, list: &mut [u32], r: Rule, value: &mut u32) -> u32 {
     lend!(dates_add(counts; t; list.as_mut_ptr(), list.len(), r.first, r.second, r.amount, value))
 }

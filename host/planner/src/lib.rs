@@ -1,8 +1,9 @@
 //! A date engine whose promises are proved, as safe Rust.
 //!
 //! A [`Planner`] keeps rules over steps, such as "drying at least two days after cutting", and gives every step its earliest day. A rule that cannot be kept is
-//! refused with the shortest [`Ring`] of rules that says why; marks remember what was held, and going back restores it; watched rules are split into those that always
-//! hold and those that never do; the last day of the plan is at hand after every call. [`Planner::command`] and [`run_script`] take the same rules as SMT-LIB scripts.
+//! refused with the shortest [`Ring`] of rules that says why; any rule is withdrawn by its number, however many came after it; marks remember what was held, and going
+//! back restores it; watched rules are split into those that always hold and those that never do; the last day of the plan is at hand after every call.
+//! [`Planner::command`] and [`run_script`] take the same rules as SMT-LIB scripts.
 //!
 //! ```
 //! use planner::{Planner, Refusal, Rule};

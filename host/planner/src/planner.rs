@@ -1,6 +1,6 @@
-//! The planner: the nine calls over tables that it owns.
+//! The planner: the ten calls over tables that it owns.
 
-use crate::bounds::{STEPS, WATCHED};
+use crate::bounds::{RULES, STEPS, WATCHED};
 use crate::calls::{self, Counts, Record};
 use crate::refusal::Refusal;
 use crate::ring::Ring;
@@ -99,7 +99,7 @@ impl Planner {
         Ok(watched)
     }
 
-    /// **Add**: holds one more rule, brings the days to the earliest plan, and says how many steps moved.
+    /// **Add**: holds one more rule, under the number that [`next_number`](Planner::next_number) says, brings the days to the earliest plan, and says how many steps moved.
     ///
     /// Refused with [`Refusal::Step`], [`Refusal::Amount`], [`Refusal::Full`] where 4,096 rules are held, and with [`Refusal::Conflict`] exactly when no
     /// arrangement keeps the rule along with those held; its [`Ring`], the shortest there is, says why.
@@ -121,7 +121,7 @@ impl Planner {
         Ok(Moved(value))
     }
 
-    /// **Mark**: remembers the rules held now. Refused with [`Refusal::Full`] where 64 marks are open.
+    /// **Mark**: remembers the rules held now; those that come are of a new level. Refused with [`Refusal::Full`] where 64 marks are open.
     ///
     /// ```
     /// use planner::{Planner, Rule};
@@ -130,15 +130,15 @@ impl Planner {
     /// planner.mark()?;
     /// planner.add(Rule::new(0, 1, -2))?;
     /// planner.mark()?;
-    /// assert_eq!(planner.marks(), [0, 1]);
+    /// assert_eq!((planner.counts().marks, planner.level(0)), (2, Some(1)));
     /// # Ok::<(), planner::Refusal>(())
     /// ```
     pub fn mark(&mut self) -> Result<(), Refusal> {
         Refusal::judge_plain(calls::mark(&mut self.counts, &mut self.owned.lend().0))
     }
 
-    /// **Back**: drops the newest mark and every rule added after it; the days are the earliest plan of the rules left. The watched list stays. Refused with
-    /// [`Refusal::NoMark`] where no mark is open.
+    /// **Back**: drops the newest mark and every rule added after it; the days are the earliest plan of the rules left, which are those held at the mark and not withdrawn
+    /// since. The watched list stays. Refused with [`Refusal::NoMark`] where no mark is open.
     ///
     /// ```
     /// use planner::{Planner, Refusal, Rule};
@@ -155,6 +155,31 @@ impl Planner {
     /// ```
     pub fn back(&mut self) -> Result<(), Refusal> {
         Refusal::judge_plain(calls::back(&mut self.counts, &mut self.owned.lend().0))
+    }
+
+    /// **Withdraw**: takes the rule held under a number away, whenever it was added; the days are the earliest plan of the rest. The others keep their numbers, and the
+    /// place is free for the next rule. Marks and the watched list stay, and [`back`](Planner::back) does not bring the rule back. Refused with [`Refusal::Absent`] where no
+    /// rule is held under the number.
+    ///
+    /// ```
+    /// use planner::{Planner, Refusal, Rule};
+    ///
+    /// let mut planner = Planner::open(4)?;
+    /// planner.add(Rule::new(0, 1, -2))?;
+    /// planner.add(Rule::new(1, 2, -3))?;
+    /// planner.add(Rule::new(2, 3, -1))?;
+    /// assert_eq!(planner.days(), [0, 2, 5, 6]);
+    /// planner.withdraw(1)?;
+    /// assert_eq!(planner.days(), [0, 2, 0, 1]);
+    /// assert_eq!(planner.withdraw(1), Err(Refusal::Absent));
+    /// // The next rule takes the free place, and so would a refused one.
+    /// assert_eq!(planner.trial(Rule::new(1, 0, 1)).unwrap_err().ring().unwrap().numbers(), [1, 0]);
+    /// planner.add(Rule::new(3, 0, 5))?;
+    /// assert_eq!(planner.rules().nth(1), Some((1, Rule::new(3, 0, 5))));
+    /// # Ok::<(), Refusal>(())
+    /// ```
+    pub fn withdraw(&mut self, number: u32) -> Result<(), Refusal> {
+        Refusal::judge_plain(calls::withdraw(&mut self.counts, &mut self.owned.lend().0, number))
     }
 
     /// **Trial**: answers as [`add`](Planner::add) would, with the days that all steps would have or the same ring, and changes nothing.
@@ -199,7 +224,8 @@ impl Planner {
         Ok(Consequences { always: always[..held as usize].to_vec(), never: never[..excluded as usize].to_vec() })
     }
 
-    /// **Ring check**: whether the list is a negative ring that starts with the rule under its would-be number and goes on over rules held. It need not be the shortest.
+    /// **Ring check**: whether the list is a negative ring that starts with the rule under its would-be number ([`next_number`](Planner::next_number)) and goes on over
+    /// rules held. It need not be the shortest.
     /// Refused with [`Refusal::Step`] and [`Refusal::Amount`].
     ///
     /// ```
@@ -247,23 +273,57 @@ impl Planner {
         &self.owned.days[..self.counts.steps as usize]
     }
 
-    /// The rules held, by their numbers from 0.
+    /// The rules held, each with its number, rising. How many they are is in [`counts`](Planner::counts).
     ///
     /// ```
     /// use planner::{Planner, Rule};
     ///
     /// let mut planner = Planner::open(2)?;
     /// planner.add(Rule::new(0, 1, -2))?;
-    /// assert_eq!(planner.rules().collect::<Vec<_>>(), [Rule::new(0, 1, -2)]);
+    /// planner.add(Rule::new(1, 0, 7))?;
+    /// assert_eq!(planner.rules().collect::<Vec<_>>(), [(0, Rule::new(0, 1, -2)), (1, Rule::new(1, 0, 7))]);
+    /// planner.withdraw(0)?;
+    /// assert_eq!(planner.rules().collect::<Vec<_>>(), [(1, Rule::new(1, 0, 7))]);
     /// # Ok::<(), planner::Refusal>(())
     /// ```
-    pub fn rules(&self) -> impl ExactSizeIterator<Item = Rule> + '_ {
-        (0..self.counts.rules).map(move |number| self.held(number))
+    pub fn rules(&self) -> impl Iterator<Item = (u32, Rule)> + '_ {
+        (0..RULES as u32).filter(move |number| self.level(*number).is_some()).map(move |number| (number, self.held(number)))
     }
 
-    /// The marks that are open, the oldest first: how many rules were held when each was set.
-    pub fn marks(&self) -> &[u32] {
-        &self.owned.marks[..self.counts.marks as usize]
+    /// The rule held under a number, where there is one.
+    ///
+    /// ```
+    /// use planner::{Planner, Rule};
+    ///
+    /// let mut planner = Planner::open(2)?;
+    /// planner.add(Rule::new(0, 1, -2))?;
+    /// assert_eq!((planner.rule(0), planner.rule(1)), (Some(Rule::new(0, 1, -2)), None));
+    /// # Ok::<(), planner::Refusal>(())
+    /// ```
+    pub fn rule(&self, number: u32) -> Option<Rule> {
+        self.level(number).map(|_| self.held(number))
+    }
+
+    /// At which level the rule held under a number was added: how many marks were open then.
+    pub fn level(&self, number: u32) -> Option<u32> {
+        self.owned.levels.get(number as usize).and_then(|cell| u32::from(*cell).checked_sub(1))
+    }
+
+    /// The number that the next rule gets, and that a refused one would have had: the lowest under which none is held; 4,096 where there is no such place.
+    ///
+    /// ```
+    /// use planner::{Planner, Rule};
+    ///
+    /// let mut planner = Planner::open(2)?;
+    /// planner.add(Rule::new(0, 1, -2))?;
+    /// planner.add(Rule::new(0, 1, -3))?;
+    /// assert_eq!(planner.next_number(), 2);
+    /// planner.withdraw(0)?;
+    /// assert_eq!(planner.next_number(), 0);
+    /// # Ok::<(), planner::Refusal>(())
+    /// ```
+    pub fn next_number(&self) -> u32 {
+        self.owned.levels.iter().take_while(|cell| **cell != 0).count() as u32
     }
 
     /// The watched rules, by their numbers from 0.
@@ -278,11 +338,11 @@ impl Planner {
 
     /// The ring in a list, with the rules that it speaks of: the refused one has the next number.
     fn ring(&self, list: &[u32], length: u32, refused: Rule) -> Ring {
-        let next = self.counts.rules;
+        let next = self.next_number();
         Ring::of(&list[..length as usize], |number| if number == next { refused } else { self.held(number) })
     }
 
-    /// The rule held under a number.
+    /// The rule at the place of a number.
     fn held(&self, number: u32) -> Rule {
         let i = number as usize;
         Rule::new(self.owned.xs[i].into(), self.owned.ys[i].into(), self.owned.cs[i])

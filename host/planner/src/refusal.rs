@@ -38,10 +38,12 @@ pub enum Refusal {
     Name,
     /// 11: a script over 65,536 bytes, a name over 32, terms more than 16 deep, or more than 256 names in one `get-value`.
     Size,
+    /// 12: Withdraw of a number under which no rule is held.
+    Absent,
 }
 
 impl Refusal {
-    /// The number that the library gives for it, from 1 to 11.
+    /// The number that the library gives for it, from 1 to 12.
     pub fn number(&self) -> u32 {
         self.told().0
     }
@@ -73,6 +75,7 @@ impl Refusal {
             Refusal::Mode => (9, "MODE", "a command at a place where it may not stand"),
             Refusal::Name => (10, "NAME", "a name unknown, or declared while it stands"),
             Refusal::Size => (11, "SIZE", "a script, a name, a term's depth or a get-value over its size"),
+            Refusal::Absent => (12, "ABSENT", "no rule is held under the number"),
         }
     }
 
@@ -91,6 +94,7 @@ impl Refusal {
             9 => Refusal::Mode,
             10 => Refusal::Name,
             11 => Refusal::Size,
+            12 => Refusal::Absent,
             other => panic!("the library gave {}, which is no number of its", other),
         })
     }

@@ -31,7 +31,8 @@ impl Planner {
     ///
     /// Refused with [`Refusal::Syntax`], [`Refusal::Size`], [`Refusal::Mode`], [`Refusal::Name`], [`Refusal::Amount`], [`Refusal::Full`] or [`Refusal::NoMark`],
     /// in the order that `docs/SCRIPTS.md` gives. A planner that was opened with fewer than 1,024 steps has no script: [`Refusal::Damaged`]. So it is
-    /// after [`back`](Planner::back) has dropped the mark of the level that counts as contradictory; `pop` keeps account of that.
+    /// after [`back`](Planner::back) has dropped the mark of the level that counts as contradictory; `pop` keeps account of that. Nor does
+    /// [`withdraw`](Planner::withdraw) know of the script: the level still counts as contradictory when a rule of it is withdrawn, and a `sat` still counts.
     ///
     /// ```
     /// use planner::{next_command, Planner, Rule};

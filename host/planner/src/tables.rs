@@ -1,6 +1,6 @@
 //! The tables that a planner owns, each with room for its bound.
 
-use crate::bounds::{MARKS, NAME_BYTES, RULES, STEPS, WATCHED};
+use crate::bounds::{NAME_BYTES, RULES, STEPS, WATCHED};
 use crate::calls::{Names, Tables, View};
 
 #[derive(Clone, Debug)]
@@ -9,7 +9,7 @@ pub(crate) struct Owned {
     pub ys: Vec<u16>,
     pub cs: Vec<i32>,
     pub days: Vec<u32>,
-    pub marks: Vec<u32>,
+    pub levels: Vec<u8>,
     pub wxs: Vec<u16>,
     pub wys: Vec<u16>,
     pub wcs: Vec<i32>,
@@ -24,7 +24,7 @@ impl Owned {
             ys: vec![0; RULES],
             cs: vec![0; RULES],
             days: vec![0; STEPS],
-            marks: vec![0; MARKS],
+            levels: vec![0; RULES],
             wxs: vec![0; WATCHED],
             wys: vec![0; WATCHED],
             wcs: vec![0; WATCHED],
@@ -40,7 +40,7 @@ impl Owned {
             ys: &mut self.ys,
             cs: &mut self.cs,
             days: &mut self.days,
-            marks: &mut self.marks,
+            levels: &mut self.levels,
             wxs: &mut self.wxs,
             wys: &mut self.wys,
             wcs: &mut self.wcs,
@@ -55,7 +55,7 @@ impl Owned {
             ys: &self.ys,
             cs: &self.cs,
             days: &self.days,
-            marks: &self.marks,
+            levels: &self.levels,
             wxs: &self.wxs,
             wys: &self.wys,
             wcs: &self.wcs,

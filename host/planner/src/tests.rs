@@ -37,7 +37,7 @@ fn cases_1_to_4_and_7() {
     assert_eq!((planner.add(CASE_3[0]), planner.days()), (Ok(Moved(1)), &[0, 2, 0, 0][..]));
     assert_eq!((planner.add(CASE_3[1]), planner.days()), (Ok(Moved(1)), &[0, 2, 5, 0][..]));
     assert_eq!((planner.add(rule(2, 0, 5)), planner.days()), (Ok(Moved(0)), &[0, 2, 5, 0][..]));
-    assert_eq!(planner.rules().collect::<Vec<_>>(), [CASE_3[0], CASE_3[1], rule(2, 0, 5)]);
+    assert_eq!(planner.rules().collect::<Vec<_>>(), [(0, CASE_3[0]), (1, CASE_3[1]), (2, rule(2, 0, 5))]);
     assert_eq!(holding(&[rule(2, 0, -7)]).days(), [7, 0, 0, 0]);
 }
 
@@ -94,11 +94,74 @@ fn case_8() {
 fn case_9() {
     let mut planner = holding(&CASE_3[..1]);
     planner.mark().unwrap();
-    assert_eq!(planner.marks(), [1]);
+    assert_eq!(planner.counts().marks, 1);
     planner.add(CASE_3[1]).unwrap();
+    assert_eq!((planner.level(0), planner.level(1)), (Some(0), Some(1)));
     planner.back().unwrap();
-    assert_eq!((planner.days(), planner.rules().len(), planner.marks().len()), (&[0, 2, 0, 0][..], 1, 0));
+    assert_eq!((planner.days(), planner.counts().rules, planner.counts().marks), (&[0, 2, 0, 0][..], 1, 0));
+    assert_eq!((planner.rule(0), planner.rule(1)), (Some(CASE_3[0]), None));
     assert_eq!(planner.back(), Err(Refusal::NoMark));
+}
+
+#[test]
+fn one_rule_is_withdrawn_from_the_middle() {
+    let mut planner = holding(&[CASE_3[0], CASE_3[1], rule(2, 3, -1)]);
+    assert_eq!((planner.days(), last_day(&planner)), (&[0, 2, 5, 6][..], 6));
+    assert_eq!(planner.withdraw(1), Ok(()));
+    assert_eq!((planner.days(), last_day(&planner), planner.counts().rules), (&[0, 2, 0, 1][..], 2, 2));
+    // The others keep their numbers, and the free one is the next.
+    assert_eq!(planner.rules().collect::<Vec<_>>(), [(0, CASE_3[0]), (2, rule(2, 3, -1))]);
+    assert_eq!((planner.next_number(), planner.rule(1), planner.level(1)), (1, None, None));
+    let ring = ring_of(planner.trial(rule(1, 0, 1)).map(|trial| trial.moved));
+    assert_eq!((ring.numbers(), ring.rules()), (&[1, 0][..], &[rule(1, 0, 1), CASE_3[0]][..]));
+    assert_eq!(planner.ring_check(rule(1, 0, 1), &[1, 0]), Ok(true));
+    assert_eq!(planner.ring_check(rule(1, 0, 1), &[2, 0]), Ok(false));
+    assert_eq!(planner.ring_check(rule(1, 0, 1), &[3, 0]), Ok(false));
+    assert_eq!(planner.add(rule(3, 0, 5)), Ok(Moved(0)));
+    assert_eq!((planner.rule(1), planner.next_number()), (Some(rule(3, 0, 5)), 3));
+    assert_eq!(ring_of(planner.add(rule(1, 0, 1))).numbers(), [3, 0]);
+    for number in [3, 4_095, 4_096, 65_536, u32::MAX] {
+        assert_eq!(planner.withdraw(number), Err(Refusal::Absent));
+        assert_eq!((planner.rule(number), planner.level(number)), (None, None));
+    }
+    assert_eq!((planner.days(), planner.counts().rules), (&[0, 2, 0, 1][..], 3));
+}
+
+#[test]
+fn a_withdrawn_rule_does_not_come_back() {
+    let mut planner = holding(&CASE_3[..1]);
+    planner.mark().unwrap();
+    planner.add(CASE_3[1]).unwrap();
+    planner.withdraw(0).unwrap();
+    assert_eq!(planner.days(), [0, 0, 3, 0]);
+    // The place of a rule from before the mark, taken by one from after it.
+    planner.add(rule(0, 3, -4)).unwrap();
+    assert_eq!((planner.rule(0), planner.level(0), planner.level(1)), (Some(rule(0, 3, -4)), Some(1), Some(1)));
+    planner.back().unwrap();
+    assert_eq!((planner.days(), planner.rules().count(), planner.counts().rules, last_day(&planner)), (&[0, 0, 0, 0][..], 0, 0, 0));
+    assert_eq!((planner.withdraw(0), planner.withdraw(1)), (Err(Refusal::Absent), Err(Refusal::Absent)));
+}
+
+#[test]
+fn a_level_that_is_not_right_is_damaged() {
+    let mut planner = holding(&CASE_3);
+    planner.mark().unwrap();
+    // Rules that the days keep could be held there.
+    for (place, cell, sound) in [(0, 0, false), (0, 1, true), (0, 2, true), (0, 3, false), (0, 255, false), (2, 0, true), (2, 1, false), (4_095, 1, false), (4_095, 255, false)] {
+        let before = planner.owned.levels[place];
+        planner.owned.levels[place] = cell;
+        assert_eq!(planner.last_day(), if sound { Ok(5) } else { Err(Refusal::Damaged) }, "level {} at {}", cell, place);
+        assert_eq!(planner.withdraw(4_096), Err(if sound { Refusal::Absent } else { Refusal::Damaged }));
+        planner.owned.levels[place] = before;
+    }
+    for (rules, sound) in [(0, false), (1, false), (2, true), (3, false), (4_096, false), (4_097, false), (u32::MAX, false)] {
+        planner.counts.rules = rules;
+        assert_eq!(planner.last_day().is_ok(), sound);
+    }
+    // One more that is counted is one more that is held.
+    planner.counts.rules = 3;
+    planner.owned.levels[7] = 2;
+    assert_eq!((planner.last_day(), planner.next_number(), planner.rule(7)), (Ok(5), 2, Some(rule(0, 0, 0))));
 }
 
 #[test]
@@ -213,13 +276,22 @@ fn full_tables() {
     assert_eq!(planner.add(rule(0, 1, -2)), Err(Refusal::Full));
     assert_eq!(planner.trial(rule(0, 1, -2)), Err(Refusal::Full));
     assert_eq!(planner.ring_check(rule(1, 0, 1), &[4096, 7]), Ok(true));
+    assert_eq!((planner.next_number(), planner.withdraw(4_096)), (4_096, Err(Refusal::Absent)));
+    // One goes, and there is a place again, in the middle.
+    assert_eq!((planner.withdraw(1_234), planner.withdraw(1_234)), (Ok(()), Err(Refusal::Absent)));
+    assert_eq!((planner.next_number(), planner.counts().rules), (1_234, 4_095));
+    assert_eq!(planner.ring_check(rule(1, 0, 1), &[4096, 7]), Ok(false));
+    assert_eq!(ring_of(planner.add(rule(1, 0, 1))).numbers(), [1_234, 0]);
+    assert_eq!(planner.trial(rule(1, 0, 2)).unwrap().moved, Moved(0));
+    assert_eq!((planner.add(rule(1, 0, 2)), planner.rule(1_234)), (Ok(Moved(0)), Some(rule(1, 0, 2))));
+    assert_eq!(planner.add(rule(0, 1, -2)), Err(Refusal::Full));
     for _ in 0..WATCHED {
         planner.watch(rule(0, 1, -2)).unwrap();
     }
     assert_eq!(planner.watch(rule(0, 1, -2)), Err(Refusal::Full));
     assert_eq!(planner.consequences().unwrap().always.len(), WATCHED);
     planner.back().unwrap();
-    assert_eq!((planner.rules().len(), planner.days()), (0, &[0, 0, 0, 0][..]));
+    assert_eq!((planner.rules().count(), planner.days()), (0, &[0, 0, 0, 0][..]));
 }
 
 #[test]
@@ -237,6 +309,7 @@ fn names_and_numbers_of_refusals() {
         (Refusal::Mode, "MODE"),
         (Refusal::Name, "NAME"),
         (Refusal::Size, "SIZE"),
+        (Refusal::Absent, "ABSENT"),
     ];
     for (at, (refusal, name)) in all.iter().enumerate() {
         let number = at as u32 + 1;
@@ -323,7 +396,7 @@ fn commands_and_the_other_calls_on_the_same_tables() {
     for text in [&b"(set-logic QF_IDL)"[..], b"(declare-fun cut () Int)", b"(declare-fun dry () Int)", b"(push 1)", b"(assert (>= (- dry cut) 2))"] {
         assert_eq!(planner.command(text).unwrap().read, text.len());
     }
-    assert_eq!((planner.marks(), planner.rules().collect::<Vec<_>>()), (&[0][..], vec![rule(0, 1, -2)]));
+    assert_eq!((planner.counts().marks, planner.level(0), planner.rules().collect::<Vec<_>>()), (1, Some(1), vec![(0, rule(0, 1, -2))]));
     assert_eq!(last_day(&planner), 2);
     planner.add(rule(0, 1, -3)).unwrap();
     assert_eq!(last_day(&planner), 3);
@@ -344,6 +417,37 @@ fn commands_and_the_other_calls_on_the_same_tables() {
     assert_eq!(last_day(&planner), 7);
     planner.counts.last = 6;
     assert_eq!(planner.command(b"(check-sat)"), Err(Refusal::Damaged));
+}
+
+#[test]
+fn withdrawals_between_commands() {
+    let mut planner = Planner::start().unwrap();
+    let say = |planner: &mut Planner, text: &str| planner.command(text.as_bytes()).map(|answer| String::from_utf8(answer.printed).unwrap());
+    for text in ["(set-logic QF_IDL)", "(declare-fun cut () Int)", "(declare-fun dry () Int)", "(assert (and (>= (- dry cut) 2) (>= (- dry cut) 3)))", "(check-sat)"] {
+        say(&mut planner, text).unwrap();
+    }
+    // A sat still counts, and the days are those of the rest.
+    planner.withdraw(1).unwrap();
+    assert_eq!(say(&mut planner, "(get-value (dry))").unwrap(), "((dry 2))\n");
+    // The rules of a term go to the lowest free places.
+    say(&mut planner, "(push 1)").unwrap();
+    planner.add(rule(0, 1, 5)).unwrap();
+    planner.withdraw(0).unwrap();
+    say(&mut planner, "(assert (and (>= (- dry cut) 4) (<= (- dry cut) 9)))").unwrap();
+    assert_eq!(planner.rules().collect::<Vec<_>>(), [(0, rule(0, 1, -4)), (1, rule(0, 1, 5)), (2, rule(1, 0, 9))]);
+    assert_eq!([0, 1, 2, 3].map(|number| planner.level(number)), [Some(1), Some(1), Some(1), None]);
+    // A contradictory level stays so without the rule that it came from, until it is popped.
+    say(&mut planner, "(push 1)").unwrap();
+    say(&mut planner, "(assert (<= (- dry cut) 3))").unwrap();
+    planner.withdraw(0).unwrap();
+    assert_eq!(say(&mut planner, "(check-sat)").unwrap(), "unsat\n");
+    say(&mut planner, "(assert (<= (- dry cut) 3))").unwrap();
+    assert_eq!(planner.counts().rules, 2);
+    say(&mut planner, "(pop 1)").unwrap();
+    assert_eq!(say(&mut planner, "(check-sat)").unwrap(), "sat\n");
+    assert_eq!(say(&mut planner, "(get-value (dry))").unwrap(), "((dry 0))\n");
+    say(&mut planner, "(pop 1)").unwrap();
+    assert_eq!((planner.rules().count(), planner.counts().rules, planner.next_number()), (0, 0, 0));
 }
 
 /// The longest answers that a text can have: a name of one byte on a late day, as often as a script has room for. The latest day of all needs a name for every

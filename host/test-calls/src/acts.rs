@@ -11,6 +11,8 @@ pub enum Act {
     Add(Rule),
     Mark,
     Back,
+    /// The rule held under a number goes.
+    Withdraw(u32),
     Trial(Rule),
     Consequences,
     RingCheck(Rule, Vec<u32>),
@@ -24,8 +26,9 @@ pub enum Act {
     SetField(Field, u32),
     /// The caller lends that many places from here on.
     Lend(Place, usize),
-    /// The caller writes the rule that many times at the end of the rules held, or of the watched rules, and counts them.
+    /// The caller writes the rule into that many of the lowest free places, as one of the present level, and counts them.
     Hold(Rule, usize),
+    /// The caller writes the rule that many times at the end of the watched rules, and counts them.
     Follow(Rule, usize),
 }
 
@@ -38,6 +41,7 @@ impl Act {
             Act::Add(_) => "Add",
             Act::Mark => "Mark",
             Act::Back => "Back",
+            Act::Withdraw(_) => "Withdraw",
             Act::Trial(_) => "Trial",
             Act::Consequences => "Consequences",
             Act::RingCheck(..) => "Ring check",
@@ -54,23 +58,39 @@ impl Act {
             Act::Set(place, at, number) => office.set(*place, *at, *number),
             Act::SetField(field, number) => office.set_field(*field, *number),
             Act::Lend(place, len) => office.lend(*place, *len),
-            Act::Hold(rule, times) => fill(office, *rule, *times, Field::Rules, [Place::Xs, Place::Ys, Place::Cs]),
-            Act::Follow(rule, times) => fill(office, *rule, *times, Field::Watched, [Place::Wxs, Place::Wys, Place::Wcs]),
+            Act::Hold(rule, times) => hold(office, *rule, *times),
+            Act::Follow(rule, times) => follow(office, *rule, *times),
             _ => (),
         }
     }
 }
 
-/// Writes a rule into so many places past a count, as far as there are places, and adds them to it.
-fn fill(office: &mut Office, rule: Rule, times: usize, count: Field, columns: [Place; 3]) {
-    let from = office.field(count) as usize;
-    let to = from.saturating_add(times).min(columns[0].room());
-    for number in from..to {
-        office.set(columns[0], number, rule.first.into());
-        office.set(columns[1], number, rule.second.into());
-        office.set(columns[2], number, rule.amount.into());
+/// Writes a rule into so many of the lowest free places, as far as there are places.
+fn hold(office: &mut Office, rule: Rule, times: usize) {
+    let places = office.lent(Place::Levels).min(Place::Levels.room()) as u32;
+    let free: Vec<u32> = (0..places).filter(|number| !office.holds(*number)).take(times).collect();
+    let (held, level) = (office.field(Field::Rules), office.field(Field::Marks).wrapping_add(1));
+    for number in &free {
+        write(office, rule, *number as usize, [Place::Xs, Place::Ys, Place::Cs]);
+        office.set(Place::Levels, *number as usize, level.into());
     }
-    office.set_field(count, from.max(to) as u32);
+    office.set_field(Field::Rules, held.wrapping_add(free.len() as u32));
+}
+
+/// Writes a rule into so many places past the watched rules, as far as there are places.
+fn follow(office: &mut Office, rule: Rule, times: usize) {
+    let from = office.field(Field::Watched) as usize;
+    let to = from.saturating_add(times).min(Place::Wxs.room());
+    for number in from..to {
+        write(office, rule, number, [Place::Wxs, Place::Wys, Place::Wcs]);
+    }
+    office.set_field(Field::Watched, from.max(to) as u32);
+}
+
+fn write(office: &mut Office, rule: Rule, number: usize, columns: [Place; 3]) {
+    office.set(columns[0], number, rule.first.into());
+    office.set(columns[1], number, rule.second.into());
+    office.set(columns[2], number, rule.amount.into());
 }
 
 impl fmt::Display for Act {
@@ -82,6 +102,7 @@ impl fmt::Display for Act {
             Act::Add(rule) => write!(to, "Add {}", of(rule)),
             Act::Mark => write!(to, "Mark"),
             Act::Back => write!(to, "Back"),
+            Act::Withdraw(number) => write!(to, "Withdraw {}", number),
             Act::Trial(rule) => write!(to, "Trial {}", of(rule)),
             Act::Consequences => write!(to, "Consequences"),
             Act::RingCheck(rule, list) => write!(to, "Ring check {} {:?}", of(rule), list),
@@ -94,7 +115,7 @@ impl fmt::Display for Act {
             Act::Set(place, at, number) => write!(to, "the caller sets {:?}[{}] to {}", place, at, number),
             Act::SetField(field, number) => write!(to, "the caller sets the count {:?} to {}", field, number),
             Act::Lend(place, len) => write!(to, "the caller lends {} places of {:?}", len, place),
-            Act::Hold(rule, times) => write!(to, "the caller writes {} {} times at the end of the rules held", of(rule), times),
+            Act::Hold(rule, times) => write!(to, "the caller writes {} into {} of the lowest free places", of(rule), times),
             Act::Follow(rule, times) => write!(to, "the caller writes {} {} times at the end of the watched rules", of(rule), times),
         }
     }

@@ -39,6 +39,7 @@ pub fn by_library(office: &mut Office, act: &Act) -> Result<Given, String> {
         Act::Add(rule) => calls::add(counts, tables, one.part_mut(), *rule, first.lend()),
         Act::Mark => calls::mark(counts, tables),
         Act::Back => calls::back(counts, tables),
+        Act::Withdraw(number) => calls::withdraw(counts, tables, *number),
         Act::Trial(rule) => calls::trial(counts, tables, one.part_mut(), two.part_mut(), *rule, first.lend()),
         Act::Consequences => calls::consequences(counts, tables, one.part_mut(), two.part_mut(), first.lend(), second.lend()),
         Act::RingCheck(rule, list) => calls::ring_check(counts, tables, list, *rule, first.lend()),

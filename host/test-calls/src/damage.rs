@@ -1,6 +1,6 @@
-//! Damaged and short tables: from sound states every count and every cell that matters is changed in turn, some cells past the counts too, which must not
-//! matter; every table and list is lent short, empty and longer than needed. After each change all calls are made. The independent engine says by the
-//! definition whether what is lent is still sound.
+//! Damaged and short tables: from sound states every count and every cell that matters is changed in turn, some free places and cells past the counts too, which must
+//! not matter, and free places are made to count; every table and list is lent short, empty and longer than needed. After each change all calls are made. The
+//! independent engine says by the definition whether what is lent is still sound.
 
 use crate::Options;
 use crate::acts::Act;
@@ -74,6 +74,10 @@ fn changes(office: &Office, shape: &Shape, random: &mut Random, long: bool) -> V
             Place::Lens => vec![old + 1, old - 1, 0, 1, 32, 33, 255],
             Place::Cs | Place::Wcs => vec![old + 1, old - 1, 1_000_000, 1_000_001, -1_000_001, i32::MIN.into()],
             Place::Days => vec![old + 1, old - 1, 0, old + (1 << 31)],
+            Place::Levels => {
+                let deepest = i64::from(office.counts().marks) + 1;
+                vec![old + 1, old - 1, 0, 1, deepest, deepest + 1, 65, 66, 255]
+            }
             _ => vec![old + 1, old - 1, 0, office.counts().steps.into(), u16::MAX.into(), u32::MAX.into()],
         };
         new.push(random.next() as i64);
@@ -81,13 +85,15 @@ fn changes(office: &Office, shape: &Shape, random: &mut Random, long: bool) -> V
         all.extend(new.into_iter().map(|number| vec![Act::Set(place, at, number)]));
     }
     all.extend(last_days(office, random));
+    all.extend(places(office, random));
     all.extend(lengths(office));
     all.extend(several(office, random, long));
     all.extend(shape.changes.iter().cloned());
     all
 }
 
-/// Every cell within the counts, and the first three past each; where a table has many, some of them.
+/// Every cell within the counts or of a rule held, and the first three past each, or free; where a table has many, some of them. Of the levels also the last one, and
+/// those beyond the bound.
 fn cells(office: &Office, random: &mut Random, long: bool) -> Vec<(Place, usize)> {
     use Place::*;
     let (counts, record) = (office.counts(), office.record());
@@ -102,11 +108,16 @@ fn cells(office: &Office, random: &mut Random, long: bool) -> Vec<(Place, usize)
     };
     let names = (record.names as usize).min(Lens.room());
     let mut all = Vec::new();
-    for place in [Xs, Ys, Cs, Days, Marks, Wxs, Wys, Wcs, Lens, Out, One, Two] {
+    let held = office.numbers();
+    let free: Vec<usize> = (0..Levels.room()).filter(|at| !office.holds(*at as u32)).collect();
+    for place in [Xs, Ys, Cs, Levels] {
+        all.extend(some(held.len()).into_iter().map(|at| (place, held[at] as usize)));
+        all.extend(free.iter().take(3).map(|at| (place, *at)));
+    }
+    all.extend((Levels.room() - 1..office.lent(Levels)).map(|at| (Levels, at)));
+    for place in [Days, Wxs, Wys, Wcs, Lens, Out, One, Two] {
         let used = match place {
-            Xs | Ys | Cs => counts.rules as usize,
             Days => counts.steps as usize,
-            Marks => counts.marks as usize,
             Wxs | Wys | Wcs => counts.watched as usize,
             Lens => names,
             _ => 0,
@@ -118,6 +129,34 @@ fn cells(office: &Office, random: &mut Random, long: bool) -> Vec<(Place, usize)
     for number in some(names) {
         let len = usize::from(office.lens.part()[number]).min(31);
         all.extend((0..=len).map(|at| (Names, 32 * number + at)));
+    }
+    all
+}
+
+/// Rules more or fewer, with the count that they then have: held ones whose places are free, and free places that count as held, with what they have and with a rule
+/// that any days keep; and one in the place of the other.
+fn places(office: &Office, random: &mut Random) -> Vec<Vec<Act>> {
+    let (held, count, open) = (office.numbers(), office.counts().rules, i64::from(office.counts().marks));
+    let set = |number: u32, level: i64| Act::Set(Place::Levels, number as usize, level);
+    let rules = |count: u32| Act::SetField(Field::Rules, count);
+    let mut all = Vec::new();
+    let gone: Vec<u32> = (0..6).filter_map(|_| if held.is_empty() { None } else { Some(random.pick(&held)) }).collect();
+    all.extend(gone.iter().map(|number| vec![set(*number, 0), rules(count - 1)]));
+    all.push(held.iter().map(|number| set(*number, 0)).chain([rules(0)]).collect());
+    let last = Place::Levels.room() as u32 - 1;
+    let free: Vec<u32> = (0..=last).filter(|number| !office.holds(*number)).collect();
+    for number in free.iter().copied().take(3).chain(free.last().copied()) {
+        let kept = |level: i64| {
+            let columns = [(Place::Xs, 0), (Place::Ys, 0), (Place::Cs, 0), (Place::Levels, level)];
+            columns.into_iter().map(|(place, cell)| Act::Set(place, number as usize, cell)).collect::<Vec<Act>>()
+        };
+        all.push(vec![set(number, 1), rules(count + 1)]);
+        for level in [1, open + 1, open + 2, 255] {
+            all.push(kept(level).into_iter().chain([rules(count + 1)]).collect());
+        }
+        all.extend(gone.first().map(|other| kept(1).into_iter().chain([set(*other, 0)]).collect()));
+        // Nobody counts them, nor looks at what they have.
+        all.push(vec![Act::Set(Place::Xs, number as usize, 65_535), Act::Set(Place::Ys, number as usize, 65_535), Act::Set(Place::Cs, number as usize, i32::MIN.into())]);
     }
     all
 }
@@ -170,7 +209,7 @@ fn several(office: &Office, random: &mut Random, long: bool) -> Vec<Vec<Act>> {
         all.push(change);
     }
     // A rule over steps, held in place of another: within bounds, so the days alone tell.
-    for number in 0..(office.counts().rules as usize).min(12) {
+    for number in office.numbers().into_iter().take(12).map(|number| number as usize) {
         let other = rule(random.below(steps), random.below(steps), random.between(-3, 3));
         all.push(vec![
             Act::Set(Place::Xs, number, other.first.into()),

@@ -1,5 +1,5 @@
-//! All that is lent to the calls: counts, tables, record, names, lists and bytes, with the cells past the counts and some places beside each of them, filled
-//! with numbers of no meaning. It is cloned before a call and compared whole after it.
+//! All that is lent to the calls: counts, tables, record, names, lists and bytes, with free places, the cells past the counts and some places beside each of them,
+//! filled with numbers of no meaning. It is cloned before a call and compared whole after it.
 
 use common::Random;
 use planner::calls::{Counts, Names, Record, Rule, Tables};
@@ -59,7 +59,7 @@ pub enum Place {
     Ys,
     Cs,
     Days,
-    Marks,
+    Levels,
     Wxs,
     Wys,
     Wcs,
@@ -73,7 +73,7 @@ pub enum Place {
 impl Place {
     pub const ALL: [Place; 13] = {
         use Place::*;
-        [Xs, Ys, Cs, Days, Marks, Wxs, Wys, Wcs, Names, Lens, Out, One, Two]
+        [Xs, Ys, Cs, Days, Levels, Wxs, Wys, Wcs, Names, Lens, Out, One, Two]
     };
 
     /// How many places it must have; for the two lists those of a ring.
@@ -85,9 +85,8 @@ impl Place {
     pub fn room_for(self, steps: usize) -> usize {
         use Place::*;
         match self {
-            Xs | Ys | Cs => reader::RULES,
+            Xs | Ys | Cs | Levels => reader::RULES,
             Days | Lens | One | Two => steps,
-            Marks => reader::MARKS,
             Wxs | Wys | Wcs => WATCHED,
             Names => reader::NAME_BYTES * steps,
             Out => reader::LENT,
@@ -129,7 +128,7 @@ pub struct Shelf {
     pub ys: Lent<u16>,
     pub cs: Lent<i32>,
     pub days: Lent<u32>,
-    pub marks: Lent<u32>,
+    pub levels: Lent<u8>,
     pub wxs: Lent<u16>,
     pub wys: Lent<u16>,
     pub wcs: Lent<i32>,
@@ -142,7 +141,7 @@ impl Shelf {
             ys: self.ys.part_mut(),
             cs: self.cs.part_mut(),
             days: self.days.part_mut(),
-            marks: self.marks.part_mut(),
+            levels: self.levels.part_mut(),
             wxs: self.wxs.part_mut(),
             wys: self.wys.part_mut(),
             wcs: self.wcs.part_mut(),
@@ -164,11 +163,11 @@ pub struct Office {
 }
 
 impl Office {
-    /// An office of a seed: everything has room, some of it one or two places more, and nothing has a meaning yet.
+    /// An office of a seed: everything has room, some of it one or two places more, the levels always one at least, and nothing has a meaning yet.
     pub fn new(seed: u64) -> Office {
         let mut random = Random::new(seed ^ 0x0FF1_CE);
         let mut room = |place: Place, more: usize| place.room() + more + (random.next() % 3) as usize;
-        let sizes: Vec<usize> = Place::ALL.iter().map(|place| room(*place, 0)).collect();
+        let sizes: Vec<usize> = Place::ALL.iter().map(|place| room(*place, usize::from(*place == Place::Levels))).collect();
         let list = room(Place::Wxs, 0);
         let random = &mut random;
         // Small numbers, which would be steps, rule numbers or days, among large ones.
@@ -187,7 +186,7 @@ impl Office {
             ys: Lent::new(sizes[1], || any() as u16),
             cs: Lent::new(sizes[2], || any() as i32 - 3),
             days: Lent::new(sizes[3], || any() as u32),
-            marks: Lent::new(sizes[4], || any() as u32),
+            levels: Lent::new(sizes[4], || any() as u8),
             wxs: Lent::new(sizes[5], || any() as u16),
             wys: Lent::new(sizes[6], || any() as u16),
             wcs: Lent::new(sizes[7], || any() as i32 - 3),
@@ -206,6 +205,27 @@ impl Office {
 
     pub fn record(&self) -> Record {
         self.record[1]
+    }
+
+    /// Whether a rule is held under the number. The levels have room.
+    pub fn holds(&self, number: u32) -> bool {
+        self.levels().get(number as usize).map_or(false, |level| *level != 0)
+    }
+
+    /// The numbers of the rules held, rising, as far as the levels are lent.
+    pub fn numbers(&self) -> Vec<u32> {
+        (0..self.levels().len() as u32).filter(|number| self.holds(*number)).collect()
+    }
+
+    /// The lowest number under which no rule is held; where there is none, as many as there are places.
+    pub fn next_number(&self) -> u32 {
+        self.levels().iter().take_while(|level| **level != 0).count() as u32
+    }
+
+    /// The levels, without the room beyond.
+    fn levels(&self) -> &[u8] {
+        let levels = self.shelf.levels.part();
+        &levels[..levels.len().min(reader::RULES)]
     }
 
     /// The rule held, or watched, under a number below the table's room.
@@ -227,7 +247,7 @@ impl Office {
             Place::Ys => shelf.ys.len,
             Place::Cs => shelf.cs.len,
             Place::Days => shelf.days.len,
-            Place::Marks => shelf.marks.len,
+            Place::Levels => shelf.levels.len,
             Place::Wxs => shelf.wxs.len,
             Place::Wys => shelf.wys.len,
             Place::Wcs => shelf.wcs.len,
@@ -247,7 +267,7 @@ impl Office {
             Place::Ys => shelf.ys.lend(len),
             Place::Cs => shelf.cs.lend(len),
             Place::Days => shelf.days.lend(len),
-            Place::Marks => shelf.marks.lend(len),
+            Place::Levels => shelf.levels.lend(len),
             Place::Wxs => shelf.wxs.lend(len),
             Place::Wys => shelf.wys.lend(len),
             Place::Wcs => shelf.wcs.lend(len),
@@ -267,7 +287,7 @@ impl Office {
             Place::Ys => shelf.ys.part()[at].into(),
             Place::Cs => shelf.cs.part()[at].into(),
             Place::Days => shelf.days.part()[at].into(),
-            Place::Marks => shelf.marks.part()[at].into(),
+            Place::Levels => shelf.levels.part()[at].into(),
             Place::Wxs => shelf.wxs.part()[at].into(),
             Place::Wys => shelf.wys.part()[at].into(),
             Place::Wcs => shelf.wcs.part()[at].into(),
@@ -290,7 +310,7 @@ impl Office {
             Place::Ys => shelf.ys.part_mut()[at] = number as u16,
             Place::Cs => shelf.cs.part_mut()[at] = number as i32,
             Place::Days => shelf.days.part_mut()[at] = number as u32,
-            Place::Marks => shelf.marks.part_mut()[at] = number as u32,
+            Place::Levels => shelf.levels.part_mut()[at] = number as u8,
             Place::Wxs => shelf.wxs.part_mut()[at] = number as u16,
             Place::Wys => shelf.wys.part_mut()[at] = number as u16,
             Place::Wcs => shelf.wcs.part_mut()[at] = number as i32,
@@ -354,7 +374,7 @@ impl Office {
             .or_else(|| named("ys", shelf.ys.difference(&other.ys)))
             .or_else(|| named("cs", shelf.cs.difference(&other.cs)))
             .or_else(|| named("days", shelf.days.difference(&other.days)))
-            .or_else(|| named("marks", shelf.marks.difference(&other.marks)))
+            .or_else(|| named("levels", shelf.levels.difference(&other.levels)))
             .or_else(|| named("wxs", shelf.wxs.difference(&other.wxs)))
             .or_else(|| named("wys", shelf.wys.difference(&other.wys)))
             .or_else(|| named("wcs", shelf.wcs.difference(&other.wcs)))

@@ -4,6 +4,7 @@
 
 use crate::acts::Act;
 use crate::compare::by_library;
+use crate::engine;
 use crate::office::{Office, STEPS};
 use crate::second::Second;
 use crate::sequences::{Kind, Writer};
@@ -34,7 +35,7 @@ impl Question {
         let counts = office.counts();
         Question {
             steps: counts.steps,
-            rules: (0..counts.rules).map(|number| office.rule(number as usize)).collect(),
+            rules: office.numbers().into_iter().map(|number| office.rule(number as usize)).collect(),
             watched: (0..counts.watched).map(|number| office.watched_rule(number as usize)).collect(),
         }
     }
@@ -89,7 +90,9 @@ impl Screen {
 }
 
 /// What must be there among many pairs.
-const THINGS: [&str; 9] = ["rules", "rules again", "open marks", "ways back", "refusals", "Adds", "asserts", "first lists", "second lists"];
+const THINGS: [&str; 12] = [
+    "rules", "rules again", "open marks", "ways back", "refusals", "Adds", "asserts", "first lists", "second lists", "withdrawals", "withdrawals that move a day", "free places between rules",
+];
 
 /// How often each thing was there.
 #[derive(Default)]
@@ -112,6 +115,7 @@ fn play(base: &Office, acts: &[Act], seen: &mut Seen) -> Result<Option<Office>, 
         let adds = at > 0 && matches!(act, Act::Add(_));
         let asserts = at > 0 && matches!(act, Act::Command(text) if text.starts_with(b"(assert "));
         let before = if adds || asserts { Some(Screen::of(&mut office)?) } else { None };
+        let days = matches!(act, Act::Withdraw(_)).then(|| office.shelf.days.clone());
         let done = by_library(&mut office, act)?.number == DONE;
         if at == 0 && !(done && matches!(act, Act::Open(_) | Act::Start)) {
             return Ok(None);
@@ -124,6 +128,8 @@ fn play(base: &Office, acts: &[Act], seen: &mut Seen) -> Result<Option<Office>, 
         }
         seen.note("refusals", usize::from(!done));
         seen.note("ways back", usize::from(done && matches!(act, Act::Back)));
+        seen.note("withdrawals", usize::from(done && days.is_some()));
+        seen.note("withdrawals that move a day", usize::from(days.map_or(false, |days| days != office.shelf.days)));
     }
     Ok(if acts.is_empty() { None } else { Some(office) })
 }
@@ -145,6 +151,7 @@ fn compare(mut one: Office, mut other: Office, seen: &mut Seen) -> Result<bool, 
     seen.note("rules", question.rules.len());
     seen.note("rules again", other.counts().rules as usize - question.rules.len());
     seen.note("open marks", other.counts().marks as usize);
+    seen.note("free places between rules", [&one, &other].iter().filter(|office| office.next_number() < office.counts().rules).count());
     seen.note("first lists", usize::from(!mine.lists[0].is_empty()));
     seen.note("second lists", usize::from(!mine.lists[1].is_empty()));
     mine.difference(&yours).map_or(Ok(true), Err)
@@ -222,16 +229,16 @@ impl Bases {
         Some((of_parts(&short), how))
     }
 
-    /// The same with what stands in the tables at the end alone: each side opens, adds and marks by their numbers, and watches.
+    /// The same with what stands in the tables at the end alone: each side opens, adds by the levels and their numbers, and watches.
     fn plain(&self, pair: &Pair) -> Option<Pair> {
         let side = |which: usize| {
             let office = play(&self.0[which], &pair.0[which], &mut Seen::default()).ok()??;
             let counts = office.counts();
-            let marks = &office.shelf.marks.part()[..counts.marks as usize];
             let mut acts = vec![Act::Open(counts.steps)];
-            for number in 0..=counts.rules {
-                acts.extend(marks.iter().filter(|mark| **mark == number).map(|_| Act::Mark));
-                acts.extend((number < counts.rules).then(|| Act::Add(office.rule(number as usize))));
+            for open in 0..=counts.marks {
+                let level = office.numbers().into_iter().filter(|number| engine::level(&office, *number) == open);
+                acts.extend((open > 0).then(|| Act::Mark));
+                acts.extend(level.map(|number| Act::Add(office.rule(number as usize))));
             }
             acts.extend(Question::of(&office).watched.into_iter().map(Act::Watch));
             Some(acts)
@@ -293,11 +300,12 @@ fn report(short: Option<(Pair, String)>, how: &str) -> String {
     }
 }
 
-/// Two clerks, worked by hand: four steps, two rules, entered in two orders; then both watch three rules, and then both add one rule more.
+/// Two clerks, worked by hand: four steps, two rules, entered in two orders, the one's after a rule was withdrawn, and a place is free there; then both watch three
+/// rules, and then both add one rule more.
 fn clerks(bases: &Bases) -> Result<(), String> {
     let add = |first, second, amount| Act::Add(Rule { first, second, amount });
     let watch = [(0, 2, -5), (2, 0, 4), (0, 3, 7)].map(|(first, second, amount)| Act::Watch(Rule { first, second, amount }));
-    let mut one = vec![Act::Open(4), add(0, 1, -2), add(1, 2, -3), add(0, 1, -2)];
+    let mut one = vec![Act::Open(4), add(0, 1, -2), add(3, 1, -7), add(1, 2, -3), add(0, 1, -2), Act::Withdraw(1)];
     let mut other = vec![Act::Open(4), Act::Mark, add(3, 0, -9), Act::Back, add(1, 2, -3), add(0, 1, -2)];
     one.extend(watch.clone());
     other.extend(watch);

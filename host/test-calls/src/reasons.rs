@@ -1,5 +1,5 @@
-//! The reasons of refused rules: cases by hand, each for Trial and for Add, with other rings that Ring check says yes to; and the engine's own reasons against the
-//! definition, over all lists.
+//! The reasons of refused rules: cases by hand, each for Trial and for Add, with other rings that Ring check says yes to; some where rules were withdrawn, so that a later
+//! rule has a lower number. And the engine's own reasons against the definition, over all lists.
 
 use crate::acts::Act;
 use crate::compare::Both;
@@ -23,7 +23,7 @@ struct Case {
 }
 
 pub fn all(seed: u64, tally: &mut Tally) {
-    for case in small().into_iter().chain(long()) {
+    for case in small().into_iter().chain(withdrawn()).chain(long()) {
         tally.count(&format!("the reason: {}", case.name), by_hand(&case).map_err(|why| format!("  {}", why)));
     }
     tally.count("the engine's reasons are the first of all lists", listed(seed).map_err(|why| format!("  {}", why)));
@@ -87,6 +87,45 @@ fn small() -> Vec<Case> {
     ]
 }
 
+/// Rules under the numbers of others that were withdrawn, and free numbers between those held.
+fn withdrawn() -> Vec<Case> {
+    let add = |(x, y, c): Numbers| Act::Add(rule(x, y, c));
+    let after = |name, held: &[Numbers], acts: &[Act], refused: Numbers, ring: &[u32], others: &[&[u32]]| {
+        let mut case = case(name, 6, held, refused, ring, others);
+        case.held.extend_from_slice(acts);
+        case
+    };
+    let three = [(0, 1, -2), (1, 2, -3), (2, 3, -1)];
+    vec![
+        after("the would-be number is that of the rule withdrawn", &three, &[Act::Withdraw(1)], (1, 0, 1), &[1, 0], &[]),
+        after("another rule has that number", &three, &[Act::Withdraw(1), add((3, 0, 5))], (1, 0, 1), &[3, 0], &[]),
+        after("the would-be number is the lowest of two", &three, &[Act::Withdraw(2), Act::Withdraw(0)], (2, 1, 2), &[0, 1], &[]),
+        after("the would-be number is below all held", &three, &[Act::Withdraw(0)], (3, 1, 3), &[0, 1, 2], &[]),
+        // Ties, by the numbers and not by the order of adding.
+        after("a later rule of a lower number", &[(5, 5, 0), (0, 1, -2)], &[Act::Withdraw(0), add((0, 1, -2))], (1, 0, 1), &[2, 0], &[&[2, 1]]),
+        after(
+            "a later way of lower numbers",
+            &[(5, 5, 0), (5, 5, 0), (0, 1, -1), (1, 3, -1)],
+            &[Act::Withdraw(0), Act::Withdraw(1), add((2, 3, -1)), add((0, 2, -1))],
+            (3, 0, 1),
+            &[4, 1, 0],
+            &[&[4, 2, 3]],
+        ),
+        after("the shortest way is withdrawn", &[(0, 3, -3), (0, 1, -1), (1, 2, -1), (2, 3, -1)], &[Act::Withdraw(0)], (3, 0, 2), &[0, 1, 2, 3], &[]),
+        after("of two as short the lower is withdrawn", &[(0, 1, -2), (0, 1, -2), (0, 1, -2)], &[Act::Withdraw(0)], (1, 0, 1), &[0, 1], &[&[0, 2]]),
+        after("what was withdrawn is added again", &three, &[Act::Withdraw(0), Act::Withdraw(1), add(three[1]), add(three[0])], (2, 0, 4), &[3, 1, 0], &[]),
+        after("Back frees every place of its level", &three[..1], &[Act::Mark, add(three[1]), Act::Withdraw(0), add((0, 2, -9)), Act::Mark, add(three[2]), Act::Back, Act::Back], (2, 2, -1), &[0], &[]),
+        after(
+            "Back frees the lower of two",
+            &[(5, 5, 0), (0, 1, -2)],
+            &[Act::Mark, Act::Withdraw(0), add((0, 1, -3)), Act::Back],
+            (1, 0, 1),
+            &[0, 1],
+            &[],
+        ),
+    ]
+}
+
 /// Rings of 16, 256 and 1,024 rules.
 fn long() -> Vec<Case> {
     let chain = |steps: usize, amount: i64| (1..steps).map(move |step| rule(step - 1, step, amount));
@@ -94,6 +133,10 @@ fn long() -> Vec<Case> {
     // The caller writes rules that the days keep: they are dear to add one by one.
     let mut full = vec![Act::Hold(rule(3, 3, 0), reader::RULES - 16)];
     full.extend(added(chain(16, -1).collect()));
+    // Every place is taken, and then one in the middle is free; a rule of the chain is under the number of another.
+    let mut one_free = full.clone();
+    one_free.extend([Act::Add(rule(7, 7, 0)), Act::Withdraw(4_081), Act::Withdraw(9), Act::Add(rule(1, 2, -1)), Act::Hold(rule(3, 3, 0), 1), Act::Withdraw(2_000)]);
+    let with_other = [2_000, 4_080, 9].into_iter().chain(4_082..4_095).collect();
     // All with nothing to spare: a chain, its rules turned round, rules of one step, and the chain once more.
     let mut tight = added(chain(STEPS, -1).collect());
     let turned = (1..STEPS).map(|step| rule(step, step - 1, 1)).chain((0..STEPS).map(|step| rule(step, step, 0)));
@@ -102,6 +145,7 @@ fn long() -> Vec<Case> {
     let after = |next: u32, others: std::ops::Range<u32>| [next].into_iter().chain(others);
     vec![
         over("a ring of 16 rules in full tables", full, (15, 0, 14), after(4_095, 4_080..4_095).collect()),
+        over("a ring of 16 rules with one free place", one_free, (15, 0, 14), with_other),
         over("a ring of 256 rules, the last one the lowest", added(chain(256, -1).rev().collect()), (255, 0, 254), after(255, 0..0).chain((0..255).rev()).collect()),
         over("a ring of 1,024 rules", added(chain(STEPS, -1_000_000).collect()), (STEPS - 1, 0, 1_000_000), after(1_023, 0..1_023).collect()),
         over("a ring of 1,024 rules in full tables with nothing to spare", tight, (STEPS - 1, 0, 1_022), after(4_093, 0..1_023).collect()),
@@ -139,15 +183,18 @@ fn by_hand(case: &Case) -> Result<(), String> {
 /// How many reasons are compared with all lists; for a fourth of them and more there are several as short.
 const COMPARED: usize = 1_000;
 
-/// Over few steps and rules the engine's reason is the first list that refutes, of all lists by their length and then in order.
+/// Over few steps and rules, some of which are withdrawn, the engine's reason is the first list that refutes, of all lists by their length and then in order.
 fn listed(seed: u64) -> Result<(), String> {
     let mut random = Random::new(seed ^ 0x0011_5735);
-    let (mut compared, mut chosen) = (0, 0);
+    let (mut compared, mut chosen, mut between) = (0, 0, 0);
     while compared < COMPARED {
         let mut office = Office::new(random.next());
         let steps = 2 + random.below(4);
         engine::carry_out(&mut office, &Act::Open(steps as u32));
         while office.counts().rules < 9 {
+            if random.chance(300) {
+                engine::carry_out(&mut office, &Act::Withdraw(random.below(9) as u32));
+            }
             let from = random.below(steps - 1);
             let any = if random.chance(500) { leading_on(&mut random, from, steps) } else { closing(&mut random, steps, &office) };
             let given = engine::carry_out(&mut office, &Act::Add(any));
@@ -159,24 +206,25 @@ fn listed(seed: u64) -> Result<(), String> {
                 }
                 compared += 1;
                 chosen += usize::from(lists.len() > 1);
+                between += usize::from(ring[0] < office.counts().rules);
             }
         }
     }
-    if chosen < COMPARED / 4 {
-        return Err(format!("only {} of {} refused rules had several rings as short", chosen, compared));
+    if chosen < COMPARED / 4 || between < COMPARED / 10 {
+        return Err(format!("of {} refused rules only {} had several rings as short, and {} a free number below one that was held", compared, chosen, between));
     }
     Ok(())
 }
 
 /// The shortest lists that refute the rule, in order. There are some.
 fn shortest(office: &Office, rule: Rule) -> Vec<Vec<u32>> {
-    let next = office.counts().rules;
-    let mut lists = vec![vec![next]];
+    let held = office.numbers();
+    let mut lists = vec![vec![office.next_number()]];
     loop {
         let found: Vec<Vec<u32>> = lists.iter().filter(|list| refutes(office, rule, list)).cloned().collect();
         if !found.is_empty() {
             return found;
         }
-        lists = lists.iter().flat_map(|list| (0..next).map(move |number| [&list[..], &[number]].concat())).collect();
+        lists = lists.iter().flat_map(|list| held.iter().map(move |number| [&list[..], &[*number]].concat())).collect();
     }
 }

@@ -1,4 +1,5 @@
-//! Long rings in which one step is met again, at every distance from one place to the ring's length; beside the rings as they are.
+//! Long rings in which one step is met again, at every distance from one place to the ring's length; beside the rings as they are. Some places between the rules are
+//! free, and the lowest of them is the number of the rule asked about.
 
 use crate::acts::Act;
 use crate::compare::Both;
@@ -51,8 +52,12 @@ fn places(length: usize, random: &mut Random) -> Vec<(usize, usize)> {
     places
 }
 
+/// How many free places there are at most before the end of the rules held.
+const HOLES: usize = 4;
+
 /// Tables of as many steps as the ring has rules, with every rule that the lists need, and the lists: the ring, and for each distance the ring with one step met
-/// again that far on. All amounts are 0 but that of the rule asked about, so that a list is a ring unless it meets a step twice.
+/// again that far on. All amounts are 0 but that of the rule asked about, so that a list is a ring unless it meets a step twice. Others like the ring's last rule stand
+/// between them, and are withdrawn: with one of these in its place the list is no ring.
 fn met_again(length: usize, in_order: bool, random: &mut Random) -> Vec<(Act, Option<u64>)> {
     let mut steps: Vec<usize> = (0..length).collect();
     if !in_order {
@@ -66,19 +71,36 @@ fn met_again(length: usize, in_order: bool, random: &mut Random) -> Vec<(Act, Op
         rules.push(rule(step(place + distance - 1), step(*place), 0));
         rules.push(rule(step(*place), step(place + distance + 1), 0));
     }
-    let (new, next) = (rule(step(0), step(1), -1), rules.len() as u32);
-    let of = |number: u32| if number == next { new } else { rules[number as usize] };
-    let ring: Vec<u32> = std::iter::once(next).chain(0..length as u32 - 1).collect();
+    let like = rules[length - 2];
+    let mut holes: Vec<usize> = (0..random.below(HOLES + 1)).map(|_| random.below(rules.len() + 1)).collect();
+    holes.sort_unstable();
+    holes.dedup();
+    let mut all = rules;
+    holes.iter().enumerate().for_each(|(before, hole)| all.insert(hole + before, like));
+    let holes: Vec<u32> = holes.iter().enumerate().map(|(before, hole)| (hole + before) as u32).collect();
+    let numbers: Vec<u32> = (0..all.len() as u32).filter(|number| !holes.contains(number)).collect();
+    let (new, next) = (rule(step(0), step(1), -1), holes.first().copied().unwrap_or(all.len() as u32));
+    let of = |number: u32| if number == next { new } else { all[number as usize] };
+    let ring: Vec<u32> = std::iter::once(next).chain(numbers[..length - 1].iter().copied()).collect();
     let mut checks = vec![(Act::RingCheck(new, ring.clone()), Some(1))];
     for (number, (place, distance)) in places.into_iter().enumerate() {
         let mut list = ring.clone();
-        let back = length as u32 - 1 + 2 * number as u32;
-        list[place + distance - 1] = back;
-        list[place + distance] = back + 1;
+        let back = length - 1 + 2 * number;
+        list[place + distance - 1] = numbers[back];
+        list[place + distance] = numbers[back + 1];
         assert!((0..length).all(|at| of(list[at]).second == of(list[(at + 1) % length]).first), "the rules of {:?} do not lead on", list);
         checks.push((Act::RingCheck(new, list), Some(0)));
     }
-    checks.push((Act::RingCheck(new, ring), Some(1)));
-    let held: Vec<_> = rules.into_iter().map(|rule| (Act::Hold(rule, 1), None)).collect();
-    std::iter::once((Act::Open(length as u32), None)).chain(held).chain(checks).collect()
+    // Nor is it one with the rule asked about under another number.
+    let other = |at: usize, number: u32| {
+        let mut list = ring.clone();
+        list[at] = number;
+        (Act::RingCheck(new, list), Some(0))
+    };
+    checks.extend(holes.iter().map(|hole| other(length - 1, *hole)));
+    checks.extend(holes.iter().skip(1).chain([&(all.len() as u32 + 1)]).map(|number| other(0, *number)));
+    checks.push((Act::RingCheck(new, ring.clone()), Some(1)));
+    let held = all.iter().map(|rule| (Act::Hold(*rule, 1), None));
+    let gone = holes.iter().map(|hole| (Act::Withdraw(*hole), Some(0)));
+    std::iter::once((Act::Open(length as u32), None)).chain(held).chain(gone).chain(checks).collect()
 }

@@ -120,8 +120,8 @@ impl Writer {
         }
     }
 
-    /// The chain's rules in order, from its end, or in no order; then the rule that closes it. Planning the last two from scratch takes long, so most of
-    /// them go over fewer steps.
+    /// The chain's rules in order, from its end, or in no order; then the rule that closes it, which fits where one of the chain is withdrawn, and that one fits no more.
+    /// Planning the last two from scratch takes long, so most of them go over fewer steps.
     fn chain(&mut self) -> Vec<Act> {
         let order = self.random.below(3);
         let steps = if order == 0 { STEPS } else { self.random.pick(&[STEPS, STEPS_BEFORE, STEPS_BEFORE]) };
@@ -133,10 +133,12 @@ impl Writer {
             _ => shuffle(&mut rules, &mut self.random),
         }
         let mut acts = vec![Act::Open(steps as u32), Act::Watch(rule(0, last, -1_000_000)), Act::Watch(rule(last, 0, 1_000_000))];
-        acts.extend(rules.into_iter().map(Act::Add));
+        acts.extend(rules.iter().copied().map(Act::Add));
         // Over all steps its ring fills a list that has no place too many.
         acts.extend([Act::Consequences, Act::Mark, Act::LastDay, Act::Lend(Place::One, STEPS), Act::Lend(Place::Two, STEPS)]);
         acts.extend([Act::Trial(rule(last, 0, 1_000_000)), Act::Add(rule(last, 0, 1_000_000)), Act::LastDay]);
+        let gone = self.random.below(last);
+        acts.extend([Act::Withdraw(gone as u32), Act::LastDay, Act::Add(rule(last, 0, 1_000_000)), Act::Add(rules[gone]), Act::LastDay]);
         acts
     }
 
@@ -152,7 +154,7 @@ impl Writer {
         acts
     }
 
-    /// All watched rules, all marks and all rules, each with one too many.
+    /// All watched rules, all marks and all rules, each with one too many; then one rule goes, and there is one place again.
     fn full(&mut self, steps: usize) -> Vec<Act> {
         let mut acts = vec![Act::Open(steps as u32)];
         for count in 0..=1_024 {
@@ -175,6 +177,9 @@ impl Writer {
         let rule = self.kept_rule(false);
         let conflict = Rule { first: 1, second: 1, amount: -1 };
         acts.extend([Act::Trial(rule), Act::Mark, Act::Consequences, Act::RingCheck(conflict, vec![4_096]), Act::RingCheck(rule, vec![4_096, 3])]);
+        let (gone, again) = (self.random.below(4_096) as u32, self.kept_rule(true));
+        acts.extend([Act::Withdraw(4_096), Act::Withdraw(gone), Act::Withdraw(gone), Act::LastDay]);
+        acts.extend([Act::RingCheck(conflict, vec![4_096]), Act::RingCheck(conflict, vec![gone]), Act::Trial(conflict), Act::Add(again), Act::Add(again), Act::LastDay]);
         acts
     }
 
@@ -223,16 +228,16 @@ impl Writer {
     }
 
     fn call(&mut self, office: &Office) -> Act {
-        // How often each: Open, Watch, Add, Mark, Back, Trial, Consequences, Ring check, Last day.
-        let weights: [usize; 9] = match self.kind {
-            Kind::Levels => [1, 2, 30, 35, 28, 4, 4, 4, 8],
-            Kind::Watching => [1, 40, 25, 4, 4, 4, 20, 2, 2],
-            Kind::Wide => [0, 10, 60, 5, 4, 8, 2, 6, 4],
-            Kind::Ways => [1, 2, 50, 6, 4, 20, 2, 16, 2],
-            Kind::Edges => [12, 14, 34, 8, 8, 16, 8, 10, 8],
-            Kind::Mixed => [1, 12, 30, 12, 14, 10, 8, 6, 14],
-            Kind::Chain | Kind::Full | Kind::Brim => [0, 5, 20, 10, 8, 20, 5, 20, 6],
-            _ => [2, 12, 40, 9, 8, 10, 9, 12, 8],
+        // How often each: Open, Watch, Add, Mark, Back, Withdraw, Trial, Consequences, Ring check, Last day.
+        let weights: [usize; 10] = match self.kind {
+            Kind::Levels => [1, 2, 30, 35, 28, 20, 4, 4, 4, 8],
+            Kind::Watching => [1, 40, 25, 4, 4, 8, 4, 20, 2, 2],
+            Kind::Wide => [0, 10, 60, 5, 4, 12, 8, 2, 6, 4],
+            Kind::Ways => [1, 2, 50, 6, 4, 12, 20, 2, 16, 2],
+            Kind::Edges => [12, 14, 34, 8, 8, 12, 16, 8, 10, 8],
+            Kind::Mixed => [1, 12, 30, 12, 14, 24, 10, 8, 6, 14],
+            Kind::Chain | Kind::Full | Kind::Brim => [0, 5, 20, 10, 8, 14, 20, 5, 20, 6],
+            _ => [2, 12, 40, 9, 8, 14, 10, 9, 12, 8],
         };
         let mut chosen = self.random.below(weights.iter().sum());
         let mut which = 0;
@@ -246,11 +251,32 @@ impl Writer {
             2 => Act::Add(self.rule(office)),
             3 => Act::Mark,
             4 => Act::Back,
-            5 => Act::Trial(self.rule(office)),
-            6 => Act::Consequences,
-            7 => self.ring_check(office),
+            5 => self.withdraw(office),
+            6 => Act::Trial(self.rule(office)),
+            7 => Act::Consequences,
+            8 => self.ring_check(office),
             _ => Act::LastDay,
         }
+    }
+
+    /// A rule that is held goes, often one of the newest ring; now and then there is none. Often it is added again, or what was refused because of it.
+    fn withdraw(&mut self, office: &Office) -> Act {
+        let held = rules_lent(office);
+        let (refused, ring) = self.refused.clone().map_or((None, Vec::new()), |(rule, ring)| (Some(rule), ring));
+        if held.is_empty() || self.random.chance(100) {
+            // One of them would be held, were it cut to 16 bits.
+            let (next, cut) = (office.next_number(), 65_536 + held.first().copied().unwrap_or(0));
+            return Act::Withdraw(self.random.pick(&[next, next + 1, office.counts().rules, 4_095, 4_096, cut, u32::MAX]));
+        }
+        let of_ring: Vec<u32> = ring.into_iter().skip(1).filter(|number| held.contains(number)).collect();
+        let by_ring = !of_ring.is_empty() && self.random.chance(400);
+        let number = self.random.pick(if by_ring { &of_ring } else { &held });
+        match self.random.below(10) {
+            0..=2 => self.plan.push(Act::Add(office.rule(number as usize))),
+            3 | 4 => self.plan.extend(refused.map(Act::Add)),
+            _ => (),
+        }
+        Act::Withdraw(number)
     }
 
     fn step_count(&mut self, office: &Office) -> u32 {
@@ -265,11 +291,10 @@ impl Writer {
     /// A rule as the kind has them.
     pub fn rule(&mut self, office: &Office) -> Rule {
         let steps = (office.counts().steps as usize).clamp(1, STEPS);
-        let lent = [Place::Xs, Place::Ys, Place::Cs].map(|place| office.lent(place));
-        let held = lent.into_iter().fold(office.counts().rules as usize, usize::min);
-        if held > 0 && self.random.chance(80) {
+        let held = if self.random.chance(80) { rules_lent(office) } else { Vec::new() };
+        if !held.is_empty() {
             // One that is held, as it is, turned round or with another amount.
-            let Rule { first, second, amount } = office.rule(self.random.below(held));
+            let Rule { first, second, amount } = office.rule(self.random.pick(&held) as usize);
             let other = amount.wrapping_add(self.random.between(-1, 1) as i32);
             return self.random.pick(&[Rule { first, second, amount }, Rule { first, second, amount: other }, Rule { first: second, second: first, amount: !other }]);
         }
@@ -317,6 +342,12 @@ impl Writer {
         };
         rule(x, y, amount)
     }
+}
+
+/// The numbers of the rules held, as far as all their columns are lent.
+pub fn rules_lent(office: &Office) -> Vec<u32> {
+    let lent = [Place::Xs, Place::Ys, Place::Cs].map(|place| office.lent(place)).into_iter().fold(usize::MAX, usize::min);
+    office.numbers().into_iter().filter(|number| (*number as usize) < lent).collect()
 }
 
 /// A rule that leads on by a step or two and asks for little. The step is not the last one.

@@ -15,7 +15,7 @@ pub struct Shape {
 }
 
 pub fn all() -> Vec<Shape> {
-    vec![one_step(), rings_of_zero(), chain(), declared(), contradictory(), many_names()]
+    vec![one_step(), rings_of_zero(), holes(), all_places(), chain(), declared(), contradictory(), many_names()]
 }
 
 fn add(x: usize, y: usize, c: i64) -> Act {
@@ -42,8 +42,11 @@ fn every_call() -> Vec<Act> {
         Act::Mark,
         add(0, 0, -1),
         add(0, 0, 2),
+        Act::Withdraw(4_096),
+        Act::Withdraw(0),
         Act::Back,
         Act::Back,
+        Act::Withdraw(1),
         Act::LastDay,
         say("(check-sat)"),
         Act::Start,
@@ -89,6 +92,75 @@ fn rings_of_zero() -> Shape {
     Shape { name: "zero rings", acts, calls: calls.concat(), changes }
 }
 
+/// Rules of several levels with free places between them: a later rule at a lower place, and a place with a rule that was withdrawn.
+fn holes() -> Shape {
+    let acts = vec![
+        Act::SetField(Field::Names, 0),
+        Act::Open(6),
+        add(0, 1, -2),
+        add(1, 2, -3),
+        Act::Mark,
+        add(2, 3, -1),
+        add(5, 5, 0),
+        Act::Mark,
+        add(0, 4, -7),
+        watch(0, 2, -5),
+        watch(4, 0, 6),
+        add(3, 0, 9),
+        Act::Withdraw(1),
+        Act::Withdraw(3),
+        Act::Mark,
+        add(1, 4, -1),
+        Act::Mark,
+    ];
+    // The rule that was withdrawn is held again, and counted; two rules change their places.
+    let changes = vec![
+        vec![Act::Set(Place::Levels, 3, 1), Act::SetField(Field::Rules, 6)],
+        vec![Act::Set(Place::Levels, 3, 5), Act::SetField(Field::Rules, 6)],
+        vec![Act::Set(Place::Levels, 3, 6), Act::SetField(Field::Rules, 6)],
+        vec![Act::Set(Place::Levels, 3, 1)],
+        vec![Act::Set(Place::Levels, 0, 4), Act::Set(Place::Levels, 1, 1)],
+        [Place::Xs, Place::Ys, Place::Cs].into_iter().zip([0, 1, -2]).map(|(place, cell)| Act::Set(place, 3, cell)).chain([Act::Set(Place::Levels, 3, 1), Act::Set(Place::Levels, 0, 0)]).collect(),
+    ];
+    let calls = [
+        vec![Act::Trial(rule(1, 0, 1)), Act::RingCheck(rule(1, 0, 1), vec![3, 0]), Act::RingCheck(rule(1, 0, 1), vec![5, 0]), Act::RingCheck(rule(4, 0, 2), vec![3, 0, 1])],
+        vec![Act::RingCheck(rule(5, 5, -1), vec![3]), Act::RingCheck(rule(5, 5, -1), vec![3, 3]), Act::Withdraw(3), Act::Withdraw(4), add(0, 3, -8), Act::Back, Act::Back, Act::Withdraw(2), add(0, 2, -1)],
+        every_call(),
+    ];
+    Shape { name: "free places between rules", acts, calls: calls.concat(), changes }
+}
+
+/// Every place held, one of them by a later rule.
+fn all_places() -> Shape {
+    let half = reader::RULES / 2;
+    let acts = vec![
+        Act::SetField(Field::Names, 0),
+        Act::Open(3),
+        add(0, 1, -2),
+        Act::Hold(rule(2, 2, 0), half),
+        Act::Mark,
+        Act::Hold(rule(1, 0, 5), half - 1),
+        Act::Withdraw(17),
+        Act::Mark,
+        add(1, 2, -3),
+        add(0, 0, 0),
+    ];
+    let calls = vec![
+        Act::Trial(rule(0, 0, -1)),
+        Act::RingCheck(rule(1, 0, 1), vec![4_096, 0]),
+        Act::RingCheck(rule(1, 0, 1), vec![17, 0]),
+        add(0, 0, 0),
+        Act::Withdraw(4_096),
+        Act::Withdraw(4_095),
+        add(1, 0, 1),
+        Act::Withdraw(0),
+        add(2, 0, 1),
+        Act::Back,
+        Act::LastDay,
+    ];
+    Shape { name: "every place held", acts, calls, changes: Vec::new() }
+}
+
 /// A chain over all steps with the smallest amount, and all marks open. Its ring of all rules is found before the changes: it takes long.
 fn chain() -> Shape {
     let last = STEPS - 1;
@@ -100,7 +172,19 @@ fn chain() -> Shape {
         }
     }
     acts.extend([Act::Trial(rule(last, 0, 1_000_000)), add(last, 0, 0)]);
-    let calls = vec![Act::Trial(rule(15, 0, 1_000_000)), Act::Mark, add(31, 0, 0), Act::LastDay, Act::Consequences, Act::Back, Act::LastDay, say("(check-sat)"), Act::Start];
+    let calls = vec![
+        Act::Trial(rule(15, 0, 1_000_000)),
+        Act::Mark,
+        add(31, 0, 0),
+        Act::LastDay,
+        Act::Consequences,
+        Act::Withdraw(last as u32),
+        Act::Withdraw(last as u32 / 2),
+        Act::Back,
+        Act::LastDay,
+        say("(check-sat)"),
+        Act::Start,
+    ];
     Shape { name: "chain", acts, calls, changes: Vec::new() }
 }
 
@@ -113,6 +197,8 @@ fn commands() -> Vec<Act> {
         say("(get-value (cut dry))"),
         say("(assert (<= (- dry cut) 1))"),
         say("(declare-fun stack () Int)"),
+        Act::Withdraw(0),
+        say("(check-sat)"),
         say("(push 1)"),
         Act::Back,
         Act::Back,

@@ -32,8 +32,8 @@ fn shortest(seed: u64, acts: &[Act]) -> Option<(Vec<Act>, String)> {
     Some(plainer((short, how), &fails))
 }
 
-/// The sequence without a run of calls; the same with the rule numbers in later lists lowered, as if each rule that is left out had been held; with the
-/// run's marks alone; and with the caller writing as many rules that say nothing.
+/// The sequence without a run of calls; the same with the rule numbers in later lists and withdrawals lowered, as if each rule that is left out had been held before
+/// them; with the run's marks alone; and with the caller writing as many rules that say nothing.
 fn without(acts: &[Act], run: Range<usize>) -> Vec<Vec<Act>> {
     let (at, length) = (run.start, run.len());
     let mut rest = acts.to_vec();
@@ -49,11 +49,14 @@ fn without(acts: &[Act], run: Range<usize>) -> Vec<Vec<Act>> {
         }
     }
     let mut all = vec![rest.clone()];
-    if held > 0 && rest[at..].iter().any(|act| matches!(act, Act::RingCheck(..))) {
+    if held > 0 && rest[at..].iter().any(|act| matches!(act, Act::RingCheck(..) | Act::Withdraw(_))) {
+        let lower = |number: &mut u32| *number = number.saturating_sub(held as u32);
         let mut lowered = rest.clone();
         for act in &mut lowered[at..] {
-            if let Act::RingCheck(_, list) = act {
-                list.iter_mut().for_each(|number| *number = number.saturating_sub(held as u32));
+            match act {
+                Act::RingCheck(_, list) => list.iter_mut().for_each(lower),
+                Act::Withdraw(number) => lower(number),
+                _ => (),
             }
         }
         all.push(lowered);

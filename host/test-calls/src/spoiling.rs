@@ -20,29 +20,41 @@ impl Writer {
                 Act::SetField(field, self.random.pick(&[old.wrapping_add(1), old.wrapping_sub(1), 0, u32::MAX, 4_097, STEPS as u32 + 1, 65, WATCHED as u32 + 1]))
             }
             3..=7 => {
+                use Place::*;
                 let cells = [
-                    (Place::Lens, record.names),
-                    (Place::Names, record.names.saturating_mul(32)),
-                    (Place::Xs, counts.rules),
-                    (Place::Ys, counts.rules),
-                    (Place::Cs, counts.rules),
-                    (Place::Days, counts.steps),
-                    (Place::Days, counts.steps),
-                    (Place::Marks, counts.marks),
-                    (Place::Wxs, counts.watched),
-                    (Place::Wys, counts.watched),
-                    (Place::Wcs, counts.watched),
+                    (Lens, record.names),
+                    (Names, record.names.saturating_mul(32)),
+                    (Xs, counts.rules),
+                    (Ys, counts.rules),
+                    (Cs, counts.rules),
+                    (Days, counts.steps),
+                    (Days, counts.steps),
+                    (Levels, counts.rules),
+                    (Levels, counts.rules),
+                    (Wxs, counts.watched),
+                    (Wys, counts.watched),
+                    (Wcs, counts.watched),
                 ];
                 let (place, used) = self.random.pick(if mixed { &cells } else { &cells[2..] });
-                // One in ten stands past the count.
+                // One in ten stands past the count, or is free.
                 let used = (used as usize).min(place.room() - 1);
-                let at = if used == 0 || self.random.chance(100) { used } else { self.random.below(used) };
+                let past = used == 0 || self.random.chance(100);
+                let at = match place {
+                    Xs | Ys | Cs | Levels => self.place(office, past),
+                    _ if past => used,
+                    _ => self.random.below(used),
+                };
                 if at >= office.lent(place) {
                     return Act::Back;
                 }
                 let old = office.cell(place, at);
+                let deepest = i64::from(counts.marks) + 1;
                 self.undo = Some(Act::Set(place, at, old));
-                Act::Set(place, at, self.random.pick(&[old + 1, old - 1, 0, old + 1_000_000, -1, 65_535, 2_147_483_647, old + 7]))
+                let new = match place {
+                    Levels => self.random.pick(&[old + 1, old - 1, 0, 1, deepest, deepest + 1, 255]),
+                    _ => self.random.pick(&[old + 1, old - 1, 0, old + 1_000_000, -1, 65_535, 2_147_483_647, old + 7]),
+                };
+                Act::Set(place, at, new)
             }
             _ => {
                 let place = self.random.pick(&Place::ALL);
@@ -51,5 +63,15 @@ impl Writer {
                 Act::Lend(place, self.random.pick(&[place.room() - 1, place.room() - 1, place.room(), place.room_for(STEPS_BEFORE), 0, 1]))
             }
         }
+    }
+
+    /// A place for rules: one that is held, or a free one; the last one of all, and the room beyond, count as free.
+    fn place(&mut self, office: &Office, free: bool) -> usize {
+        let held = office.numbers();
+        if !free && !held.is_empty() {
+            return self.random.pick(&held) as usize;
+        }
+        let next = office.next_number() as usize;
+        self.random.pick(&[next, next, next + 1, Place::Levels.room() - 1, Place::Levels.room()])
     }
 }

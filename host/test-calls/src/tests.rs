@@ -3,9 +3,10 @@
 use crate::acts::Act;
 use crate::compare::Both;
 use crate::engine::{Given, CONFLICT};
+use crate::office::{Lent, Office};
 use crate::sequences::{Kind, Writer};
 use crate::shorten::report;
-use crate::{damage, pairs, reasons, rings, third, Options};
+use crate::{damage, pairs, reasons, rings, third, withdrawals, Options};
 use common::peers::Question;
 use common::tally;
 use std::collections::BTreeMap;
@@ -38,6 +39,13 @@ impl Tally {
         }
     }
 
+    /// Notes what a call gave where there was something else to count.
+    fn note_further(&mut self, further: Option<&'static str>, given: Given) {
+        if let Some(further) = further {
+            *self.seen.entry((further, given.number)).or_insert(0) += 1;
+        }
+    }
+
     /// Notes what a call gave.
     pub fn note(&mut self, act: &Act, given: Given) {
         if let Some(call) = act.call() {
@@ -53,7 +61,7 @@ impl Tally {
                 },
                 _ => return,
             };
-            *self.seen.entry((further, given.number)).or_insert(0) += 1;
+            self.note_further(Some(further), given);
         }
     }
 }
@@ -67,6 +75,7 @@ pub fn all(options: &Options) -> Tally {
     took("sequences");
     reasons::all(options.seed, &mut tally);
     took("reasons");
+    withdrawals::all(&mut tally);
     rings::all(&mut tally);
     took("long rings");
     damage::all(options, &mut tally);
@@ -89,7 +98,10 @@ fn generated(options: &Options, tally: &mut Tally) -> Vec<Question> {
     for seed in options.seed..options.seed + options.count {
         let kind = Kind::of(seed);
         let began = std::time::Instant::now();
-        let (acts, both, failure) = sequence(kind, seed, &mut |act, given| tally.note(act, given));
+        let (acts, both, failure) = sequence(kind, seed, &mut |act, given, further| {
+            tally.note(act, given);
+            tally.note_further(further, given);
+        });
         if failure.is_none() && questions.len() < most {
             questions.extend(third::question(seed, &both));
         }
@@ -105,16 +117,17 @@ fn generated(options: &Options, tally: &mut Tally) -> Vec<Question> {
 }
 
 /// Writes and compares one sequence: its acts, what is lent at its end, and how it failed at the last act, if it did.
-fn sequence(kind: Kind, seed: u64, note: &mut dyn FnMut(&Act, Given)) -> (Vec<Act>, Both, Option<String>) {
+fn sequence(kind: Kind, seed: u64, note: &mut dyn FnMut(&Act, Given, Option<&'static str>)) -> (Vec<Act>, Both, Option<String>) {
     let mut both = Both::new(seed);
     let mut writer = Writer::new(kind, seed);
     let mut acts = Vec::new();
     while let Some(act) = writer.next(both.office()) {
         acts.push(act.clone());
+        let before = Before::of(both.office(), &act);
         match both.make(&act) {
             Ok(given) => {
                 writer.note(&act, given, both.office());
-                note(&act, given);
+                note(&act, given, before.further(&act, both.office()));
             }
             Err(why) => return (acts, both, Some(why)),
         }
@@ -122,20 +135,49 @@ fn sequence(kind: Kind, seed: u64, note: &mut dyn FnMut(&Act, Given)) -> (Vec<Ac
     (acts, both, None)
 }
 
+/// What is kept of an office to say what a call met there and did.
+struct Before {
+    /// Whether a place below some rule held is free.
+    between: bool,
+    /// The days, before a Withdraw.
+    days: Option<Lent<u32>>,
+}
+
+impl Before {
+    fn of(office: &Office, act: &Act) -> Before {
+        let withdraws = matches!(act, Act::Withdraw(_));
+        Before { between: office.next_number() < office.counts().rules, days: withdraws.then(|| office.shelf.days.clone()) }
+    }
+
+    /// What is counted of a call beside its answer.
+    fn further(&self, act: &Act, after: &Office) -> Option<&'static str> {
+        match act {
+            Act::Add(_) if self.between => Some("Add at a free place between rules"),
+            Act::Command(_) if self.between => Some("command over a free place between rules"),
+            _ if self.days.as_ref().map_or(false, |days| *days != after.shelf.days) => Some("Withdraw, a day moves"),
+            _ => None,
+        }
+    }
+}
+
 /// Prints one sequence.
 pub fn show(kind: Kind, seed: u64) {
-    let (_, both, failure) = sequence(kind, seed, &mut |act, given| println!("{} -> {}, {}, {}", act, given.number, given.one, given.two));
+    let (_, both, failure) = sequence(kind, seed, &mut |act, given, _| println!("{} -> {}, {}, {}", act, given.number, given.one, given.two));
     println!("{:?}, {:?}, {:?}", both.office().counts(), both.office().record(), failure);
 }
 
 /// Every number that a call can give was given, where there were enough sequences. One test for each call.
 fn every_answer(enough: bool, tally: &mut Tally) {
-    const CAN: [(&str, &[u32]); 17] = [
+    const CAN: [(&str, &[u32]); 21] = [
         ("Open", &[0, 1, 3]),
         ("Watch", &[0, 1, 2, 3, 4, 5]),
         ("Add", &[0, 1, 2, 3, 4, 5, 6]),
         ("Mark", &[0, 1, 2, 5]),
         ("Back", &[0, 1, 2, 7]),
+        ("Withdraw", &[0, 1, 2, 12]),
+        ("Withdraw, a day moves", &[0]),
+        ("Add at a free place between rules", &[0, 6]),
+        ("command over a free place between rules", &[0, 5]),
         ("Trial", &[0, 1, 2, 3, 4, 5, 6]),
         ("Conflict, up to 2 rules", &[6]),
         ("Conflict, 3 to 15 rules", &[6]),

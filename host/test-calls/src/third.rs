@@ -27,8 +27,8 @@ pub fn question(seed: u64, both: &Both) -> Option<Question> {
     for step in 0..counts.steps {
         problem.say(&format!("(declare-fun s{} () Int)", step));
     }
-    for number in 0..counts.rules as usize {
-        problem.say(&format!("(assert {})", atom("<=", office.rule(number))));
+    for number in office.numbers() {
+        problem.say(&format!("(assert {})", atom("<=", office.rule(number as usize))));
     }
     problem.say("(check-sat)");
     problem.wanted.push("sat");

@@ -5,8 +5,8 @@ use lib.ListN.{length-replicate}
 use Rattle.meaning.specs.Bounds.{STEPS, RULES}
 use mir.Syntax.{w32}
 use mir.ValLaws.{toZ-ofZ}
-use Rattle.inner_add.proofs.Answers.{base}
-use Rattle.desk.proofs.Entering.{entered, lists-entered, chains-entered, refused-with}
+use Rattle.inner_add.proofs.Answers.{base, counted}
+use Rattle.desk.proofs.Entering.{entered, lists-entered, refused-with}
 use native.Mathlib.Omega.{arith}
 use borrow.Author.Needs.{needs}
 use Rattle.desk.proofs.add.Statement.{statement}
@@ -48,9 +48,12 @@ same-length-4 c = search needs
 same-length-5 : tie.Need-same-length-5
 same-length-5 c = search needs
 
+same-length-6 : tie.Need-same-length-6
+same-length-6 c = search needs
+
 returns : tie.Need-returns
 returns c =
-    let has = c .before .before .before .before .before .before .before .before .before .before .before .has in
+    let has = c .before .before .before .before .before .before .before .before .before .before .before .before .has in
     rw (c .refused .ensures) (refused-with _ _ _ _ _ (c .before .before .before .before .verdict .ensures) _ _ (omega (arith, c .before .if1 .taken)) (has .ensures) (λ f. f))
 
 slice-aggregate-add : tie.Need-slice-aggregate-add
@@ -61,16 +64,14 @@ slice-aggregate-add-2 c = search needs
 
 add-requires : tie.Need-add-requires
 add-requires c κs =
-    let else1 = c .before .before .before .before .before .before .before in
+    let else1 = c .before .before .before .before .before .before .before .before in
     let at-verdict = else1 .before .before .before in
-    let has = at-verdict .before .before .before .before .before .before .before .has in
-    let chains = chains-entered _ _ _ _ _ (at-verdict .verdict .ensures) (omega (arith, else1 .if1 .left)) in (
-      base _ _ _ _ _ _ _ _ _ (entered _ _ _ _ _ (at-verdict .verdict .ensures) (omega (arith, else1 .if1 .left))) _ _ chains,
-      (chains .nexts-room, lists-entered _ _ _ _ _ (at-verdict .verdict .ensures) (has .ensures) (omega (arith, else1 .if1 .left))),
+    let has = at-verdict .before .before .before .before .before .before .before .before .has in
+    let chains = at-verdict .verdict .ensures .chained (omega (arith, else1 .if1 .left)) in
+    let border = entered _ _ _ _ _ (at-verdict .verdict .ensures) (omega (arith, else1 .if1 .left)) in (
+      base _ _ _ _ _ _ _ _ _ border _ _ chains,
+      (chains, (counted _ _ _ _ _ _ _ _ _ border, lists-entered _ _ _ _ _ (at-verdict .verdict .ensures) (has .ensures) (omega (arith, else1 .if1 .left)))),
     )
-
-same-length-6 : tie.Need-same-length-6
-same-length-6 c = search needs
 
 same-length-7 : tie.Need-same-length-7
 same-length-7 c = search needs
@@ -84,14 +85,20 @@ same-length-9 c = search needs
 same-length-10 : tie.Need-same-length-10
 same-length-10 c = search needs
 
+same-length-11 : tie.Need-same-length-11
+same-length-11 c = search needs
+
+same-length-12 : tie.Need-same-length-12
+same-length-12 c = search needs
+
 returns-2 : tie.Need-returns-2
 returns-2 c =
-    let at-add = c .before .before .before .before .before .before .before .before .before .before .before in
-    let else1 = at-add .before .before .before .before .before .before .before .before in
+    let at-add = c .before .before .before .before .before .before .before .before .before .before .before .before .before in
+    let else1 = at-add .before .before .before .before .before .before .before .before .before in
     let at-verdict = else1 .before .before .before in
-    let start = at-verdict .before .before .before .before .before .before .before .before .before .before .before .before .before .before .before .before in
+    let start = at-verdict .before .before .before .before .before .before .before .before .before .before .before .before .before .before .before .before .before in
     (rw (toZ-ofZ w32 (start .args .c) (start .fits .c)) at (at-add .add .ensures))
-    (start .args .marks .now) (start .args .wxs .now) (start .args .wys .now) (start .args .wcs .now) (entered _ _ _ _ _ (at-verdict .verdict .ensures) (omega (arith, else1 .if1 .left)))
+    (start .args .wxs .now) (start .args .wys .now) (start .args .wcs .now) (entered _ _ _ _ _ (at-verdict .verdict .ensures) (omega (arith, else1 .if1 .left)))
 
 pub add-spec : {M : Type 1} → statement M
 add-spec =
@@ -107,13 +114,15 @@ add-spec =
     same-length-3
     same-length-4
     same-length-5
+    same-length-6
     returns
     slice-aggregate-add
     slice-aggregate-add-2
     add-requires
-    same-length-6
     same-length-7
     same-length-8
     same-length-9
     same-length-10
+    same-length-11
+    same-length-12
     returns-2)

@@ -3,7 +3,7 @@ use Prim.Native.Nat.{ℕ}
 use mathlib.Core.Path.{refl}
 use lib.ListN.{length-replicate}
 use Rattle.meaning.specs.Bounds.{STEPS, RULES}
-use Rattle.desk.proofs.Entering.{entered, chains-entered, refused-alone}
+use Rattle.desk.proofs.Entering.{entered, refused-alone}
 use native.Mathlib.Omega.{arith}
 use borrow.Author.Needs.{needs}
 use Rattle.desk.proofs.back.Statement.{statement}
@@ -29,6 +29,9 @@ refused-requires c κs = search needs
 same-length : tie.Need-same-length
 same-length c = search needs
 
+same-length-2 : tie.Need-same-length-2
+same-length-2 c = search needs
+
 returns : tie.Need-returns
 returns c = rw (c .refused .ensures) (refused-alone _ _ _ _ _ (c .before .before .before .before .verdict .ensures) _ _ (omega (arith, c .before .if1 .taken)) refl (λ f. f))
 
@@ -40,12 +43,15 @@ slice-aggregate-back-2 c = search needs
 
 back-requires : tie.Need-back-requires
 back-requires c κs =
-    let else1 = c .before .before .before in
+    let else1 = c .before .before .before .before in
     let verdict = else1 .before .before .before .verdict in
-    (entered _ _ _ _ _ (verdict .ensures) (omega (arith, else1 .if1 .left)), chains-entered _ _ _ _ _ (verdict .ensures) (omega (arith, else1 .if1 .left)))
+    (entered _ _ _ _ _ (verdict .ensures) (omega (arith, else1 .if1 .left)), verdict .ensures .chained (omega (arith, else1 .if1 .left)))
 
-same-length-2 : tie.Need-same-length-2
-same-length-2 c = search needs
+same-length-3 : tie.Need-same-length-3
+same-length-3 c = search needs
+
+same-length-4 : tie.Need-same-length-4
+same-length-4 c = search needs
 
 returns-2 : tie.Need-returns-2
 returns-2 c = search needs
@@ -59,9 +65,11 @@ back-spec =
     verdict-requires
     refused-requires
     same-length
+    same-length-2
     returns
     slice-aggregate-back
     slice-aggregate-back-2
     back-requires
-    same-length-2
+    same-length-3
+    same-length-4
     returns-2)

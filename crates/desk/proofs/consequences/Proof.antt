@@ -56,7 +56,7 @@ consequences-requires c κs =
     let both-have = at-verdict .before .before .before .both-have in
     let is : at-verdict .verdict .result ≡ 0 = omega (arith, c .before .before .before .before .if1 .left) in
     let room = lists-entered _ _ _ _ _ (at-verdict .verdict .ensures) (both-have .ensures) is in
-    (entered _ _ _ _ _ (at-verdict .verdict .ensures) is, (room .0, (room .1, (at-verdict .verdict .ensures .chained is, (at-verdict .verdict .ensures .heads-room, at-verdict .verdict .ensures .nexts-room)))))
+    (entered _ _ _ _ _ (at-verdict .verdict .ensures) is, (room .0, (room .1, at-verdict .verdict .ensures .chained is)))
 
 same-length-3 : tie.Need-same-length-3
 same-length-3 c = search needs

@@ -26,17 +26,11 @@ verdict-requires c κs = (omega (arith, length-replicate {A = ℕ} STEPS 0), ome
 refused-requires : tie.Need-refused-requires
 refused-requires c κs = search needs
 
-same-length : tie.Need-same-length
-same-length c = search needs
-
 returns : tie.Need-returns
 returns c = rw (c .refused .ensures) (refused-alone _ _ _ _ _ (c .before .before .before .before .verdict .ensures) _ _ (omega (arith, c .before .if1 .taken)) refl (λ f. f))
 
 mark-requires : tie.Need-mark-requires
-mark-requires c κs = entered _ _ _ _ _ (c .before .before .before .before .verdict .ensures) (omega (arith, c .before .if1 .left))
-
-same-length-2 : tie.Need-same-length-2
-same-length-2 c = search needs
+mark-requires c κs = entered _ _ _ _ _ (c .before .before .before .verdict .ensures) (omega (arith, c .if1 .left))
 
 returns-2 : tie.Need-returns-2
 returns-2 c = search needs
@@ -49,8 +43,6 @@ mark-spec =
     slice-aggregate-verdict-2
     verdict-requires
     refused-requires
-    same-length
     returns
     mark-requires
-    same-length-2
     returns-2)

@@ -5,8 +5,8 @@ use lib.ListN.{length-replicate}
 use Rattle.meaning.specs.Bounds.{STEPS, RULES}
 use mir.Syntax.{w32}
 use mir.ValLaws.{toZ-ofZ}
-use Rattle.inner_add.proofs.Answers.{base}
-use Rattle.desk.proofs.Entering.{entered, lists-entered, chains-entered, refused-with-two}
+use Rattle.inner_add.proofs.Answers.{base, counted}
+use Rattle.desk.proofs.Entering.{entered, lists-entered, refused-with-two}
 use native.Mathlib.Omega.{arith}
 use borrow.Author.Needs.{needs}
 use Rattle.desk.proofs.trial.Statement.{statement}
@@ -56,8 +56,9 @@ trial-requires c κs =
     let at-verdict = else1 .before .before .before in
     let both-have = at-verdict .before .before .before .both-have in
     let room = lists-entered _ _ _ _ _ (at-verdict .verdict .ensures) (both-have .ensures) (omega (arith, else1 .if1 .left)) in
-    let chains = chains-entered _ _ _ _ _ (at-verdict .verdict .ensures) (omega (arith, else1 .if1 .left)) in
-    (base _ _ _ _ _ _ _ _ _ (entered _ _ _ _ _ (at-verdict .verdict .ensures) (omega (arith, else1 .if1 .left))) _ _ chains, (chains .nexts-room, record { one-room = room .0; two-room = room .1 }))
+    let chains = at-verdict .verdict .ensures .chained (omega (arith, else1 .if1 .left)) in
+    let border = entered _ _ _ _ _ (at-verdict .verdict .ensures) (omega (arith, else1 .if1 .left)) in
+    (base _ _ _ _ _ _ _ _ _ border _ _ chains, (chains, (counted _ _ _ _ _ _ _ _ _ border, record { one-room = room .0; two-room = room .1 })))
 
 same-length-3 : tie.Need-same-length-3
 same-length-3 c = search needs
@@ -71,7 +72,7 @@ returns-2 c =
     let at-verdict = else1 .before .before .before in
     let start = at-verdict .before .before .before .before .before .before .before .before .before .before .before .before .before .before in
     (rw (toZ-ofZ w32 (start .args .c) (start .fits .c)) at (c .before .before .before .before .before .before .trial .ensures))
-    (start .args .marks .now) (start .args .wxs .now) (start .args .wys .now) (start .args .wcs .now) (entered _ _ _ _ _ (at-verdict .verdict .ensures) (omega (arith, else1 .if1 .left)))
+    (start .args .wxs .now) (start .args .wys .now) (start .args .wcs .now) (entered _ _ _ _ _ (at-verdict .verdict .ensures) (omega (arith, else1 .if1 .left)))
 
 pub trial-spec : {M : Type 1} → statement M
 trial-spec =

@@ -25,8 +25,6 @@ returns c =
     record {
       first-unmet = inl (refl, λ h. true≢false (sym (h .0) ∙ not-true _ (c .if1 .taken)));
       chained = λ e. absurd (omega arith);
-      heads-room = start .pre .0;
-      nexts-room = start .pre .1;
     }
 
 has-room-requires : tie.Need-has-room-requires
@@ -38,8 +36,6 @@ returns-2 c =
     record {
       first-unmet = inl (refl, λ h. c .before .has-room .ensures (start .args .counts) .not-so (not-true _ (c .if2 .taken)) (h .1));
       chained = λ e. absurd (omega arith);
-      heads-room = start .pre .0;
-      nexts-room = start .pre .1;
     }
 
 is-sound-requires : tie.Need-is-sound-requires
@@ -67,8 +63,6 @@ returns-3 c =
     record {
       first-unmet = inr ((not-false _ (if1 .left), has-room .ensures (start .args .counts) .so (not-false _ (if2 .left))), inl (refl, is-sound .ensures .decides .not-so (not-true _ (c .if3 .taken))));
       chained = λ e. absurd (omega arith);
-      heads-room = omega (arith, is-sound .kept .1 .1 .1 .1 .1 .1 .1 .1 .1 .0, start .pre .0);
-      nexts-room = omega (arith, is-sound .kept .1 .1 .1 .1 .1 .1 .1 .1 .1 .1 .0, start .pre .1);
     }
 
 same-length-3 : tie.Need-same-length-3
@@ -87,8 +81,6 @@ returns-4 c =
     record {
       first-unmet = inr ((not-false _ (else1 .if1 .left), has-room .ensures (start .args .counts) .so (not-false _ (else2 .if2 .left))), inr (is-sound .ensures .decides .so (not-false _ (c .if3 .left)), refl));
       chained = λ e. is-sound .ensures .chained (not-false _ (c .if3 .left));
-      heads-room = omega (arith, is-sound .kept .1 .1 .1 .1 .1 .1 .1 .1 .1 .0, start .pre .0);
-      nexts-room = omega (arith, is-sound .kept .1 .1 .1 .1 .1 .1 .1 .1 .1 .1 .0, start .pre .1);
     }
 
 pub verdict-spec : {M : Type 1} → statement M

@@ -17,9 +17,19 @@ brought-requires c κs = search needs
 same-length : tie.Need-same-length
 same-length c = search needs
 
+same-length-2 : tie.Need-same-length-2
+same-length-2 c = search needs
+
 returns : tie.Need-returns
-returns c = λ out. start-kept _ _ _ _ _ _ _ _ _ _ _ _ _ _ refl (c .brought .ensures) (c .before .before .before .before .before .start .ensures out)
+returns c = λ out. start-kept _ _ _ _ _ _ _ _ _ _ _ _ _ _ refl (c .brought .ensures) (c .before .before .before .before .before .before .before .start .ensures out)
 
 pub start-spec : {M : Type 1} → statement M
 start-spec =
-    tie.close (tie.spec no-notes-requires start-requires brought-requires same-length returns)
+    tie.close
+    (tie.spec
+    no-notes-requires
+    start-requires
+    brought-requires
+    same-length
+    same-length-2
+    returns)

@@ -88,48 +88,50 @@ module _ {M : Type 1} (𝓤 : URA M) (H : Heap 𝓤) (A : Atoms 𝓤) (W : Given
 
   -- what the callee promises
   abbrev Says : ScriptTold → Lasts core.ended κs′ handed → Type 0
-  Says r zs = (out : List ℕ) → Obeys (start-by-c (lent-by-c (handed .0) (handed .1 .1 .0 .now) (handed .1 .1 .1 .0 .now) (handed .1 .1 .1 .1 .0 .now) (handed .1 .1 .1 .1 .1 .0 .now) (handed .1 .1 .1 .1 .1 .1 .0 .now) (handed .1 .1 .1 .1 .1 .1 .1 .0 .now) (handed .1 .1 .1 .1 .1 .1 .1 .1 .0 .now) (handed .1 .1 .1 .1 .1 .1 .1 .1 .1 .0 .now) (handed .1 .0) (handed .1 .1 .1 .1 .1 .1 .1 .1 .1 .1 .0 .now) (handed .1 .1 .1 .1 .1 .1 .1 .1 .1 .1 .1 .0 .now) out)) (lent-by-c (handed .0) (handed .1 .1 .0 .now) (handed .1 .1 .1 .0 .now) (handed .1 .1 .1 .1 .0 .now) (handed .1 .1 .1 .1 .1 .0 .now) (handed .1 .1 .1 .1 .1 .1 .0 .now) (handed .1 .1 .1 .1 .1 .1 .1 .0 .now) (handed .1 .1 .1 .1 .1 .1 .1 .1 .0 .now) (handed .1 .1 .1 .1 .1 .1 .1 .1 .1 .0 .now) (handed .1 .0) (handed .1 .1 .1 .1 .1 .1 .1 .1 .1 .1 .0 .now) (handed .1 .1 .1 .1 .1 .1 .1 .1 .1 .1 .1 .0 .now) out) (bare (r .number)) (lent-by-c (r .counts) (handed .1 .1 .0 .now) (handed .1 .1 .1 .0 .now) (handed .1 .1 .1 .1 .0 .now) (zs .1 .1 .1 .1 .1 .0) (handed .1 .1 .1 .1 .1 .1 .0 .now) (handed .1 .1 .1 .1 .1 .1 .1 .0 .now) (handed .1 .1 .1 .1 .1 .1 .1 .1 .0 .now) (handed .1 .1 .1 .1 .1 .1 .1 .1 .1 .0 .now) (r .kept) (handed .1 .1 .1 .1 .1 .1 .1 .1 .1 .1 .0 .now) (handed .1 .1 .1 .1 .1 .1 .1 .1 .1 .1 .1 .0 .now) out)
+  Says r zs = (out : List ℕ) → Obeys (start-by-c (lent-by-c (handed .0) (handed .1 .1 .0 .now) (handed .1 .1 .1 .0 .now) (handed .1 .1 .1 .1 .0 .now) (handed .1 .1 .1 .1 .1 .0 .now) (handed .1 .1 .1 .1 .1 .1 .0 .now) (handed .1 .1 .1 .1 .1 .1 .1 .0 .now) (handed .1 .1 .1 .1 .1 .1 .1 .1 .0 .now) (handed .1 .1 .1 .1 .1 .1 .1 .1 .1 .0 .now) (handed .1 .0) (handed .1 .1 .1 .1 .1 .1 .1 .1 .1 .1 .0 .now) (handed .1 .1 .1 .1 .1 .1 .1 .1 .1 .1 .1 .0 .now) out)) (lent-by-c (handed .0) (handed .1 .1 .0 .now) (handed .1 .1 .1 .0 .now) (handed .1 .1 .1 .1 .0 .now) (handed .1 .1 .1 .1 .1 .0 .now) (handed .1 .1 .1 .1 .1 .1 .0 .now) (handed .1 .1 .1 .1 .1 .1 .1 .0 .now) (handed .1 .1 .1 .1 .1 .1 .1 .1 .0 .now) (handed .1 .1 .1 .1 .1 .1 .1 .1 .1 .0 .now) (handed .1 .0) (handed .1 .1 .1 .1 .1 .1 .1 .1 .1 .1 .0 .now) (handed .1 .1 .1 .1 .1 .1 .1 .1 .1 .1 .1 .0 .now) out) (bare (r .number)) (lent-by-c (r .counts) (handed .1 .1 .0 .now) (handed .1 .1 .1 .0 .now) (handed .1 .1 .1 .1 .0 .now) (zs .1 .1 .1 .1 .1 .0) (zs .1 .1 .1 .1 .1 .1 .0) (handed .1 .1 .1 .1 .1 .1 .1 .0 .now) (handed .1 .1 .1 .1 .1 .1 .1 .1 .0 .now) (handed .1 .1 .1 .1 .1 .1 .1 .1 .1 .0 .now) (r .kept) (handed .1 .1 .1 .1 .1 .1 .1 .1 .1 .1 .0 .now) (handed .1 .1 .1 .1 .1 .1 .1 .1 .1 .1 .1 .0 .now) out)
 
   module _ (C : Calls 𝓤 H) (Λ : Loops 𝓤 H) (fm : FmC 𝓤 H (W .laws) C) (known : Triple 𝓤 (C #core) (Core 𝓤 H A at-mem run)) where
     walk : ent 𝓤 (onEntry 𝓤 H A f.signature κs qs a vals) (WpFn 𝓤 H C Λ code.function (flat (typesAt (f.signature .params) κs) vals) Post)
     walk =
         qed W ((‵ (flft (κs .0) (qs .0)) ⊛ ‵ (flft (κs .1 .0) (qs .1 .0)) ⊛ raw (toks 𝓤 A 10 (κs .1 .1) (qs .1 .1))) ∷ ‵ (owns (typesAt (f.signature .params) κs) a vals) ∷ []) ∵ enter ! C Λ code.function (flat (typesAt (f.signature .params) κs) vals) _ $
-        alloc1 ! (λ m0. alloc1 ! (λ m1. alloc1 ! (λ m2. alloc1 ! (λ m3. alloc1 ! (λ m4. alloc1 ! (λ m5. alloc1 ! (λ m6. alloc1 ! (λ m7. alloc1 ! (λ m8. alloc1 ! (λ m9. alloc1 ! (λ m10. alloc1 ! (λ m11. alloc1 ! (λ m12. alloc1 ! (λ m13. alloc1 ! (λ m14. alloc1 ! (λ m15. alloc1 ! (λ m16. alloc1 ! (λ m17. alloc0 ! $ params1 ! $
-        pass1 ! (init ! 32 refl (tt, tt)) $ pass1 ! (init ! 30 refl (tt, tt)) $ pass1 ! (init ! 28 refl (tt, (tt, (record { fits = are .1 .1 .0 .0 .1 .0 }, tt)))) $ pass1 ! (init ! 26 refl (tt, (tt, (record { fits = are .1 .1 .1 .0 .0 .1 .0 }, tt)))) $ pass1 ! (init ! 24 refl (tt, (tt, (record { fits = are .1 .1 .1 .1 .0 .0 .1 .0 }, tt)))) $ pass1 ! (init ! 22 refl (tt, (tt, (record { fits = are .1 .1 .1 .1 .1 .0 .0 .1 .0 }, tt)))) $ pass1 ! (init ! 20 refl (tt, (tt, (record { fits = are .1 .1 .1 .1 .1 .1 .0 .0 .1 .0 }, tt)))) $ pass1 ! (init ! 18 refl (tt, (tt, (record { fits = are .1 .1 .1 .1 .1 .1 .1 .0 .0 .1 .0 }, tt)))) $ pass1 ! (init ! 16 refl (tt, (tt, (record { fits = are .1 .1 .1 .1 .1 .1 .1 .1 .0 .0 .1 .0 }, tt)))) $ pass1 ! (init ! 14 refl (tt, (tt, (record { fits = are .1 .1 .1 .1 .1 .1 .1 .1 .1 .0 .0 .1 .0 }, tt)))) $ pass1 ! (init ! 12 refl (tt, (tt, (record { fits = are .1 .1 .1 .1 .1 .1 .1 .1 .1 .1 .0 .0 .1 .0 }, tt)))) $ pass1 ! (init ! 10 refl (tt, (tt, (record { fits = are .1 .1 .1 .1 .1 .1 .1 .1 .1 .1 .1 .0 .0 .1 .0 }, tt)))) $ pass0 ! $
+        alloc1 ! (λ m0. alloc1 ! (λ m1. alloc1 ! (λ m2. alloc1 ! (λ m3. alloc1 ! (λ m4. alloc1 ! (λ m5. alloc1 ! (λ m6. alloc1 ! (λ m7. alloc1 ! (λ m8. alloc1 ! (λ m9. alloc1 ! (λ m10. alloc1 ! (λ m11. alloc1 ! (λ m12. alloc1 ! (λ m13. alloc1 ! (λ m14. alloc1 ! (λ m15. alloc1 ! (λ m16. alloc1 ! (λ m17. alloc1 ! (λ m18. alloc1 ! (λ m19. alloc0 ! $ params1 ! $
+        pass1 ! (init ! 36 refl (tt, tt)) $ pass1 ! (init ! 34 refl (tt, tt)) $ pass1 ! (init ! 32 refl (tt, (tt, (record { fits = are .1 .1 .0 .0 .1 .0 }, tt)))) $ pass1 ! (init ! 30 refl (tt, (tt, (record { fits = are .1 .1 .1 .0 .0 .1 .0 }, tt)))) $ pass1 ! (init ! 28 refl (tt, (tt, (record { fits = are .1 .1 .1 .1 .0 .0 .1 .0 }, tt)))) $ pass1 ! (init ! 26 refl (tt, (tt, (record { fits = are .1 .1 .1 .1 .1 .0 .0 .1 .0 }, tt)))) $ pass1 ! (init ! 24 refl (tt, (tt, (record { fits = are .1 .1 .1 .1 .1 .1 .0 .0 .1 .0 }, tt)))) $ pass1 ! (init ! 22 refl (tt, (tt, (record { fits = are .1 .1 .1 .1 .1 .1 .1 .0 .0 .1 .0 }, tt)))) $ pass1 ! (init ! 20 refl (tt, (tt, (record { fits = are .1 .1 .1 .1 .1 .1 .1 .1 .0 .0 .1 .0 }, tt)))) $ pass1 ! (init ! 18 refl (tt, (tt, (record { fits = are .1 .1 .1 .1 .1 .1 .1 .1 .1 .0 .0 .1 .0 }, tt)))) $ pass1 ! (init ! 16 refl (tt, (tt, (record { fits = are .1 .1 .1 .1 .1 .1 .1 .1 .1 .1 .0 .0 .1 .0 }, tt)))) $ pass1 ! (init ! 14 refl (tt, (tt, (record { fits = are .1 .1 .1 .1 .1 .1 .1 .1 .1 .1 .1 .0 .0 .1 .0 }, tt)))) $ pass0 ! $
         -- the records are taken out of what is lent
-        move ! (37 ∷ []) $ fsplit ! $ fsplit3 ! $ drop ! $ move ! (2 ∷ []) $ fsplit ! $ fsplit3 ! $ drop ! $ move ! (41 ∷ []) $ split ! $ move ! (1 ∷ []) $ split ! $
+        move ! (41 ∷ []) $ fsplit ! $ fsplit3 ! $ drop ! $ move ! (2 ∷ []) $ fsplit ! $ fsplit3 ! $ drop ! $ move ! (45 ∷ []) $ split ! $ move ! (1 ∷ []) $ split ! $
         move ! (6 ∷ 7 ∷ 2 ∷ []) $ opens ! tt T.the-row {h = a .0 .now} (a .0 .ptr .0) (a .0 .ptr .1) (λ vs0.
         spelt ! T.the-row (Is T.the-row) (shows 𝓤 H A T.the-row) (LL.vals T.the-type T′.the-laws) (LL.tells T.the-type T′.the-laws) fullShare (a .0 .now) vs0 (a .0 .ptr .0) (a .0 .ptr .1) $ move ! (1 ∷ []) $ peeks ! T.the-row (Is T.the-row) (shows 𝓤 H A T.the-row) (a .0 .now) ((LL.vals T.the-type T′.the-laws) (a .0 .now)) (λ g0.
         move ! (7 ∷ 8 ∷ 5 ∷ []) $ opens ! tt R.the-row {h = a .1 .0 .now} (a .1 .0 .ptr .0) (a .1 .0 .ptr .1) (λ vs1.
         spelt ! R.the-row (Is R.the-row) (shows 𝓤 H A R.the-row) (LL.vals R.the-type R′.the-laws) (LL.tells R.the-type R′.the-laws) fullShare (a .1 .0 .now) vs1 (a .1 .0 .ptr .0) (a .1 .0 .ptr .1) $ move ! (1 ∷ []) $ peeks ! R.the-row (Is R.the-row) (shows 𝓤 H A R.the-row) (a .1 .0 .now) ((LL.vals R.the-type R′.the-laws) (a .1 .0 .now)) (λ g1.
         -- what is handed on is read: the records are copied, and what may be written is lent on
-        assigns ! (of-opd ! (load ! (from ! (hop ! (look ! 44 refl) (stop !))) (look-raw ! 6 refl))) (from ! (stop !)) (init ! 18 refl (LL.lawful T.the-type T′.the-laws 𝓤 H A W .typed (a .0 .now) _ g0 .0)) $
-        assigns ! (of-opd ! (load ! (from ! (hop ! (look ! 42 refl) (stop !))) (look-raw ! 1 refl))) (from ! (stop !)) (init ! 16 refl (LL.lawful R.the-type R′.the-laws 𝓤 H A W .typed (a .1 .0 .now) _ g1 .0)) $
-        assigns ! (addr ! (from ! (fld ! refl (hop ! (look-in ! 34 (sub ! 0 refl (whole !))) (stop !))))) (from ! (stop !)) (init ! 14 refl (tt, tt)) $
-        assigns ! (agg ! (and-then ! (load ! (from ! (stop !)) (look ! 14 refl)) (and-then ! (load ! (from ! (fld ! refl (stop !))) (look-in ! 34 (sub ! 1 refl (whole !)))) (no-more !)))) (from ! (stop !)) (init ! 12 refl (tt, (tt, (record { fits = are .1 .1 .1 .1 .1 .0 .0 .1 .0 }, tt)))) $
+        assigns ! (of-opd ! (load ! (from ! (hop ! (look ! 48 refl) (stop !))) (look-raw ! 6 refl))) (from ! (stop !)) (init ! 22 refl (LL.lawful T.the-type T′.the-laws 𝓤 H A W .typed (a .0 .now) _ g0 .0)) $
+        assigns ! (of-opd ! (load ! (from ! (hop ! (look ! 46 refl) (stop !))) (look-raw ! 1 refl))) (from ! (stop !)) (init ! 20 refl (LL.lawful R.the-type R′.the-laws 𝓤 H A W .typed (a .1 .0 .now) _ g1 .0)) $
+        assigns ! (addr ! (from ! (fld ! refl (hop ! (look-in ! 38 (sub ! 0 refl (whole !))) (stop !))))) (from ! (stop !)) (init ! 18 refl (tt, tt)) $
+        assigns ! (agg ! (and-then ! (load ! (from ! (stop !)) (look ! 18 refl)) (and-then ! (load ! (from ! (fld ! refl (stop !))) (look-in ! 38 (sub ! 1 refl (whole !)))) (no-more !)))) (from ! (stop !)) (init ! 16 refl (tt, (tt, (record { fits = are .1 .1 .1 .1 .1 .0 .0 .1 .0 }, tt)))) $
+        assigns ! (addr ! (from ! (fld ! refl (hop ! (look-in ! 36 (sub ! 0 refl (whole !))) (stop !))))) (from ! (stop !)) (init ! 14 refl (tt, tt)) $
+        assigns ! (agg ! (and-then ! (load ! (from ! (stop !)) (look ! 14 refl)) (and-then ! (load ! (from ! (fld ! refl (stop !))) (look-in ! 36 (sub ! 1 refl (whole !)))) (no-more !)))) (from ! (stop !)) (init ! 12 refl (tt, (tt, (record { fits = are .1 .1 .1 .1 .1 .1 .0 .0 .1 .0 }, tt)))) $
         -- the call
         move ! (0 ∷ 11 ∷ []) $ fjoin ! $ move ! (5 ∷ 0 ∷ []) $ fjoin ! $ move ! (9 ∷ 0 ∷ []) $ join ! $ use1 W (raw (Core 𝓤 H A at-mem run .pre to-core)) (asked 𝓤 H A W _) $
-        calls-at ! fm (Core 𝓤 H A at-mem run) known to-core (and-then ! (load ! (from ! (stop !)) (look ! 15 refl)) (and-then ! (load ! (from ! (stop !)) (look ! 13 refl)) (and-then ! (load ! (from ! (stop !)) (look ! 37 refl)) (and-then ! (load ! (from ! (stop !)) (look ! 35 refl)) (and-then ! (load ! (from ! (stop !)) (look ! 33 refl)) (and-then ! (load ! (from ! (stop !)) (look ! 9 refl)) (and-then ! (load ! (from ! (stop !)) (look ! 29 refl)) (and-then ! (load ! (from ! (stop !)) (look ! 27 refl)) (and-then ! (load ! (from ! (stop !)) (look ! 25 refl)) (and-then ! (load ! (from ! (stop !)) (look ! 23 refl)) (and-then ! (load ! (from ! (stop !)) (look ! 21 refl)) (and-then ! (load ! (from ! (stop !)) (look ! 19 refl)) (no-more !))))))))))))) (λ w.
+        calls-at ! fm (Core 𝓤 H A at-mem run) known to-core (and-then ! (load ! (from ! (stop !)) (look ! 19 refl)) (and-then ! (load ! (from ! (stop !)) (look ! 17 refl)) (and-then ! (load ! (from ! (stop !)) (look ! 41 refl)) (and-then ! (load ! (from ! (stop !)) (look ! 39 refl)) (and-then ! (load ! (from ! (stop !)) (look ! 37 refl)) (and-then ! (load ! (from ! (stop !)) (look ! 13 refl)) (and-then ! (load ! (from ! (stop !)) (look ! 9 refl)) (and-then ! (load ! (from ! (stop !)) (look ! 31 refl)) (and-then ! (load ! (from ! (stop !)) (look ! 29 refl)) (and-then ! (load ! (from ! (stop !)) (look ! 27 refl)) (and-then ! (load ! (from ! (stop !)) (look ! 25 refl)) (and-then ! (load ! (from ! (stop !)) (look ! 23 refl)) (no-more !))))))))))))) (λ w.
         use1 W (later (some (λ (r : ScriptTold). (raw (alive 𝓤 H A core.signature κs′ qs′) ⊛ ‵ (O.the-row .own r (w ∷ []))) ⊛ raw (ensured 𝓤 H A core.ended (core.clauses 𝓤 H A at-mem run) κs′ handed tt r)))) (id⊢ 𝓤 _) $ await ! tt $ pick ! (λ r.
         split ! $ move ! (1 ∷ []) $ use1 W (some (λ (zs : Lasts core.ended κs′ handed). ‵ (lasts core.ended κs′ handed zs) ⊛ raw (fact 𝓤 (Says r zs)))) (id⊢ 𝓤 _) $ pick ! (λ zs.
         split ! $ move ! (1 ∷ []) $ heard ! (Says r zs) (λ e. move ! (1 ∷ []) $ split ! $ move ! (1 ∷ []) $ peeks ! O.the-row (Is O.the-row) (shows 𝓤 H A O.the-row) r (w ∷ []) (λ is.
-        land ! (from ! (stop !)) (init ! 19 refl (LL.lawful O.the-type O′.the-laws 𝓤 H A W .typed r _ is .0)) $ rewrite ! 19 (λ (u : Val). ‵ (fat fullShare O′.mir m13 0 u)) (ap only (LL.tells O.the-type O′.the-laws r _ is)) refl $
+        land ! (from ! (stop !)) (init ! 23 refl (LL.lawful O.the-type O′.the-laws 𝓤 H A W .typed r _ is .0)) $ rewrite ! 23 (λ (u : Val). ‵ (fat fullShare O′.mir m13 0 u)) (ap only (LL.tells O.the-type O′.the-laws r _ is)) refl $
         -- what came back is stored, and the borrows are closed
-        assigns ! (of-opd ! (load ! (from ! (fld ! refl (stop !))) (look-in ! 19 (sub ! 0 refl (whole !))))) (from ! (hop ! (look ! 43 refl) (stop !))) (store-raw ! 7 refl (LL.lawful T.the-type T′.the-laws 𝓤 H A W .typed (r .counts) _ (LL.owed O.the-type O′.the-laws r _ is .0) .0)) $
-        assigns ! (of-opd ! (load ! (from ! (fld ! refl (stop !))) (look-in ! 19 (sub ! 1 refl (whole !))))) (from ! (hop ! (look ! 41 refl) (stop !))) (store-raw ! 3 refl (LL.lawful R.the-type R′.the-laws 𝓤 H A W .typed (r .kept) _ (LL.owed O.the-type O′.the-laws r _ is .1 .0) .0)) $
-        assigns ! (of-opd ! (load ! (from ! (fld ! refl (stop !))) (look-in ! 19 (sub ! 2 refl (whole !))))) (from ! (stop !)) (init ! 45 refl (tt, record { fits = LL.owed O.the-type O′.the-laws r _ is .1 .1 .0 .1 })) $
+        assigns ! (of-opd ! (load ! (from ! (fld ! refl (stop !))) (look-in ! 23 (sub ! 0 refl (whole !))))) (from ! (hop ! (look ! 47 refl) (stop !))) (store-raw ! 7 refl (LL.lawful T.the-type T′.the-laws 𝓤 H A W .typed (r .counts) _ (LL.owed O.the-type O′.the-laws r _ is .0) .0)) $
+        assigns ! (of-opd ! (load ! (from ! (fld ! refl (stop !))) (look-in ! 23 (sub ! 1 refl (whole !))))) (from ! (hop ! (look ! 45 refl) (stop !))) (store-raw ! 3 refl (LL.lawful R.the-type R′.the-laws 𝓤 H A W .typed (r .kept) _ (LL.owed O.the-type O′.the-laws r _ is .1 .0) .0)) $
+        assigns ! (of-opd ! (load ! (from ! (fld ! refl (stop !))) (look-in ! 23 (sub ! 2 refl (whole !))))) (from ! (stop !)) (init ! 49 refl (tt, record { fits = LL.owed O.the-type O′.the-laws r _ is .1 .1 .0 .1 })) $
         owned ! T.the-row (Is T.the-row) (LL.makes T.the-type T′.the-plain 𝓤 H A) (r .counts) _ (LL.owed O.the-type O′.the-laws r _ is .0) $ move ! (8 ∷ 0 ∷ 9 ∷ 10 ∷ 11 ∷ []) $ closes ! tt T.the-row (r .counts) ((LL.vals T.the-type T′.the-laws) (r .counts)) (a .0 .ptr .0) (a .0 .ptr .1) $
         owned ! R.the-row (Is R.the-row) (LL.makes R.the-type R′.the-plain 𝓤 H A) (r .kept) _ (LL.owed O.the-type O′.the-laws r _ is .1 .0) $ move ! (7 ∷ 0 ∷ 8 ∷ 9 ∷ 10 ∷ []) $ closes ! tt R.the-row (r .kept) ((LL.vals R.the-type R′.the-laws) (r .kept)) (a .1 .0 .ptr .0) (a .1 .0 .ptr .1) $
-        returns ! (look ! 43 refl) $ forget ! 9 refl $ forget ! 11 refl $ forget ! 13 refl $ forget ! 15 refl $ forget ! 17 refl $ forget ! 19 refl $ forget ! 21 refl $ forget ! 23 refl $ forget ! 25 refl $ forget ! 27 refl $ forget ! 29 refl $ forget ! 31 refl $ forget ! 33 refl $ forget ! 35 refl $ forget ! 37 refl $ forget ! 39 refl $ forget ! 41 refl $ forget ! 43 refl $
-        move ! (43 ∷ 44 ∷ []) $ free1 ! $ move ! (41 ∷ 42 ∷ []) $ free1 ! $ move ! (39 ∷ 40 ∷ []) $ free1 ! $ move ! (37 ∷ 38 ∷ []) $ free1 ! $ move ! (35 ∷ 36 ∷ []) $ free1 ! $ move ! (33 ∷ 34 ∷ []) $ free1 ! $ move ! (31 ∷ 32 ∷ []) $ free1 ! $ move ! (29 ∷ 30 ∷ []) $ free1 ! $ move ! (27 ∷ 28 ∷ []) $ free1 ! $ move ! (25 ∷ 26 ∷ []) $ free1 ! $ move ! (23 ∷ 24 ∷ []) $ free1 ! $ move ! (21 ∷ 22 ∷ []) $ free1 ! $ move ! (19 ∷ 20 ∷ []) $ free1 ! $ move ! (17 ∷ 18 ∷ []) $ free1 ! $ move ! (15 ∷ 16 ∷ []) $ free1 ! $ move ! (13 ∷ 14 ∷ []) $ free1 ! $ move ! (11 ∷ 12 ∷ []) $ free1 ! $ move ! (9 ∷ 10 ∷ []) $ free1 ! $ free0 ! $
+        returns ! (look ! 47 refl) $ forget ! 9 refl $ forget ! 11 refl $ forget ! 13 refl $ forget ! 15 refl $ forget ! 17 refl $ forget ! 19 refl $ forget ! 21 refl $ forget ! 23 refl $ forget ! 25 refl $ forget ! 27 refl $ forget ! 29 refl $ forget ! 31 refl $ forget ! 33 refl $ forget ! 35 refl $ forget ! 37 refl $ forget ! 39 refl $ forget ! 41 refl $ forget ! 43 refl $ forget ! 45 refl $ forget ! 47 refl $
+        move ! (47 ∷ 48 ∷ []) $ free1 ! $ move ! (45 ∷ 46 ∷ []) $ free1 ! $ move ! (43 ∷ 44 ∷ []) $ free1 ! $ move ! (41 ∷ 42 ∷ []) $ free1 ! $ move ! (39 ∷ 40 ∷ []) $ free1 ! $ move ! (37 ∷ 38 ∷ []) $ free1 ! $ move ! (35 ∷ 36 ∷ []) $ free1 ! $ move ! (33 ∷ 34 ∷ []) $ free1 ! $ move ! (31 ∷ 32 ∷ []) $ free1 ! $ move ! (29 ∷ 30 ∷ []) $ free1 ! $ move ! (27 ∷ 28 ∷ []) $ free1 ! $ move ! (25 ∷ 26 ∷ []) $ free1 ! $ move ! (23 ∷ 24 ∷ []) $ free1 ! $ move ! (21 ∷ 22 ∷ []) $ free1 ! $ move ! (19 ∷ 20 ∷ []) $ free1 ! $ move ! (17 ∷ 18 ∷ []) $ free1 ! $ move ! (15 ∷ 16 ∷ []) $ free1 ! $ move ! (13 ∷ 14 ∷ []) $ free1 ! $ move ! (11 ∷ 12 ∷ []) $ free1 ! $ move ! (9 ∷ 10 ∷ []) $ free1 ! $ free0 ! $
         -- the exit
         keep ! (7 ∷ 8 ∷ 5 ∷ 2 ∷ 3 ∷ 4 ∷ 0 ∷ 1 ∷ []) $ suffices ! _ (ends-at 𝓤 H A f.ended stayed (f.clauses 𝓤 H A at-mem run) W ((κs, qs, bounds, a, vals), tt) (vint w32 (r .number)) (r .number) (r .counts, (r .kept, zs .1 .1)) (tt, (tt, (fit-lasts κs (past 2 (f.signature .params)) (f.ended .kept .1 .1) (a .1 .1) (zs .1 .1))))) $ says ! e $
         move ! (3 ∷ 0 ∷ []) $ join ! $ move ! (2 ∷ 0 ∷ []) $ join ! $ frame ! $ fsplit ! $ drop ! $ fsplit ! $ drop ! $ move ! (3 ∷ 4 ∷ []) $ feqI ! (List Val) (ptr-vals (a .1 .0)) (ptr-vals (a .1 .0)) refl $ fjoin3 ! $ fjoin ! $ move ! (1 ∷ 2 ∷ []) $ feqI ! (List Val) (ptr-vals (a .0)) (ptr-vals (a .0)) refl $ fjoin3 ! $ fjoin ! $
-        owned ! u32 (Is u32) (uint-makes 𝓤 H A W w32) (r .number) _ (LL.owed O.the-type O′.the-laws r _ is .1 .1 .0) $ move ! (1 ∷ 0 ∷ []) $ done !)))))))))))))))))))))))))))
+        owned ! u32 (Is u32) (uint-makes 𝓤 H A W w32) (r .number) _ (LL.owed O.the-type O′.the-laws r _ is .1 .1 .0) $ move ! (1 ∷ 0 ∷ []) $ done !)))))))))))))))))))))))))))))
 
 module _ {M : Type 1} (𝓤 : URA M) (H : Heap 𝓤) (A : Atoms 𝓤) (W : Given 𝓤 H A) (mem : Memory → SProp 𝓤) (run : Routine → Fun 𝓤) where
   walks : (C : Calls 𝓤 H) (Λ : Loops 𝓤 H) → FmC 𝓤 H (W .laws) C → Triple 𝓤 (C #core) (Core 𝓤 H A mem run) → Walks 𝓤 H A f.ended stayed (WpFn 𝓤 H C Λ code.function) (f.clauses 𝓤 H A mem run)
-  walks C Λ fm known = walked 𝓤 H A f.ended stayed (f.clauses 𝓤 H A mem run) (WpFn 𝓤 H C Λ code.function) spelled (λ κs. (mut-tells (named 0) (κs .0) T.the-row, (mut-tells (named 1) (κs .1 .0) R.the-row, (shr-slice-tells (named 2) (κs .1 .1 .0) u16, (shr-slice-tells (named 3) (κs .1 .1 .1 .0) u16, (shr-slice-tells (named 4) (κs .1 .1 .1 .1 .0) i32, (mut-slice-tells (named 5) (κs .1 .1 .1 .1 .1 .0) u32, (shr-slice-tells (named 6) (κs .1 .1 .1 .1 .1 .1 .0) u32, (shr-slice-tells (named 7) (κs .1 .1 .1 .1 .1 .1 .1 .0) u16, (shr-slice-tells (named 8) (κs .1 .1 .1 .1 .1 .1 .1 .1 .0) u16, (shr-slice-tells (named 9) (κs .1 .1 .1 .1 .1 .1 .1 .1 .1 .0) i32, (shr-slice-tells (named 10) (κs .1 .1 .1 .1 .1 .1 .1 .1 .1 .1 .0) u8, (shr-slice-tells (named 11) (κs .1 .1 .1 .1 .1 .1 .1 .1 .1 .1 .1 .0) u8, tt)))))))))))))
+  walks C Λ fm known = walked 𝓤 H A f.ended stayed (f.clauses 𝓤 H A mem run) (WpFn 𝓤 H C Λ code.function) spelled (λ κs. (mut-tells (named 0) (κs .0) T.the-row, (mut-tells (named 1) (κs .1 .0) R.the-row, (shr-slice-tells (named 2) (κs .1 .1 .0) u16, (shr-slice-tells (named 3) (κs .1 .1 .1 .0) u16, (shr-slice-tells (named 4) (κs .1 .1 .1 .1 .0) i32, (mut-slice-tells (named 5) (κs .1 .1 .1 .1 .1 .0) u32, (mut-slice-tells (named 6) (κs .1 .1 .1 .1 .1 .1 .0) u8, (shr-slice-tells (named 7) (κs .1 .1 .1 .1 .1 .1 .1 .0) u16, (shr-slice-tells (named 8) (κs .1 .1 .1 .1 .1 .1 .1 .1 .0) u16, (shr-slice-tells (named 9) (κs .1 .1 .1 .1 .1 .1 .1 .1 .1 .0) i32, (shr-slice-tells (named 10) (κs .1 .1 .1 .1 .1 .1 .1 .1 .1 .1 .0) u8, (shr-slice-tells (named 11) (κs .1 .1 .1 .1 .1 .1 .1 .1 .1 .1 .1 .0) u8, tt)))))))))))))
       (λ κs qs bounds a g are. via 𝓤 _ (fst∗ 𝓤 _ (emp 𝓤)) (walk 𝓤 H A W mem run κs qs bounds a are C Λ fm known))
 
 meets : {M : Type 1} (𝓤 : URA M) (H : Heap 𝓤) (A : Atoms 𝓤) → Given 𝓤 H A → (mem : Memory → SProp 𝓤) (run : Routine → Fun 𝓤) (𝓣 : Tables 𝓤 H) → Triple 𝓤 (𝓣 .C #core) (Core 𝓤 H A mem run)

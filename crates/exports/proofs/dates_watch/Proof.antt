@@ -23,7 +23,7 @@ use denote.RattleType.{owns, flat}
 use denote.Laws.{Is, Ises, Are, Spells, valss, shows}
 use denote.Plain.{uint-makes, uint-vals, uint-tells}
 use denote.Signed.{sint-vals, sint-tells, sint-lawful}
-use denote.Builtin.{i32, u16, u32}
+use denote.Builtin.{i32, u16, u32, u8}
 use denote.Ref.{ptr-vals, mut-tells}
 use denote.Slice.{slice-vals, mut-slice-tells, shr-slice-tells}
 use denote.Signature.{plain, typesAt}
@@ -126,7 +126,7 @@ module _ {M : Type 1} (𝓤 : URA M) (H : Heap 𝓤) (A : Atoms 𝓤) (W : Given
 
 module _ {M : Type 1} (𝓤 : URA M) (H : Heap 𝓤) (A : Atoms 𝓤) (W : Given 𝓤 H A) (mem : Memory → SProp 𝓤) (run : Routine → Fun 𝓤) where
   walks : (C : Calls 𝓤 H) (Λ : Loops 𝓤 H) → FmC 𝓤 H (W .laws) C → Triple 𝓤 (C #core) (Core 𝓤 H A mem run) → Walks 𝓤 H A f.ended stayed (WpFn 𝓤 H C Λ code.function) (f.clauses 𝓤 H A mem run)
-  walks C Λ fm known = walked 𝓤 H A f.ended stayed (f.clauses 𝓤 H A mem run) (WpFn 𝓤 H C Λ code.function) spelled (λ κs. (mut-tells (named 0) (κs .0) T.the-row, (shr-slice-tells (named 1) (κs .1 .0) u16, (shr-slice-tells (named 2) (κs .1 .1 .0) u16, (shr-slice-tells (named 3) (κs .1 .1 .1 .0) i32, (shr-slice-tells (named 4) (κs .1 .1 .1 .1 .0) u32, (shr-slice-tells (named 5) (κs .1 .1 .1 .1 .1 .0) u32, (mut-slice-tells (named 6) (κs .1 .1 .1 .1 .1 .1 .0) u16, (mut-slice-tells (named 7) (κs .1 .1 .1 .1 .1 .1 .1 .0) u16, (mut-slice-tells (named 8) (κs .1 .1 .1 .1 .1 .1 .1 .1 .0) i32, (uint-tells w32, (uint-tells w32, (sint-tells w32, tt)))))))))))))
+  walks C Λ fm known = walked 𝓤 H A f.ended stayed (f.clauses 𝓤 H A mem run) (WpFn 𝓤 H C Λ code.function) spelled (λ κs. (mut-tells (named 0) (κs .0) T.the-row, (shr-slice-tells (named 1) (κs .1 .0) u16, (shr-slice-tells (named 2) (κs .1 .1 .0) u16, (shr-slice-tells (named 3) (κs .1 .1 .1 .0) i32, (shr-slice-tells (named 4) (κs .1 .1 .1 .1 .0) u32, (shr-slice-tells (named 5) (κs .1 .1 .1 .1 .1 .0) u8, (mut-slice-tells (named 6) (κs .1 .1 .1 .1 .1 .1 .0) u16, (mut-slice-tells (named 7) (κs .1 .1 .1 .1 .1 .1 .1 .0) u16, (mut-slice-tells (named 8) (κs .1 .1 .1 .1 .1 .1 .1 .1 .0) i32, (uint-tells w32, (uint-tells w32, (sint-tells w32, tt)))))))))))))
       (λ κs qs bounds a g are. via 𝓤 _ (fst∗ 𝓤 _ (emp 𝓤)) (walk 𝓤 H A W mem run κs qs bounds a are C Λ fm known))
 
 meets : {M : Type 1} (𝓤 : URA M) (H : Heap 𝓤) (A : Atoms 𝓤) → Given 𝓤 H A → (mem : Memory → SProp 𝓤) (run : Routine → Fun 𝓤) (𝓣 : Tables 𝓤 H) → Triple 𝓤 (𝓣 .C #core) (Core 𝓤 H A mem run)

@@ -1,6 +1,5 @@
 -- `inner_add::fit`: a rule that the days keep is held at once; else `fit_with` tells, over lists of zeros with a place for each step.
-use Rattle.lent.specs.Lent.{first}
-use Rattle.chains.specs.Chains.{number}
+use Rattle.chains.specs.Chains.{number, linked}
 use Prim.Native.Nat.{_≤_, _<_}
 use mathlib.Core.Path.{_≡_}
 use mathlib.Core.Bool.{true, false, true≢false}
@@ -50,7 +49,7 @@ returns c =
     let l : Lack (args .days .now) (args .x) (args .y) (args .c) (lack .result) = rw (toZ-ofZ w32 (args .c) (start .fits .c)) at (lack .ensures) in
     record {
       when-fits = λ e.
-          taken-at-once (args .n) (first (args .m)) number (args .m) (args .xs .now) (args .ys .now) (args .cs .now) (args .days .now) (args .heads .now) (args .nexts .now) (args .x) (args .y) (args .c) (start .pre)
+          taken-at-once (args .n) (linked (args .nexts .now)) number (args .m) (args .xs .now) (args .ys .now) (args .cs .now) (args .days .now) (args .heads .now) (args .nexts .now) (args .x) (args .y) (args .c) (start .pre)
           (l .none (omega (arith, then1 .if1 .taken))) (args .last) _ (rw (toZ-ofZ w32 (args .c) (start .fits .c)) at (at-write-rule .write-rule .ensures));
       when-not = λ e. absurd (true≢false e);
     }

@@ -1,6 +1,5 @@
 -- `inner_add::fit_with`: the plan of the rule raises the days and the rule is written; or the gain has reached x, and nothing is.
-use Rattle.lent.specs.Lent.{first}
-use Rattle.chains.specs.Chains.{number}
+use Rattle.chains.specs.Chains.{number, linked}
 use Prim.Native.Nat.{_≤_, _<_}
 use mathlib.Core.Path.{_≡_, refl, sym, _∙_}
 use mathlib.Core.Bool.{true, false, true≢false, false≢true}
@@ -49,7 +48,7 @@ returns c =
     let start = at-plan .before .before .before .before .before .before .before .before .before .before .before .before .before .before in
     let if1 = c .if1 in
     let args = start .args in
-    let p : RulePlanned (args .n) (first (args .m)) (args .m) (args .xs .now) (args .ys .now) (args .cs .now) (args .days .now) _ _ (args .x) (args .y) (args .c) (plan .result)
+    let p : RulePlanned (args .n) (linked (args .nexts .now)) (args .m) (args .xs .now) (args .ys .now) (args .cs .now) (args .days .now) _ _ (args .x) (args .y) (args .c) (plan .result)
     = rw (toZ-ofZ w32 (args .c) (start .fits .c)) at (plan .ensures) in
     let not = not-true _ (if1 .taken) in
     record {
@@ -68,9 +67,9 @@ raise-days-requires c κs =
     let plan = at-plan .plan in
     let start = at-plan .before .before .before .before .before .before .before .before .before .before .before .before .before .before in
     let args = start .args in
-    let p : RulePlanned (args .n) (first (args .m)) (args .m) (args .xs .now) (args .ys .now) (args .cs .now) (args .days .now) _ _ (args .x) (args .y) (args .c) (plan .result)
+    let p : RulePlanned (args .n) (linked (args .nexts .now)) (args .m) (args .xs .now) (args .ys .now) (args .cs .now) (args .days .now) _ _ (args .x) (args .y) (args .c) (plan .result)
     = rw (toZ-ofZ w32 (args .c) (start .fits .c)) at (plan .ensures) in
-    raisable (args .n) (first (args .m)) number (args .m) (args .xs .now) (args .ys .now) (args .cs .now) (args .days .now) (args .heads .now) (args .nexts .now) (args .x) (args .y) (args .c) (start .pre .0)
+    raisable (args .n) (linked (args .nexts .now)) number (args .m) (args .xs .now) (args .ys .now) (args .cs .now) (args .days .now) (args .heads .now) (args .nexts .now) (args .x) (args .y) (args .c) (start .pre .0)
     _ (p .earliest (not-false _ (if1 .left))) (args .days .now) (omega (arith, plan .kept .1 .1 .1 .1 .1 .1 .1 .1 .1 .1 .1 .0, start .pre .1 .gains-room)) (start .pre .0 .base .ground .days-room)
 
 write-rule-requires : tie.Need-write-rule-requires
@@ -108,12 +107,12 @@ returns-2 c =
     let plan = at-plan .plan in
     let start = at-plan .before .before .before .before .before .before .before .before .before .before .before .before .before .before in
     let args = start .args in
-    let p : RulePlanned (args .n) (first (args .m)) (args .m) (args .xs .now) (args .ys .now) (args .cs .now) (args .days .now) _ _ (args .x) (args .y) (args .c) (plan .result)
+    let p : RulePlanned (args .n) (linked (args .nexts .now)) (args .m) (args .xs .now) (args .ys .now) (args .cs .now) (args .days .now) _ _ (args .x) (args .y) (args .c) (plan .result)
     = rw (toZ-ofZ w32 (args .c) (start .fits .c)) at (plan .ensures) in
     record {
       tells = record {
         when-fits = λ e.
-            taken (args .n) (first (args .m)) number (args .m) (args .xs .now) (args .ys .now) (args .cs .now) (args .days .now) (args .heads .now) (args .nexts .now) (args .x) (args .y) (args .c) (start .pre .0)
+            taken (args .n) (linked (args .nexts .now)) number (args .m) (args .xs .now) (args .ys .now) (args .cs .now) (args .days .now) (args .heads .now) (args .nexts .now) (args .x) (args .y) (args .c) (start .pre .0)
             _ (p .earliest (not-false _ (if1 .left))) (args .last) _ _ _ _ (raise-days .ensures .0) (raise-days .ensures .1) (rw (toZ-ofZ w32 (args .c) (start .fits .c)) at (write-rule .ensures));
         when-not = λ e. absurd (true≢false e);
       };

@@ -1,6 +1,5 @@
 -- `inner_add::plan`: with nothing lacking the days stay; else the gain that is lacking is spread, and x tells whether the rule fits.
-use Rattle.lent.specs.Lent.{first}
-use Rattle.chains.specs.Chains.{number}
+use Rattle.chains.specs.Chains.{number, linked}
 use Prim.Native.Nat.{_<_}
 use mathlib.Core.Path.{_≡_}
 use mir.Syntax.{w32}
@@ -24,7 +23,7 @@ returns : tie.Need-returns
 returns c =
     let start = c .before .before .before .before .before .before .before .before .before in
     let l : Lack (start .args .days .now) (start .args .x) (start .args .y) (start .args .c) (c .before .lack .result) = rw (toZ-ofZ w32 (start .args .c) (start .fits .c)) at (c .before .lack .ensures) in
-    fits-at-once (start .args .n) (first (start .args .m)) number (start .args .m) (start .args .xs .now) (start .args .ys .now) (start .args .cs .now) (start .args .days .now)
+    fits-at-once (start .args .n) (linked (start .args .nexts .now)) number (start .args .m) (start .args .xs .now) (start .args .ys .now) (start .args .cs .now) (start .args .days .now)
     (start .args .heads .now) (start .args .nexts .now) (start .args .gains .now) (start .args .by .now) (start .args .x) (start .args .y) (start .args .c)
     (start .pre) (l .none (omega (arith, c .if1 .taken))) (start .args .by .now)
 
@@ -63,9 +62,9 @@ returns-2 c =
     let lack = else1 .before .lack in
     let start = else1 .before .before .before .before .before .before .before .before .before in
     let l : Lack (start .args .days .now) (start .args .x) (start .args .y) (start .args .c) (lack .result) = rw (toZ-ofZ w32 (start .args .c) (start .fits .c)) at (lack .ensures) in
-    planned (start .args .n) (first (start .args .m)) number (start .args .m) (start .args .xs .now) (start .args .ys .now) (start .args .cs .now) (start .args .days .now)
+    planned (start .args .n) (linked (start .args .nexts .now)) number (start .args .m) (start .args .xs .now) (start .args .ys .now) (start .args .cs .now) (start .args .days .now)
     (start .args .heads .now) (start .args .nexts .now) (start .args .gains .now) (start .args .by .now) (start .args .x) (start .args .y) (start .args .c)
-    (start .pre) (lack .result) (l .some (omega (arith, else1 .if1 .left))) _ _ _ (omega (arith, at-spread-one .spread-one .kept .1 .1 .1 .1 .1 .1 .1 .1 .1 .1 .1 .1 .0, start .pre .no-gains .by-room)) (at-spread-one .spread-one .ensures)
+    (start .pre) (lack .result) (l .some (omega (arith, else1 .if1 .left))) _ _ _ (omega (arith, at-spread-one .spread-one .kept .1 .1 .1 .1 .1 .1 .1 .1 .1 .1 .1 .0, start .pre .no-gains .by-room)) (at-spread-one .spread-one .ensures)
     _ (λ e. omega (arith, eqb-true, leb-true, ltb-true)) (λ e. omega (arith, eqb-false, leb-false, ltb-false))
 
 pub plan-spec : {M : Type 1} → statement M

@@ -7,8 +7,7 @@ use mir.Syntax.{w32}
 use mir.ValLaws.{toZ-ofZ}
 use borrow.Author.Tests.{not-true, not-false}
 use Rattle.meaning.specs.Bounds.{STEPS}
-use Rattle.lent.specs.Lent.{first}
-use Rattle.chains.specs.Chains.{number}
+use Rattle.chains.specs.Chains.{number, linked}
 use Rattle.inner_add.specs.Planning.{RulePlanned}
 use Rattle.inner_add.proofs.Answers.{no-gains, raisable, planned-list}
 use native.Mathlib.Omega.{arith}
@@ -37,7 +36,7 @@ returns : tie.Need-returns
 returns c =
     let start = c .before .before .before .before .before .before .before .before .before .before .before .before in
     let args = start .args in
-    let p : RulePlanned (args .n) (first (args .m)) (args .m) (args .xs .now) (args .ys .now) (args .cs .now) (args .days .now) _ _ (args .x) (args .y) (args .c) (c .before .before .before .plan .result)
+    let p : RulePlanned (args .n) (linked (args .nexts .now)) (args .m) (args .xs .now) (args .ys .now) (args .cs .now) (args .days .now) _ _ (args .x) (args .y) (args .c) (c .before .before .before .plan .result)
     = rw (toZ-ofZ w32 (args .c) (start .fits .c)) at (c .before .before .before .plan .ensures) in
     record {
       planned = λ e. absurd (false≢true e);
@@ -53,9 +52,9 @@ write-days-requires : tie.Need-write-days-requires
 write-days-requires c κs =
     let start = c .before .before .before .before .before .before .before .before .before .before .before .before .before .before in
     let args = start .args in
-    let p : RulePlanned (args .n) (first (args .m)) (args .m) (args .xs .now) (args .ys .now) (args .cs .now) (args .days .now) _ _ (args .x) (args .y) (args .c) (c .before .before .before .before .before .plan .result)
+    let p : RulePlanned (args .n) (linked (args .nexts .now)) (args .m) (args .xs .now) (args .ys .now) (args .cs .now) (args .days .now) _ _ (args .x) (args .y) (args .c) (c .before .before .before .before .before .plan .result)
     = rw (toZ-ofZ w32 (args .c) (start .fits .c)) at (c .before .before .before .before .before .plan .ensures) in
-    raisable (args .n) (first (args .m)) number (args .m) (args .xs .now) (args .ys .now) (args .cs .now) (args .days .now) (args .heads .now) (args .nexts .now) (args .x) (args .y) (args .c) (start .pre .0)
+    raisable (args .n) (linked (args .nexts .now)) number (args .m) (args .xs .now) (args .ys .now) (args .cs .now) (args .days .now) (args .heads .now) (args .nexts .now) (args .x) (args .y) (args .c) (start .pre .0)
     _ (p .earliest (not-false _ (c .before .before .if1 .left))) _
     (omega (arith, c .before .before .before .before .before .plan .kept .1 .1 .1 .1 .1 .1 .1 .1 .1 .1 .1 .0, length-replicate {A = ℕ} STEPS 0, start .pre .0 .base .ground .steps-in)) (omega (arith, start .pre .1, start .pre .0 .base .ground .steps-in))
 
@@ -66,11 +65,11 @@ returns-2 : tie.Need-returns-2
 returns-2 c =
     let start = c .before .before .before .before .before .before .before .before .before .before .before .before .before .before .before .before .before in
     let args = start .args in
-    let p : RulePlanned (args .n) (first (args .m)) (args .m) (args .xs .now) (args .ys .now) (args .cs .now) (args .days .now) _ _ (args .x) (args .y) (args .c) (c .before .before .before .before .before .before .before .before .plan .result)
+    let p : RulePlanned (args .n) (linked (args .nexts .now)) (args .m) (args .xs .now) (args .ys .now) (args .cs .now) (args .days .now) _ _ (args .x) (args .y) (args .c) (c .before .before .before .before .before .before .before .before .plan .result)
     = rw (toZ-ofZ w32 (args .c) (start .fits .c)) at (c .before .before .before .before .before .before .before .before .plan .ensures) in
     record {
       planned = λ e.
-          planned-list (args .n) (first (args .m)) number (args .m) (args .xs .now) (args .ys .now) (args .cs .now) (args .days .now) (args .heads .now) (args .nexts .now) (args .x) (args .y) (args .c) (start .pre .0)
+          planned-list (args .n) (linked (args .nexts .now)) number (args .m) (args .xs .now) (args .ys .now) (args .cs .now) (args .days .now) (args .heads .now) (args .nexts .now) (args .x) (args .y) (args .c) (start .pre .0)
           _ (p .earliest (not-false _ (c .before .before .before .before .before .if1 .left))) _ _ _ (c .before .before .write-days .ensures);
       count-moved = λ e. c .before .before .write-days .ensures .count;
       unfit = λ e. absurd (true≢false e);

@@ -1,8 +1,7 @@
 -- `inner_add::why`: a rule that does not fit is refuted, so `shortest::reason` finds the reason, which is no longer than there are steps.
 use mir.Syntax.{w32}
 use mir.ValLaws.{toZ-ofZ}
-use Rattle.lent.specs.Lent.{first}
-use Rattle.chains.specs.Chains.{number}
+use Rattle.chains.specs.Chains.{number, linked}
 use Rattle.inner_add.proofs.Answers.{refuted, ring-short}
 use native.Mathlib.Omega.{arith}
 use borrow.Author.Needs.{needs}
@@ -16,9 +15,11 @@ reason-requires : tie.Need-reason-requires
 reason-requires c κs =
     let start = c .before .before .before .before .before .before .before .before .before in
     let args = start .args in
-    rw (toZ-ofZ w32 (args .c) (start .fits .c))
-    (refuted (args .n) (args .m) (args .xs .now) (args .ys .now) (args .cs .now) (args .days .now) (args .heads .now) (args .nexts .now) (args .x) (args .y) (args .c) (start .pre .0) (start .pre .1 .0) (start .pre .1 .1 .0)
-    (args .list .now) (start .pre .1 .1 .1))
+    rw (toZ-ofZ w32 (args .c) (start .fits .c)) (
+      refuted (args .n) (args .m) (args .xs .now) (args .ys .now) (args .cs .now) (args .days .now) (args .heads .now) (args .nexts .now) (args .x) (args .y) (args .c) (start .pre .0) (start .pre .1 .0) (start .pre .1 .1 .0)
+          (args .list .now) (start .pre .1 .1 .1),
+      start .pre .0 .base .ground .chained,
+    )
 
 cast-result : tie.Need-cast-result
 cast-result c =
@@ -26,7 +27,7 @@ cast-result c =
     let args = start .args in
     omega (
       arith,
-      ring-short (args .n) (first (args .m)) number (args .m) (args .xs .now) (args .ys .now) (args .cs .now) (args .days .now) (args .heads .now) (args .nexts .now) (args .x) (args .y) (args .c) (start .pre .0) _ _ _
+      ring-short (args .n) (linked (args .nexts .now)) number (args .m) (args .xs .now) (args .ys .now) (args .cs .now) (args .days .now) (args .heads .now) (args .nexts .now) (args .x) (args .y) (args .c) (start .pre .0) _ _ _
           (rw (toZ-ofZ w32 (args .c) (start .fits .c)) at (c .before .before .before .before .before .before .reason .ensures)),
     )
 

@@ -1,49 +1,45 @@
--- `inner_back::back` meets its contract: no open mark is NOMARK; else the rules above the newest mark are taken off their chains, and those under it
--- planned, as the promise says.
+-- `inner_back::back` meets its contract: no open mark is NOMARK; else the places above the marks left are freed, and the rest is planned, as the promise says.
 use Prim.Native.Nat.{_-_}
-use mathlib.Core.Path.{refl}
+use mathlib.Core.Path.{refl, sym}
 use mathlib.Core.Logic.{inl, inr}
-use Rattle.meaning.specs.Bounds.{NOMARK}
+use borrow.Author.Tests.{ltb-false}
+use Rattle.meaning.specs.Bounds.{RULES, NOMARK}
 use Rattle.meaning.proofs.Needs.{obeys-done, obeys-refused}
-use Rattle.inner_back.proofs.Dropping.{droppable}
+use Rattle.meaning.proofs.Places.{taken-at-most}
+use Rattle.chains.proofs.Laws.{lent-own}
+use Rattle.inner_back.proofs.Dropping.{freeable, plannable-left, earliest-left, planned-left}
 use native.Mathlib.Omega.{arith}
 use borrow.Author.Needs.{needs}
 use Rattle.inner_back.proofs.back.Statement.{statement}
 use Rattle.inner_back.proofs.back.Tie as tie
 use Rattle.inner_back.proofs.back.Reads as reads
 use Rattle.inner_back.proofs.back.Lts as lts
-use Rattle.inner_back.proofs.drop_rules.Reads as drop-rules-reads
-use Rattle.inner_back.proofs.keep_first.Reads as keep-first-reads
+use Rattle.inner_back.proofs.free_above.Reads as free-above-reads
+use Rattle.inner_back.proofs.replan.Reads as replan-reads
 use Rattle.meaning.proofs.done.Reads as done-reads
 use Rattle.meaning.proofs.marks_now.Reads as marks-now-reads
 use Rattle.meaning.proofs.refused.Reads as refused-reads
 use Rattle.meaning.proofs.rules_now.Reads as rules-now-reads
 
-cast-open : tie.Need-cast-open
-cast-open c = search needs
-
 refused-requires : tie.Need-refused-requires
 refused-requires c κs = search needs
 
 -- Places of the code, seen from later ones.
-abbrev start-before-else1 : tie.Else1 → tie.Start
-start-before-else1 c = c .before .before .before .before .before .before .before .before .before .before
+abbrev free-above-before-slice-known8 : tie.After-slice-known8 → tie.After-free-above
+free-above-before-slice-known8 c = c .before .before .before .before .before .before .before .before .before .before .before .before
+
+abbrev start-before-free-above-arg3 : tie.After-free-above-arg3 → tie.Start
+start-before-free-above-arg3 c = c .before .before .before .before .before .before .before .before .before .before .before .before .before .before .before .before
 
 returns : tie.Need-returns
 returns c =
     let start = c .before .before .before .before .before .before .before .before .before .before .before in
     rw (c .refused .ensures)
     (obeys-refused _ _ NOMARK (λ e. omega arith) (λ e. omega arith)
-    (inr (start .pre .0 .room, inr (start .pre .0 .sound, inl (refl, λ some. omega (arith, c .before .if1 .taken))))))
+    (inr (start .pre .0 .room, inr (start .pre .0 .sound, inl (refl, λ some. omega (arith, some, c .before .if1 .taken))))))
 
-sub-mark : tie.Need-sub-mark
-sub-mark c = search needs
-
-mul-mark : tie.Need-mul-mark
-mul-mark c = search needs
-
-shared-slice-read-mark : tie.Need-shared-slice-read-mark
-shared-slice-read-mark c = search needs
+sub-open : tie.Need-sub-open
+sub-open c = search needs
 
 cast-steps : tie.Need-cast-steps
 cast-steps c = search needs
@@ -51,39 +47,31 @@ cast-steps c = search needs
 cast-rules : tie.Need-cast-rules
 cast-rules c = search needs
 
-cast-drop-rules : tie.Need-cast-drop-rules
-cast-drop-rules c =
-    let start = start-before-else1 (c .before .before .before) in
-    omega (arith, c .before .before .shared-slice-known7 .given (start .args .counts .marks - 1))
+cast-free-above : tie.Need-cast-free-above
+cast-free-above c = search needs
 
-drop-rules-requires : tie.Need-drop-rules-requires
-drop-rules-requires c κs =
-    let start = start-before-else1 (c .before .before .before .before) in
-    let sound = start .pre .0 .sound in (
-      sound .marks-held (start .args .counts .marks - 1) (omega (arith, c .before .before .before .before .if1 .left)),
+free-above-requires : tie.Need-free-above-requires
+free-above-requires c κs =
+    let start = start-before-free-above-arg3 c in
+    (freeable (start .pre .0) _ (omega arith), start .pre .1)
+
+replan-requires : tie.Need-replan-requires
+replan-requires c κs =
+    let at-free-above = c .before .before .before .before .before .before .before .before .before in
+    let free = at-free-above .free-above in
+    let start = start-before-free-above-arg3 (at-free-above .before) in
+    let chains = free .ensures .1 .1 in (
+      plannable-left (start .pre .0) _ (free .ensures .0) chains,
       (
-        start .pre .1,
-        (
-          λ i i-in. sound .rules-good i i-in .steps-in .first-in,
-          (omega (arith, sound .counts-in .rules-in, start .pre .0 .room .rules-room .firsts-room), omega (arith, sound .counts-in .rules-in)),
-        ),
+        λ all. earliest-left (start .pre .0) _ (free .ensures .0) chains (omega (arith, ltb-false (free .result) (start .args .counts .rules) all, free .ensures .1 .0)),
+        (lent-own _ _ _ _ _ chains, start .pre .0 .sound .last-largest),
       ),
     )
 
-cast-keep-first : tie.Need-cast-keep-first
-cast-keep-first c =
-    let at-shared-slice-known7 = c .before .before .before .before .before .before in
-    let start = start-before-else1 (at-shared-slice-known7 .before) in
-    omega (arith, at-shared-slice-known7 .shared-slice-known7 .given (start .args .counts .marks - 1))
-
-keep-first-requires : tie.Need-keep-first-requires
-keep-first-requires c κs =
-    let else1 = c .before .before .before .before .before .before .before .before .before in
-    let start = start-before-else1 else1 in
-    (droppable (start .pre .0) (omega (arith, else1 .if1 .left)), (c .before .before .before .before .drop-rules .ensures, start .pre .0 .sound .last-largest))
-
-sub-left : tie.Need-sub-left
-sub-left c = search needs
+cast-rules-now : tie.Need-cast-rules-now
+cast-rules-now c =
+    let free-above = free-above-before-slice-known8 c .free-above in
+    omega (arith, free-above .ensures .1 .0, taken-at-most RULES (free-above .last .1 .1 .1 .1 .0))
 
 rules-now-requires : tie.Need-rules-now-requires
 rules-now-requires c κs = search needs
@@ -101,38 +89,51 @@ same-length : tie.Need-same-length
 same-length c = search needs
 
 same-length-2 : tie.Need-same-length-2
-same-length-2 c = c .before .before .before .before .before .before .before .before .before .before .before .before .drop-rules .kept .1 .1 .1 .1 .0
+same-length-2 c =
+    let free-above = free-above-before-slice-known8 (c .before .before .before .before) .free-above in
+    free-above .kept .1 .1 .1 .1 .0
+
+same-length-3 : tie.Need-same-length-3
+same-length-3 c =
+    let free-above = free-above-before-slice-known8 (c .before .before .before .before) .free-above in
+    free-above .kept .1 .1 .1 .1 .1 .0
+
+same-length-4 : tie.Need-same-length-4
+same-length-4 c =
+    let free-above = free-above-before-slice-known8 (c .before .before .before .before) .free-above in
+    free-above .kept .1 .1 .1 .1 .1 .1 .0
 
 returns-2 : tie.Need-returns-2
 returns-2 c =
-    let at-keep-first = c .before .before .before .before .before .before .before in
-    let else1 = at-keep-first .before .before .before .before .before .before .before .before .before .before in
+    let at-replan = c .before .before .before .before .before .before in
+    let at-free-above = at-replan .before .before .before .before .before .before .before .before .before .before in
+    let free = at-free-above .free-above in
+    let else1 = at-free-above .before .before .before .before .before .before .before in
     let start = else1 .before .before .before .before .before .before .before .before .before .before in
-    rw (c .done .ensures, c .before .last-now .ensures, c .before .before .marks-now .ensures, c .before .before .before .rules-now .ensures, at-keep-first .keep-first .ensures .1)
+    let marks = start .args .counts .marks - 1 in
+    rw (c .done .ensures, c .before .last-now .ensures, c .before .before .marks-now .ensures, c .before .before .before .rules-now .ensures, free .ensures .1 .0, free .ensures .0)
     (obeys-done _ _ 0 0 _ (start .pre .0 .room, (start .pre .0 .sound, (omega (arith, else1 .if1 .left), tt)))
-    (record { no-values = (refl, refl); dropped = refl; planned = at-keep-first .keep-first .ensures .0 }))
+    (record { no-values = (refl, refl); dropped = rw (sym (at-replan .replan .ensures .1)) refl; planned = planned-left (start .pre .0) marks (free .ensures .0) (free .ensures .1 .1) (at-replan .replan .ensures .0) }))
 
 pub back-spec : {M : Type 1} → statement M
 back-spec =
     tie.close
     (tie.spec
-    cast-open
     refused-requires
     returns
-    sub-mark
-    mul-mark
-    shared-slice-read-mark
+    sub-open
     cast-steps
     cast-rules
-    cast-drop-rules
-    drop-rules-requires
-    cast-keep-first
-    keep-first-requires
-    sub-left
+    cast-free-above
+    free-above-requires
+    replan-requires
+    cast-rules-now
     rules-now-requires
     marks-now-requires
     last-now-requires
     done-requires
     same-length
     same-length-2
+    same-length-3
+    same-length-4
     returns-2)

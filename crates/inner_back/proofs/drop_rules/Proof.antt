@@ -3,6 +3,7 @@
 use Prim.Native.Nat.{_-_, _≤_}
 use mathlib.Core.Path.{_≡_, refl, _∙_}
 use lib.ListN.{length}
+use Rattle.lent.specs.Lent.{first}
 use Rattle.chains.specs.Chains.{LentChains}
 use Rattle.inner_back.proofs.Unlinking.{linkable, one-fewer}
 use native.Mathlib.Omega.{arith}
@@ -11,44 +12,48 @@ use Rattle.inner_back.proofs.drop_rules.Statement.{statement}
 use Rattle.inner_back.proofs.drop_rules.Tie as tie
 
 abbrev Inv-loop : tie.InvT-loop
-Inv-loop k m n xs heads₀ nexts i₀ heads i = (k ≤ i) × (i ≤ m) × LentChains n i xs heads nexts × (length heads ≡ length heads₀)
+Inv-loop k m n xs heads₀ nexts₀ i₀ heads nexts i = (k ≤ i) × (i ≤ m) × LentChains n (first i) xs heads nexts × (length heads ≡ length heads₀) × (length nexts ≡ length nexts₀)
 
 abbrev μ-loop : tie.MeasureT-loop
-μ-loop k m n xs heads₀ nexts i₀ heads i = i - k
+μ-loop k m n xs heads₀ nexts₀ i₀ heads nexts i = i - k
 
 loop-holds : tie.Need-loop-holds Inv-loop μ-loop
 loop-holds c =
     let start = c .before .before .before in
-    (start .pre .0, omega arith, start .pre .1 .0, refl)
+    (start .pre .0, omega arith, start .pre .1 .0, refl, refl)
 
 sub-i : tie.Need-sub-i Inv-loop μ-loop
 sub-i c = search needs
 
 drop-last-requires : tie.Need-drop-last-requires Inv-loop μ-loop
 drop-last-requires c κs =
-    let at-loop = c .before .before in
+    let at-loop = c .before .before .before in
     let start = at-loop .before .before .before .before in
-    linkable (omega (arith, c .before .loop-test .taken)) (at-loop .loop .inv .2) (start .pre .1 .1 .0 _ (omega (arith, at-loop .loop .inv .1, c .before .loop-test .taken)))
-    (omega (arith, start .pre .1 .1 .1 .0, at-loop .loop .inv .1, c .before .loop-test .taken)) (omega (arith, start .pre .1 .1 .1 .1, at-loop .loop .inv .1, c .before .loop-test .taken))
+    linkable (omega (arith, c .before .before .loop-test .taken)) (at-loop .loop .inv .2) (start .pre .1 .1 .0 _ (omega (arith, at-loop .loop .inv .1, c .before .before .loop-test .taken)))
+    (omega (arith, start .pre .1 .1 .1, at-loop .loop .inv .1, c .before .before .loop-test .taken))
 
 loop-less : tie.Need-loop-less Inv-loop μ-loop
 loop-less c = search needs
 
 loop-again : tie.Need-loop-again Inv-loop μ-loop
 loop-again c =
-    let at-drop-last = c .before .before in
-    let in-loop = at-drop-last .before .before in
+    let at-drop-last = c .before .before .before .before in
+    let in-loop = at-drop-last .before .before .before in
     let loop = in-loop .before .loop in
     let start = in-loop .before .before .before .before .before in
     let drop-last = at-drop-last .drop-last in (
       omega (arith, in-loop .loop-test .taken),
       omega (arith, loop .inv .1),
-      one-fewer (omega (arith, in-loop .loop-test .taken)) (loop .inv .2) (start .pre .1 .1 .0 _ (omega (arith, loop .inv .1, in-loop .loop-test .taken))) (drop-last .kept .1 .0) (drop-last .ensures),
+      one-fewer (omega (arith, in-loop .loop-test .taken)) (loop .inv .2) (start .pre .1 .1 .0 _ (omega (arith, loop .inv .1, in-loop .loop-test .taken))) (drop-last .ensures),
       drop-last .kept .1 .0 ∙ loop .inv .3,
+      drop-last .kept .1 .1 .0 ∙ loop .inv .4,
     )
 
 same-length : tie.Need-same-length Inv-loop μ-loop
 same-length c = c .before .loop .inv .3
+
+same-length-2 : tie.Need-same-length-2 Inv-loop μ-loop
+same-length-2 c = c .before .loop .inv .4
 
 returns : tie.Need-returns Inv-loop μ-loop
 returns c =
@@ -68,4 +73,5 @@ drop-rules-spec =
     loop-less
     loop-again
     same-length
+    same-length-2
     returns)

@@ -33,7 +33,7 @@ spread-requires c κs =
     let chains = start .pre .1 .0 in
     let room = start .pre .1 .1 .1 in
     let ask = at-ask .ask in (
-      ground (start .pre .0) (chains .heads-room) (λ i h. omega (arith, h, chains .nexts-room)) (chains .chained),
+      ground (start .pre .0) (chains .heads-room) (λ i on. omega (arith, on .0, chains .nexts-room)) (chains .chained),
       askable (start .args .days .now) (start .pre .1 .1 .0 .1) (omega (arith, ask .kept .1 .1 .1 .0, room .gains-room)) (room .by-room) (ask .ensures),
     )
 
@@ -43,7 +43,7 @@ bring-requires c κs =
     let at-ask = ask-before-spread-arg3 (at-spread .before) in
     let start = start-before-ask-arg2 (at-ask .before) in
     bringable (start .pre .0) (at-ask .ask .ensures) (at-spread .spread .ensures) (start .pre .1 .1 .0 .1)
-    (omega (arith, at-spread .spread .kept .1 .1 .1 .1 .1 .1 .1 .1 .1 .0, at-ask .ask .kept .1 .1 .1 .0, start .pre .1 .1 .1 .gains-room))
+    (omega (arith, at-spread .spread .kept .1 .1 .1 .1 .1 .1 .1 .1 .0, at-ask .ask .kept .1 .1 .1 .0, start .pre .1 .1 .1 .gains-room))
 
 same-length : tie.Need-same-length
 same-length c = c .before .before .bring .kept .1 .1 .1 .0
@@ -52,12 +52,12 @@ same-length-2 : tie.Need-same-length-2
 same-length-2 c =
     let at-spread = spread-before-slice-known7 c in
     let ask = ask-before-spread-arg3 (at-spread .before) .ask in
-    at-spread .spread .kept .1 .1 .1 .1 .1 .1 .1 .1 .1 .0 ∙ ask .kept .1 .1 .1 .0
+    at-spread .spread .kept .1 .1 .1 .1 .1 .1 .1 .1 .0 ∙ ask .kept .1 .1 .1 .0
 
 same-length-3 : tie.Need-same-length-3
 same-length-3 c =
     let spread = spread-before-slice-known7 c .spread in
-    spread .kept .1 .1 .1 .1 .1 .1 .1 .1 .1 .1 .0
+    spread .kept .1 .1 .1 .1 .1 .1 .1 .1 .1 .0
 
 returns : tie.Need-returns
 returns c =

@@ -1,6 +1,9 @@
 -- `inner_split::consequences` meets its contract: the tables give the chains and the ground to judge every watched rule, and the verdicts are listed.
 use mathlib.Core.Path.{refl}
 use Rattle.meaning.proofs.Needs.{obeys-done}
+use Rattle.lent.specs.Lent.{held-by}
+use Rattle.chains.specs.Chains.{linked}
+use Rattle.inner_split.proofs.Judging.{judged-held}
 use Rattle.inner_split.proofs.Picking.{picked-decided}
 use Rattle.inner_split.proofs.Standing.{ground, near, buildable, chains-by, watching}
 use native.Mathlib.Omega.{arith}
@@ -16,9 +19,6 @@ use Rattle.inner_split.proofs.pick.Reads as pick-reads
 
 cast-n : tie.Need-cast-n
 cast-n c = search needs
-
-cast-m : tie.Need-cast-m
-cast-m c = search needs
 
 cast-w : tie.Need-cast-w
 cast-w c = search needs
@@ -37,7 +37,7 @@ abbrev pick-before-slice-known4 : tie.After-slice-known4 → tie.After-pick
 pick-before-slice-known4 c = c .before .before .before .before .before .before .before
 
 abbrev start-before-wxnexts : tie.After-wxnexts → tie.Start
-start-before-wxnexts c = c .before .before .before .before .before .before .before .before .before .before .before .before .before .before .before
+start-before-wxnexts c = c .before .before .before .before .before .before .before .before .before .before .before .before .before .before
 
 abbrev start-before-never : tie.After-never → tie.Start
 start-before-never c = start-before-wxnexts (c .before .before .before .before .before .before .before .before .before .before .before .before .before .before .before .before)
@@ -47,7 +47,7 @@ build-requires c κs =
     let start = start-before-wxnexts c in
     let a = start .args in
     let border = start .pre .0 in
-    buildable (a .counts) (a .xs .now) (a .ys .now) (a .cs .now) (a .days .now) (a .marks .now) (a .wxs .now) (a .wys .now) (a .wcs .now) border (a .wxs .now) _ _ (border .room .watched-room .firsts-room) (λ j j-in. border .sound .watched-good j j-in .steps-in .first-in) (omega arith) (omega arith)
+    buildable (a .counts) (a .xs .now) (a .ys .now) (a .cs .now) (a .days .now) (a .levels .now) (a .wxs .now) (a .wys .now) (a .wcs .now) border (a .wxs .now) _ _ (border .room .watched-room .firsts-room) (λ j j-in. border .sound .watched-good j j-in .steps-in .first-in) (omega arith) (omega arith)
 
 slice-aggregate-build-3 : tie.Need-slice-aggregate-build-3
 slice-aggregate-build-3 c = search needs
@@ -60,7 +60,7 @@ build-requires-2 c κs =
     let start = start-before-wxnexts (c .before .before .before .before .before) in
     let a = start .args in
     let border = start .pre .0 in
-    buildable (a .counts) (a .xs .now) (a .ys .now) (a .cs .now) (a .days .now) (a .marks .now) (a .wxs .now) (a .wys .now) (a .wcs .now) border (a .wys .now) _ _ (border .room .watched-room .seconds-room) (λ j j-in. border .sound .watched-good j j-in .steps-in .second-in) (omega arith) (omega arith)
+    buildable (a .counts) (a .xs .now) (a .ys .now) (a .cs .now) (a .days .now) (a .levels .now) (a .wxs .now) (a .wys .now) (a .wcs .now) border (a .wys .now) _ _ (border .room .watched-room .seconds-room) (λ j j-in. border .sound .watched-good j j-in .steps-in .second-in) (omega arith) (omega arith)
 
 slice-aggregate-judge-all : tie.Need-slice-aggregate-judge-all
 slice-aggregate-judge-all c = search needs
@@ -93,13 +93,13 @@ judge-all-requires c κs =
     let start = start-before-never c in
     let a = start .args in
     let border = start .pre .0 in (
-      ground (a .counts) (a .xs .now) (a .ys .now) (a .cs .now) (a .days .now) (a .marks .now) (a .wxs .now) (a .wys .now) (a .wcs .now) border (a .heads .now) (a .nexts .now) (start .pre .1 .1 .1 .0) (start .pre .1 .1 .1 .1 .0) (start .pre .1 .1 .1 .1 .1),
+      ground (a .counts) (a .xs .now) (a .ys .now) (a .cs .now) (a .days .now) (a .levels .now) (a .wxs .now) (a .wys .now) (a .wcs .now) border (a .heads .now) (a .nexts .now) (start .pre .1 .1 .1),
       (
-        near (a .counts) (a .xs .now) (a .ys .now) (a .cs .now) (a .days .now) (a .marks .now) (a .wxs .now) (a .wys .now) (a .wcs .now) border,
+        near (a .counts) (a .xs .now) (a .ys .now) (a .cs .now) (a .days .now) (a .levels .now) (a .wxs .now) (a .wys .now) (a .wcs .now) border,
         (
-          watching (a .counts) (a .xs .now) (a .ys .now) (a .cs .now) (a .days .now) (a .marks .now) (a .wxs .now) (a .wys .now) (a .wcs .now) border (build .last .1 .1 .1 .0) (build .last .1 .1 .1 .1 .0) (at-build2 .build2 .last .1 .1 .1 .0) (at-build2 .build2 .last .1 .1 .1 .1 .0)
-              (chains-by (a .counts) (a .xs .now) (a .ys .now) (a .cs .now) (a .days .now) (a .marks .now) (a .wxs .now) (a .wys .now) (a .wcs .now) border (a .wxs .now) (build .last .1 .1 .1 .0) (build .last .1 .1 .1 .1 .0) (build .ensures) (omega (arith, build .kept .1 .1 .1 .0)) (omega (arith, build .kept .1 .1 .1 .1 .0)))
-              (chains-by (a .counts) (a .xs .now) (a .ys .now) (a .cs .now) (a .days .now) (a .marks .now) (a .wxs .now) (a .wys .now) (a .wcs .now) border (a .wys .now) (at-build2 .build2 .last .1 .1 .1 .0) (at-build2 .build2 .last .1 .1 .1 .1 .0) (at-build2 .build2 .ensures) (omega (arith, at-build2 .build2 .kept .1 .1 .1 .0)) (omega (arith, at-build2 .build2 .kept .1 .1 .1 .1 .0))),
+          watching (a .counts) (a .xs .now) (a .ys .now) (a .cs .now) (a .days .now) (a .levels .now) (a .wxs .now) (a .wys .now) (a .wcs .now) border (build .last .1 .1 .1 .0) (build .last .1 .1 .1 .1 .0) (at-build2 .build2 .last .1 .1 .1 .0) (at-build2 .build2 .last .1 .1 .1 .1 .0)
+              (chains-by (a .counts) (a .xs .now) (a .ys .now) (a .cs .now) (a .days .now) (a .levels .now) (a .wxs .now) (a .wys .now) (a .wcs .now) border (a .wxs .now) (build .last .1 .1 .1 .0) (build .last .1 .1 .1 .1 .0) (build .ensures) (omega (arith, build .kept .1 .1 .1 .0)) (omega (arith, build .kept .1 .1 .1 .1 .0)))
+              (chains-by (a .counts) (a .xs .now) (a .ys .now) (a .cs .now) (a .days .now) (a .levels .now) (a .wxs .now) (a .wys .now) (a .wcs .now) border (a .wys .now) (at-build2 .build2 .last .1 .1 .1 .0) (at-build2 .build2 .last .1 .1 .1 .1 .0) (at-build2 .build2 .ensures) (omega (arith, at-build2 .build2 .kept .1 .1 .1 .0)) (omega (arith, at-build2 .build2 .kept .1 .1 .1 .1 .0))),
           record {
             gains-room = omega (arith, border .sound .counts-in .steps-in);
             by-room = omega (arith, border .sound .counts-in .steps-in);
@@ -118,7 +118,7 @@ pick-requires c κs =
     let at-judge-all = judge-all-before-pick-arg c in
     let start = start-before-never (at-judge-all .before) in
     let watched-in = start .pre .0 .sound .counts-in .watched-in in
-    (watched-in, (omega (arith, watched-in, at-judge-all .judge-all .kept .1 .1 .1 .1 .1 .1 .1 .1 .1 .1 .1 .1 .1 .1 .1 .1 .1 .1 .0), start .pre .1 .0))
+    (watched-in, (omega (arith, watched-in, at-judge-all .judge-all .kept .1 .1 .1 .1 .1 .1 .1 .1 .1 .1 .1 .1 .1 .1 .1 .1 .1 .0), start .pre .1 .0))
 
 slice-aggregate-pick-2 : tie.Need-slice-aggregate-pick-2
 slice-aggregate-pick-2 c = search needs
@@ -128,7 +128,7 @@ pick-requires-2 c κs =
     let at-judge-all = judge-all-before-pick-arg (c .before .before .before .before .before) in
     let start = start-before-never (at-judge-all .before) in
     let watched-in = start .pre .0 .sound .counts-in .watched-in in
-    (watched-in, (omega (arith, watched-in, at-judge-all .judge-all .kept .1 .1 .1 .1 .1 .1 .1 .1 .1 .1 .1 .1 .1 .1 .1 .1 .1 .1 .1 .0), start .pre .1 .1 .0))
+    (watched-in, (omega (arith, watched-in, at-judge-all .judge-all .kept .1 .1 .1 .1 .1 .1 .1 .1 .1 .1 .1 .1 .1 .1 .1 .1 .1 .1 .0), start .pre .1 .1 .0))
 
 cast-done : tie.Need-cast-done
 cast-done c =
@@ -157,16 +157,19 @@ returns c =
     let at-pick2 = c .before .before .before in
     let at-pick = at-pick2 .before .before .before .before .before in
     let at-judge-all = at-pick .before .before .before .before .before .before .before in
-    let start = at-judge-all .before .before .before .before .before .before .before .before .before .before .before .before .before .before .before .before .before .before .before .before .before .before .before .before .before .before .before .before .before .before .before .before in
+    let start = at-judge-all .before .before .before .before .before .before .before .before .before .before .before .before .before .before .before .before .before .before .before .before .before .before .before .before .before .before .before .before .before .before .before in
     let a = start .args in
     let border = start .pre .0 in
+    let judged =
+    judged-held (held-by (a .levels .now)) (linked (a .nexts .now)) (a .xs .now) (a .ys .now) (a .cs .now) (a .wxs .now) (a .wys .now) (a .wcs .now) (a .counts .watched) _ _
+    (start .pre .1 .1 .1 .on) (start .pre .1 .1 .1 .only) (at-judge-all .judge-all .ensures) in
     rw (c .done .ensures)
     (obeys-done _ _ (at-pick .pick .result) (at-pick2 .pick2 .result) _
     ((border .room, start .pre .1 .0, start .pre .1 .1 .0), (border .sound, tt))
     (record {
       tables-stay = refl;
-      in-all = picked-decided _ (a .counts .watched) (at-judge-all .judge-all .last .1 .1 .1 .1 .1 .1 .1 .1 .1 .1 .1 .1 .1 .1 .1 .1 .1 .1 .0) (a .one .now) (at-pick .pick .last .1 .1 .0) (at-pick .pick .result) (at-judge-all .judge-all .ensures .in-all) (at-pick .pick .ensures);
-      in-none = picked-decided _ (a .counts .watched) (at-judge-all .judge-all .last .1 .1 .1 .1 .1 .1 .1 .1 .1 .1 .1 .1 .1 .1 .1 .1 .1 .1 .1 .0) (a .two .now) (at-pick2 .pick2 .last .1 .1 .0) (at-pick2 .pick2 .result) (at-judge-all .judge-all .ensures .in-none) (at-pick2 .pick2 .ensures);
+      in-all = picked-decided _ (a .counts .watched) (at-judge-all .judge-all .last .1 .1 .1 .1 .1 .1 .1 .1 .1 .1 .1 .1 .1 .1 .1 .1 .1 .0) (a .one .now) (at-pick .pick .last .1 .1 .0) (at-pick .pick .result) (judged .in-all) (at-pick .pick .ensures);
+      in-none = picked-decided _ (a .counts .watched) (at-judge-all .judge-all .last .1 .1 .1 .1 .1 .1 .1 .1 .1 .1 .1 .1 .1 .1 .1 .1 .1 .1 .0) (a .two .now) (at-pick2 .pick2 .last .1 .1 .0) (at-pick2 .pick2 .result) (judged .in-none) (at-pick2 .pick2 .ensures);
     }))
 
 pub consequences-spec : {M : Type 1} → statement M
@@ -174,7 +177,6 @@ consequences-spec =
     tie.close
     (tie.spec
     cast-n
-    cast-m
     cast-w
     slice-aggregate-build
     slice-aggregate-build-2

@@ -1,5 +1,5 @@
 -- `inner_split::gains_from` meets its contract: no step has a gain once they are cleared, and a spread with no goal tells.
-use Rattle.lent.specs.Lent.{first}
+use Rattle.chains.specs.Chains.{linked}
 use mathlib.Core.Path.{_∙_}
 use Rattle.inner_split.proofs.Telling.{spread-tells}
 use native.Mathlib.Omega.{arith}
@@ -29,12 +29,12 @@ same-length : tie.Need-same-length
 same-length c =
     let spread-one = c .before .before .before .before .spread-one in
     let clear = c .before .before .before .before .before .before .before .before .before .clear in
-    spread-one .kept .1 .1 .1 .1 .1 .1 .1 .1 .1 .1 .1 .0 ∙ clear .kept .1 .0
+    spread-one .kept .1 .1 .1 .1 .1 .1 .1 .1 .1 .1 .0 ∙ clear .kept .1 .0
 
 same-length-2 : tie.Need-same-length-2
 same-length-2 c =
     let spread-one = c .before .before .before .before .spread-one in
-    spread-one .kept .1 .1 .1 .1 .1 .1 .1 .1 .1 .1 .1 .1 .0
+    spread-one .kept .1 .1 .1 .1 .1 .1 .1 .1 .1 .1 .1 .0
 
 returns : tie.Need-returns
 returns c =
@@ -43,7 +43,7 @@ returns c =
     let clear = at-clear .clear in
     let start = at-clear .before .before .before .before .before .before .before .before .before in
     let a = start .args in
-    spread-tells (a .n) (first (a .m)) (a .xs .now) (a .ys .now) (a .cs .now) (a .days .now) (a .a) (clear .last .1 .0) (spread-one .last .1 .1 .1 .1 .1 .1 .1 .1 .1 .1 .1 .0) (spread-one .last .1 .1 .1 .1 .1 .1 .1 .1 .1 .1 .1 .1 .0)
+    spread-tells (a .n) (linked (a .nexts .now)) (a .xs .now) (a .ys .now) (a .cs .now) (a .days .now) (a .a) (clear .last .1 .0) (spread-one .last .1 .1 .1 .1 .1 .1 .1 .1 .1 .1 .0) (spread-one .last .1 .1 .1 .1 .1 .1 .1 .1 .1 .1 .1 .0)
     (start .pre .1 .0) (start .pre .0 .plan) (spread-one .ensures)
 
 pub gains-from-spec : {M : Type 1} → statement M

@@ -1,6 +1,6 @@
 -- `inner_split::judge` meets its contract: where both chains of the step are empty there is nothing to judge; else the gains from it tell all its
 -- watched rules.
-use Rattle.lent.specs.Lent.{first}
+use Rattle.chains.specs.Chains.{linked}
 use Prim.Native.Nat.{ℕ, _≤_}
 use mathlib.Core.List.{List}
 use lib.ListN.{length}
@@ -83,8 +83,8 @@ judge-firsts-requires c κs =
     let a = start .args in
     let watching = start .pre .1 .1 .0 in (
       judgeable (a .n) (a .w) (a .wxs .now) (a .wys .now) (a .wcs .now) (a .wxheads .now) (a .wxnexts .now) (a .wyheads .now) (a .wynexts .now) watching
-          (rules (a .xs .now) (a .ys .now) (a .cs .now)) (first (a .m)) (a .days .now) (gains-from .last .1 .1 .1 .1 .1 .1 .1 .1 .1 .0) (a .a) (start .pre .0 .days-room)
-          (omega (arith, gains-from .kept .1 .1 .1 .1 .1 .1 .1 .1 .1 .0, start .pre .1 .1 .1 .0 .gains-room)) (gains-from .ensures),
+          (rules (a .xs .now) (a .ys .now) (a .cs .now)) (linked (a .nexts .now)) (a .days .now) (gains-from .last .1 .1 .1 .1 .1 .1 .1 .1 .0) (a .a) (start .pre .0 .days-room)
+          (omega (arith, gains-from .kept .1 .1 .1 .1 .1 .1 .1 .1 .0, start .pre .1 .1 .1 .0 .gains-room)) (gains-from .ensures),
       (watching .by-first, (start .pre .1 .1 .1 .1, start .pre .1 .1 .1 .0 .always-room)),
     )
 
@@ -96,20 +96,20 @@ judge-seconds-requires c κs =
     let a = start .args in
     let watching = start .pre .1 .1 .0 in (
       judgeable (a .n) (a .w) (a .wxs .now) (a .wys .now) (a .wcs .now) (a .wxheads .now) (a .wxnexts .now) (a .wyheads .now) (a .wynexts .now) watching
-          (rules (a .xs .now) (a .ys .now) (a .cs .now)) (first (a .m)) (a .days .now) (gains-from .last .1 .1 .1 .1 .1 .1 .1 .1 .1 .0) (a .a) (start .pre .0 .days-room)
-          (omega (arith, gains-from .kept .1 .1 .1 .1 .1 .1 .1 .1 .1 .0, start .pre .1 .1 .1 .0 .gains-room)) (gains-from .ensures),
+          (rules (a .xs .now) (a .ys .now) (a .cs .now)) (linked (a .nexts .now)) (a .days .now) (gains-from .last .1 .1 .1 .1 .1 .1 .1 .1 .0) (a .a) (start .pre .0 .days-room)
+          (omega (arith, gains-from .kept .1 .1 .1 .1 .1 .1 .1 .1 .0, start .pre .1 .1 .1 .0 .gains-room)) (gains-from .ensures),
       (watching .by-second, (start .pre .1 .1 .1 .1, start .pre .1 .1 .1 .0 .never-room)),
     )
 
 same-length : tie.Need-same-length
 same-length c =
     let gains-from = gains-from-before-judge-seconds-arg2 (c .before .before .before) .gains-from in
-    gains-from .kept .1 .1 .1 .1 .1 .1 .1 .1 .1 .0
+    gains-from .kept .1 .1 .1 .1 .1 .1 .1 .1 .0
 
 same-length-2 : tie.Need-same-length-2
 same-length-2 c =
     let gains-from = gains-from-before-judge-seconds-arg2 (c .before .before .before) .gains-from in
-    gains-from .kept .1 .1 .1 .1 .1 .1 .1 .1 .1 .1 .0
+    gains-from .kept .1 .1 .1 .1 .1 .1 .1 .1 .1 .0
 
 same-length-3 : tie.Need-same-length-3
 same-length-3 c =
@@ -130,15 +130,15 @@ returns-2 c =
     let in-bounds = start .pre .1 .1 .0 .in-bounds in
     let watched : ℕ → Rule = rules (a .wxs .now) (a .wys .now) (a .wcs .now) in
     let held : ℕ → Rule = rules (a .xs .now) (a .ys .now) (a .cs .now) in
-    let gains : ℕ → ℕ = at (gains-from .last .1 .1 .1 .1 .1 .1 .1 .1 .1 .0) in
+    let gains : ℕ → ℕ = at (gains-from .last .1 .1 .1 .1 .1 .1 .1 .1 .0) in
     record {
       in-all =
           judged-same _ _ (a .w) (a .wxs .now) (a .a) (a .always .now) (judge-firsts .last .1 .1 .1 .1 .1 .1 .1 .1 .1 .1 .0)
-          (λ j j-in of-a. always-told (a .n) held (first (a .m)) (at (a .days .now)) (a .a) gains (gains-from .ensures) (watched j) of-a (in-bounds j j-in))
+          (λ j j-in of-a. always-told (a .n) held (linked (a .nexts .now)) (at (a .days .now)) (a .a) gains (gains-from .ensures) (watched j) of-a (in-bounds j j-in))
           (judge-firsts .ensures);
       in-none =
           judged-same _ _ (a .w) (a .wys .now) (a .a) (a .never .now) (at-judge-seconds .judge-seconds .last .1 .1 .1 .1 .1 .1 .1 .1 .1 .1 .0)
-          (λ j j-in of-a. never-told (a .n) held (first (a .m)) (at (a .days .now)) (a .a) gains (gains-from .ensures) (watched j) of-a (in-bounds j j-in))
+          (λ j j-in of-a. never-told (a .n) held (linked (a .nexts .now)) (at (a .days .now)) (a .a) gains (gains-from .ensures) (watched j) of-a (in-bounds j j-in))
           (at-judge-seconds .judge-seconds .ensures);
     }
 

@@ -1,6 +1,6 @@
 -- `inner_split::judge_all` meets its contract. The loop's invariant: verdicts have been passed on every watched rule of the steps passed. The measure is
 -- what is left of the steps.
-use Rattle.lent.specs.Lent.{first}
+use Rattle.chains.specs.Chains.{linked}
 use Prim.Native.Nat.{_-_, _≤_}
 use mathlib.Core.Path.{_≡_, refl, _∙_}
 use lib.ListN.{length}
@@ -11,12 +11,12 @@ use Rattle.inner_split.proofs.judge_all.Statement.{statement}
 use Rattle.inner_split.proofs.judge_all.Tie as tie
 
 abbrev Inv-loop : tie.InvT-loop
-Inv-loop n m xs ys cs days heads nexts w wxs wys wcs wxheads wxnexts wyheads wynexts gains₀ by₀ always₀ never₀ a₀ gains by always never a =
+Inv-loop n xs ys cs days heads nexts w wxs wys wcs wxheads wxnexts wyheads wynexts gains₀ by₀ always₀ never₀ a₀ gains by always never a =
     (length gains ≡ length gains₀) × (length by ≡ length by₀) × (length always ≡ length always₀) × (length never ≡ length never₀) × (a ≤ n)
-    × DecidedBelow (InAll (first m) xs ys cs wxs wys wcs) w wxs a always × DecidedBelow (InNone (first m) xs ys cs wxs wys wcs) w wys a never
+    × DecidedBelow (InAll (linked nexts) xs ys cs wxs wys wcs) w wxs a always × DecidedBelow (InNone (linked nexts) xs ys cs wxs wys wcs) w wys a never
 
 abbrev μ-loop : tie.MeasureT-loop
-μ-loop n m xs ys cs days heads nexts w wxs wys wcs wxheads wxnexts wyheads wynexts gains₀ by₀ always₀ never₀ a₀ gains by always never a =
+μ-loop n xs ys cs days heads nexts w wxs wys wcs wxheads wxnexts wyheads wynexts gains₀ by₀ always₀ never₀ a₀ gains by always never a =
     n - a
 
 loop-holds : tie.Need-loop-holds Inv-loop μ-loop
@@ -81,13 +81,13 @@ loop-again c =
     let loop = in-loop .before .loop in
     let start = start-before-at-loop (in-loop .before) in
     let a = start .args in (
-      judge .kept .1 .1 .1 .1 .1 .1 .1 .1 .1 .1 .1 .1 .1 .1 .1 .1 .1 .0 ∙ loop .inv .0,
-      judge .kept .1 .1 .1 .1 .1 .1 .1 .1 .1 .1 .1 .1 .1 .1 .1 .1 .1 .1 .0 ∙ loop .inv .1,
-      judge .kept .1 .1 .1 .1 .1 .1 .1 .1 .1 .1 .1 .1 .1 .1 .1 .1 .1 .1 .1 .0 ∙ loop .inv .2,
-      judge .kept .1 .1 .1 .1 .1 .1 .1 .1 .1 .1 .1 .1 .1 .1 .1 .1 .1 .1 .1 .1 .0 ∙ loop .inv .3,
+      judge .kept .1 .1 .1 .1 .1 .1 .1 .1 .1 .1 .1 .1 .1 .1 .1 .1 .0 ∙ loop .inv .0,
+      judge .kept .1 .1 .1 .1 .1 .1 .1 .1 .1 .1 .1 .1 .1 .1 .1 .1 .1 .0 ∙ loop .inv .1,
+      judge .kept .1 .1 .1 .1 .1 .1 .1 .1 .1 .1 .1 .1 .1 .1 .1 .1 .1 .1 .0 ∙ loop .inv .2,
+      judge .kept .1 .1 .1 .1 .1 .1 .1 .1 .1 .1 .1 .1 .1 .1 .1 .1 .1 .1 .1 .0 ∙ loop .inv .3,
       omega (arith, loop-test .taken),
-      below-judged _ (a .w) (a .wxs .now) (loop .a) (loop .always) (judge .last .1 .1 .1 .1 .1 .1 .1 .1 .1 .1 .1 .1 .1 .1 .1 .1 .1 .1 .1 .0) (loop .inv .5) (judge .ensures .in-all),
-      below-judged _ (a .w) (a .wys .now) (loop .a) (loop .never) (judge .last .1 .1 .1 .1 .1 .1 .1 .1 .1 .1 .1 .1 .1 .1 .1 .1 .1 .1 .1 .1 .0) (loop .inv .6) (judge .ensures .in-none),
+      below-judged _ (a .w) (a .wxs .now) (loop .a) (loop .always) (judge .last .1 .1 .1 .1 .1 .1 .1 .1 .1 .1 .1 .1 .1 .1 .1 .1 .1 .1 .0) (loop .inv .5) (judge .ensures .in-all),
+      below-judged _ (a .w) (a .wys .now) (loop .a) (loop .never) (judge .last .1 .1 .1 .1 .1 .1 .1 .1 .1 .1 .1 .1 .1 .1 .1 .1 .1 .1 .1 .0) (loop .inv .6) (judge .ensures .in-none),
     )
 
 same-length : tie.Need-same-length Inv-loop μ-loop

@@ -1,4 +1,4 @@
--- `inner_watch::mark`: no place left is FULL; else one cell and one count are written, as the promise says.
+-- `inner_watch::mark`: no more open is FULL; else one count is raised, as the promise says.
 use mathlib.Core.Path.{refl}
 use mathlib.Core.Logic.{inl, inr}
 use Rattle.meaning.specs.Bounds.{FULL}
@@ -13,8 +13,8 @@ use Rattle.meaning.proofs.done.Reads as done-reads
 use Rattle.meaning.proofs.marks_now.Reads as marks-now-reads
 use Rattle.meaning.proofs.refused.Reads as refused-reads
 
-cast-at : tie.Need-cast-at
-cast-at c = search needs
+cast-if1 : tie.Need-cast-if1
+cast-if1 c = search needs
 
 refused-requires : tie.Need-refused-requires
 refused-requires c κs = search needs
@@ -23,12 +23,6 @@ returns : tie.Need-returns
 returns c =
     let start = c .before .before .before .before .before .before .before .before .before in
     rw (c .refused .ensures) (obeys-refused _ _ FULL (λ e. omega arith) (λ e. omega arith) (inr (start .pre .room, inr (start .pre .sound, inl (refl, λ h. omega arith)))))
-
-mul-marks : tie.Need-mul-marks
-mul-marks c = search needs
-
-slice-write-marks : tie.Need-slice-write-marks
-slice-write-marks c = search needs
 
 add-marks-now : tie.Need-add-marks-now
 add-marks-now c = search needs
@@ -39,9 +33,6 @@ marks-now-requires c κs = search needs
 done-requires : tie.Need-done-requires
 done-requires c κs = search needs
 
-same-length : tie.Need-same-length
-same-length c = search needs
-
 returns-2 : tie.Need-returns-2
 returns-2 c =
     let start = c .before .before .before .before .before .before .before .before .before .before .before in
@@ -51,13 +42,10 @@ pub mark-spec : {M : Type 1} → statement M
 mark-spec =
     tie.close
     (tie.spec
-    cast-at
+    cast-if1
     refused-requires
     returns
-    mul-marks
-    slice-write-marks
     add-marks-now
     marks-now-requires
     done-requires
-    same-length
     returns-2)

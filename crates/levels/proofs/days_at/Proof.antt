@@ -6,7 +6,7 @@ use Rattle.levels.proofs.days_at.Statement.{statement}
 use Rattle.levels.proofs.days_at.Tie as tie
 use Rattle.levels.proofs.days_at.Reads as reads
 use Rattle.levels.proofs.days_at.Lts as lts
-use Rattle.inner_back.proofs.keep_first.Reads as keep-first-reads
+use Rattle.inner_back.proofs.replan.Reads as replan-reads
 use Rattle.levels.proofs.copy_days.Reads as copy-days-reads
 use Rattle.levels.proofs.holds.Reads as holds-reads
 use Rattle.levels.proofs.row_of.Reads as row-of-reads
@@ -20,7 +20,7 @@ row-of-requires c κs = search needs
 copy-days-requires : tie.Need-copy-days-requires
 copy-days-requires c κs =
     let start = c .before .before .before .before .before .before .before .before .before .before in
-    (kept-places (start .pre .0) (c .before .before .before .holds .ensures .so (c .before .before .if1 .taken)) (c .before .row-of .ensures), omega (arith, start .pre .0 .plannable .days-room))
+    (kept-places (start .pre .0) (c .before .before .before .holds .ensures .so (c .before .before .if1 .taken)) (c .before .row-of .ensures), omega (arith, start .pre .0 .days-room))
 
 add-result : tie.Need-add-result
 add-result c = search needs
@@ -43,11 +43,13 @@ returns c =
     let start = then1 .before .before .before .before .before .before .before .before in
     let is-row = c .before .before .before .before .before .row-of .ensures in
     let copied = c .before .before .before .copy-days .ensures in
-    let kept = start .pre .1 .1 .1 .0 in
+    let kept = start .pre .1 .1 .1 .1 .1 in
     (plan-kept (start .pre .0) held is-row kept copied, last-kept (start .pre .0) held is-row kept copied)
 
-keep-first-requires : tie.Need-keep-first-requires
-keep-first-requires c κs = search needs
+replan-requires : tie.Need-replan-requires
+replan-requires c κs =
+    let start = c .before .before .before .before .before .before .before .before .before in
+    (start .pre .0, (start .pre .1 .0, (start .pre .1 .1 .0, start .pre .1 .1 .1 .0)))
 
 same-length-2 : tie.Need-same-length-2
 same-length-2 c = search needs
@@ -67,6 +69,6 @@ days-at-spec =
     shared-slice-read-result
     same-length
     returns
-    keep-first-requires
+    replan-requires
     same-length-2
     returns-2)

@@ -12,12 +12,12 @@ use Rattle.program.proofs.answer.Statement.{statement}
 use Rattle.program.proofs.answer.Tie as tie
 
 abbrev Inv-loop : tie.InvT-loop
-Inv-loop s tab xs₀ ys₀ cs₀ days₀ marks₀ heads₀ nexts₀ kept₀ names₀ lens₀ hashes₀ name-heads₀ name-nexts₀ out₀ at₀ held₀ noted₀ xs ys cs days marks heads nexts kept names lens hashes name-heads name-nexts out at held noted =
+Inv-loop s tab xs₀ ys₀ cs₀ days₀ levels₀ heads₀ nexts₀ kept₀ names₀ lens₀ hashes₀ name-heads₀ name-nexts₀ out₀ at₀ held₀ noted₀ xs ys cs days levels heads nexts kept names lens hashes name-heads name-nexts out at held noted =
     ((length xs ≡ length xs₀)
     × ((length ys ≡ length ys₀)
     × ((length cs ≡ length cs₀)
     × ((length days ≡ length days₀)
-    × ((length marks ≡ length marks₀)
+    × ((length levels ≡ length levels₀)
     × ((length heads ≡ length heads₀)
     × ((length nexts ≡ length nexts₀)
     × ((length kept ≡ length kept₀)
@@ -27,11 +27,11 @@ Inv-loop s tab xs₀ ys₀ cs₀ days₀ marks₀ heads₀ nexts₀ kept₀ name
     × ((length name-heads ≡ length name-heads₀)
     × ((length name-nexts ≡ length name-nexts₀)
     × (length out ≡ length out₀))))))))))))))
-    × (Maintained (noted .names) (in-hand held xs ys cs days marks noted names lens out) heads nexts kept hashes name-heads name-nexts
-    × ((r : ℕ) → Ends s at (in-hand held xs ys cs days marks noted names lens out) r → Ends s at₀ (in-hand held₀ xs₀ ys₀ cs₀ days₀ marks₀ noted₀ names₀ lens₀ out₀) r))
+    × (Maintained (noted .names) (in-hand held xs ys cs days levels noted names lens out) heads nexts kept hashes name-heads name-nexts
+    × ((r : ℕ) → Ends s at (in-hand held xs ys cs days levels noted names lens out) r → Ends s at₀ (in-hand held₀ xs₀ ys₀ cs₀ days₀ levels₀ noted₀ names₀ lens₀ out₀) r))
 
 abbrev μ-loop : tie.MeasureT-loop
-μ-loop s tab xs₀ ys₀ cs₀ days₀ marks₀ heads₀ nexts₀ kept₀ names₀ lens₀ hashes₀ name-heads₀ name-nexts₀ out₀ at₀ held₀ noted₀ xs ys cs days marks heads nexts kept names lens hashes name-heads name-nexts out at held noted = length s - at
+μ-loop s tab xs₀ ys₀ cs₀ days₀ levels₀ heads₀ nexts₀ kept₀ names₀ lens₀ hashes₀ name-heads₀ name-nexts₀ out₀ at₀ held₀ noted₀ xs ys cs days levels heads nexts kept names lens hashes name-heads name-nexts out at held noted = length s - at
 
 loop-holds : tie.Need-loop-holds Inv-loop μ-loop
 loop-holds c =

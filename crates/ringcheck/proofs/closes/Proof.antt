@@ -9,32 +9,32 @@ use borrow.Author.Tests.{not-true, not-false, ne-eqb}
 use native.Mathlib.Omega.{arith}
 use Rattle.meaning.specs.Tables.{rule-at}
 use Rattle.lent.specs.Decides.{decides-no}
-use Rattle.lent.specs.Lent.{columns, first}
+use Rattle.lent.specs.Lent.{columns, held-by}
 use Rattle.ringcheck.proofs.Walk.{Left, sought-back, sum-decides, sought-goes-on, one-further}
 use Rattle.ringcheck.proofs.closes.Statement.{statement}
 use Rattle.ringcheck.proofs.closes.Tie as tie
 
 abbrev Inv-loop : tie.InvT-loop
-Inv-loop m xs ys cs x y amount list reached₀ sum₀ k₀ reached sum k =
+Inv-loop xs ys cs levels x y amount list reached₀ sum₀ k₀ reached sum k =
     (k ≤ length list + 1)
     × (sum ≤ k * 4294967296)
-    × (Left (rule-at (columns xs ys cs)) (first m) x y amount list 1 ↔ Left (rule-at (columns xs ys cs)) (first m) x reached sum list k)
+    × (Left (rule-at (columns xs ys cs)) (held-by levels) x y amount list 1 ↔ Left (rule-at (columns xs ys cs)) (held-by levels) x reached sum list k)
 
 abbrev μ-loop : tie.MeasureT-loop
-μ-loop m xs ys cs x y amount list reached₀ sum₀ k₀ reached sum k = length list - k
+μ-loop xs ys cs levels x y amount list reached₀ sum₀ k₀ reached sum k = length list - k
 
 -- Places of the code, seen from later ones.
 abbrev start-before-at-loop : tie.At-loop Inv-loop μ-loop → tie.Start Inv-loop μ-loop
-start-before-at-loop c = c .before .before .before .before
+start-before-at-loop c = c .before .before .before .before .before
 
 loop-holds : tie.Need-loop-holds Inv-loop μ-loop
-loop-holds c = (omega arith, omega (arith, c .before .before .before .pre .one-amount), (λ h. h, λ h. h))
+loop-holds c = (omega arith, omega (arith, c .before .before .before .before .pre .1 .one-amount), (λ h. h, λ h. h))
 
 entry-at-requires : tie.Need-entry-at-requires Inv-loop μ-loop
 entry-at-requires c κs = search needs
 
 goes-on-requires : tie.Need-goes-on-requires Inv-loop μ-loop
-goes-on-requires c κs = λ i h. start-before-at-loop (c .before .before) .pre .placed i h .first-place
+goes-on-requires c κs = let start = start-before-at-loop (c .before .before) in (start .pre .0, λ i h. start .pre .1 .placed i h .first-place)
 
 returns : tie.Need-returns Inv-loop μ-loop
 returns c =
@@ -49,7 +49,7 @@ returns c =
 amount-at-requires : tie.Need-amount-at-requires Inv-loop μ-loop
 amount-at-requires c κs =
     let start = start-before-at-loop (c .before .before .before .before) in
-    start .pre .placed _ (c .before .goes-on .ensures .so (not-false (c .before .goes-on .result) (c .if1 .left)) .is-held) .amount-place
+    start .pre .1 .placed _ (c .before .goes-on .ensures .so (not-false (c .before .goes-on .result) (c .if1 .left)) .is-held) .amount-place
 
 add-sum : tie.Need-add-sum Inv-loop μ-loop
 add-sum c = search needs
@@ -58,7 +58,7 @@ number-at-requires : tie.Need-number-at-requires Inv-loop μ-loop
 number-at-requires c κs =
     let at-goes-on = c .before .before in
     let start = start-before-at-loop (at-goes-on .before .before .before) in
-    start .pre .placed _ (at-goes-on .goes-on .ensures .so (not-false (at-goes-on .goes-on .result) (c .before .if1 .left)) .is-held) .second-place
+    start .pre .1 .placed _ (at-goes-on .goes-on .ensures .so (not-false (at-goes-on .goes-on .result) (c .before .if1 .left)) .is-held) .second-place
 
 add-k : tie.Need-add-k Inv-loop μ-loop
 add-k c = search needs

@@ -12,7 +12,7 @@ use Rattle.meaning.specs.Tables.{rule-at, at}
 use Rattle.meaning.proofs.Theory.{all-implies}
 use Rattle.meaning.proofs.Counting.{all-map, ring-length}
 use Rattle.lent.specs.Decides.{decides-no}
-use Rattle.lent.specs.Lent.{columns, first, Biased}
+use Rattle.lent.specs.Lent.{columns, held-by, Biased}
 use Rattle.ringcheck.proofs.Starting.{ClosesAfter, refutes-some, refutes-first, refutes-closes, different-decides}
 use Rattle.ringcheck.proofs.is_ring.Statement.{statement}
 use Rattle.ringcheck.proofs.is_ring.Tie as tie
@@ -27,28 +27,28 @@ new start = record { first = start .args .x; second = start .args .y; amount = s
 
 -- Places of the code, seen from later ones.
 abbrev start-before-biased : tie.After-biased → tie.Start
-start-before-biased c = c .before .before .before .before .before .before .before .before
+start-before-biased c = c .before .before .before .before .before .before .before .before .before
 
 returns : tie.Need-returns
 returns c =
-    let start = c .before .before .before .before in
+    let start = c .before .before .before .before .before in
     let m = start .args .m in
-    decides-no refl (λ refutes. omega (arith, c .if1 .taken, refutes-some (lent start) (first m) m (new start) (start .args .list .now) refutes))
+    decides-no refl (λ refutes. omega (arith, c .if1 .taken, refutes-some (lent start) (held-by (start .args .levels .now)) m (new start) (start .args .list .now) refutes))
 
 returns-2 : tie.Need-returns-2
 returns-2 c =
-    let start = c .before .before .before .before .before in
+    let start = c .before .before .before .before .before .before in
     let m = start .args .m in
-    decides-no refl (λ refutes. omega (arith, c .if2 .taken, ring-length (start .args .n) (lent start) (first m) m (new start) (start .args .list .now) (start .pre .rules-in) (start .pre .rule-in) refutes))
+    decides-no refl (λ refutes. omega (arith, c .if2 .taken, ring-length (start .args .n) (lent start) (held-by (start .args .levels .now)) m (new start) (start .args .list .now) (start .pre .1 .1 .rules-in) (start .pre .1 .1 .rule-in) refutes))
 
 entry-at-requires : tie.Need-entry-at-requires
 entry-at-requires c κs = search needs
 
 returns-3 : tie.Need-returns-3
 returns-3 c =
-    let start = c .before .before .before .before .before .before .before in
+    let start = c .before .before .before .before .before .before .before .before in
     let m = start .args .m in
-    decides-no refl (λ refutes. c .if3 .taken (c .before .entry-at .ensures ∙ refutes-first (lent start) (first m) m (new start) (start .args .list .now) refutes))
+    decides-no refl (λ refutes. c .if3 .taken (c .before .entry-at .ensures ∙ refutes-first (lent start) (held-by (start .args .levels .now)) m (new start) (start .args .list .now) refutes))
 
 biased-requires : tie.Need-biased-requires
 biased-requires c κs = search needs
@@ -56,7 +56,7 @@ biased-requires c κs = search needs
 closes-requires : tie.Need-closes-requires
 closes-requires c κs =
     let pre = start-before-biased c .pre in
-    record { placed = pre .placed; one-amount = c .biased .ensures .narrow; short = omega (arith, c .before .before .before .if2 .left, pre .steps-in) }
+    (pre .0, record { placed = pre .1 .1 .placed; one-amount = c .biased .ensures .narrow; short = omega (arith, c .before .before .before .if2 .left, pre .1 .1 .steps-in) })
 
 -- The amount of the rule to be added is given.
 amount-is : (c : tie.After-biased) → Biased (new (start-before-biased c) .amount) (c .biased .result)
@@ -70,22 +70,22 @@ returns-4 c =
     let m = start .args .m in
     decides-no refl (λ refutes.
     closes .ensures .not-so (not-true (closes .result) (c .if4 .taken))
-    (refutes-closes (lent start) (first m) m (new start) (λ h. omega (arith, h)) (at-biased .biased .result) (amount-is at-biased) (start .args .list .now) refutes))
+    (refutes-closes (lent start) (held-by (start .args .levels .now)) m (new start) (start .pre .1 .0) (at-biased .biased .result) (amount-is at-biased) (start .args .list .now) refutes))
 
 -- Past the walk the list closes the ring.
-closed : (c : tie.Else4) → let start = start-before-biased (c .before .before) in ClosesAfter (lent start) (first (start .args .m)) (new start) (c .before .before .biased .result) (drop 1 (start .args .list .now))
+closed : (c : tie.Else4) → let start = start-before-biased (c .before .before) in ClosesAfter (lent start) (held-by (start .args .levels .now)) (new start) (c .before .before .biased .result) (drop 1 (start .args .list .now))
 closed c = let closes = c .before .closes in closes .ensures .so (not-false (closes .result) (c .if4 .left))
 
 different-requires : tie.Need-different-requires
 different-requires c κs =
     let start = start-before-biased (c .before .before) in
-    let pre = start .pre in
+    let pre = start .pre .1 .1 in
     let rest = drop 1 (start .args .list .now) in
     let xs = start .args .xs .now in
     record {
       few = pre .steps-in;
       placed = all-implies (λ i held. pre .placed i held .first-place) rest (closed c .rest-held);
-      steps-in = (pre .rule-in .first-in, all-map (first (start .args .m)) (λ a. a < start .args .n) (at xs) (λ i held. pre .rules-in i held .first-in) rest (closed c .rest-held));
+      steps-in = (pre .rule-in .first-in, all-map (held-by (start .args .levels .now)) (λ a. a < start .args .n) (at xs) (λ i held. pre .rules-in i held .first-in) rest (closed c .rest-held));
     }
 
 returns-5 : tie.Need-returns-5
@@ -95,7 +95,7 @@ returns-5 c =
     let else1 = at-entry-at .before .before in
     let start = start-before-biased at-biased in
     let m = start .args .m in
-    different-decides (lent start) (first m) m (new start) (λ h. omega (arith, h)) (at-biased .biased .result) (amount-is at-biased)
+    different-decides (lent start) (held-by (start .args .levels .now)) m (new start) (start .pre .1 .0) (at-biased .biased .result) (amount-is at-biased)
     (start .args .list .now) (else1 .if1 .left) (sym (at-entry-at .entry-at .ensures) ∙ at-biased .before .if3 .left) (closed (c .before)) (c .different .ensures)
 
 pub is-ring-spec : {M : Type 1} → statement M

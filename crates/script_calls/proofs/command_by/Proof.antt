@@ -115,7 +115,7 @@ carry-requires c κs =
     let z : verdict .result ≡ 0 = omega (arith, if1 .left) in
     let st = verdict .ensures .stands z in
     let fine = idle-fine (verdict .ensures .room z .start-room) (st .sound) in
-    (start .pre, (record { room = fine .room; sound = fine .sound; chained = st .chained; nexts-room = omega (arith, verdict .kept .1 .1 .1 .1 .1 .1 .1 .1 .1 .1 .1 .1 .1 .1 .1 .1 .0, length-replicate {A = ℕ} RULES 0); days-kept = record { kept-earliest = λ k b held. absurd (omega (arith, held .has-row)) }; indexed = st .indexed; within = record { steps-there = omega arith; rules-within = λ i h. fine .sound .tables-sound .rules-good i h .steps-in } }, (verdict .ensures .room z .out-room, omega (arith, st .sound .names-in, st .sound .all-steps))))
+    (start .pre, (record { room = fine .room; sound = fine .sound; chained = st .chained; days-kept = record { kept-earliest = λ k b held. absurd (omega (arith, held .has-row)) }; ordered = λ some. absurd (omega (arith, some)); indexed = st .indexed; within = record { steps-there = omega arith; rules-within = λ i h. fine .sound .tables-sound .rules-good i h .steps-in } }, (verdict .ensures .room z .out-room, omega (arith, st .sound .names-in, st .sound .all-steps))))
 
 read-of-requires : tie.Need-read-of-requires
 read-of-requires c κs = search needs

@@ -57,18 +57,13 @@ returns-2 c =
     let at-record-fine = c .before .before .before .before .before .before in
     let else1 = at-record-fine .before .before .before .before in
     let is-sound = else1 .before .before .before .before .before .is-sound in
-    let start = start-before-else1 else1 in
     λ out.
     let sound = is-sound .ensures .decides .so (not-false _ (else1 .if1 .left)) in
     record {
       decides = decides-same (λ f. script-sound _ sound f) (λ h. record-fine-of _ h) (at-record-fine .record-fine .ensures .decides);
       stands = λ e. record {
         sound = script-sound _ sound (at-record-fine .record-fine .ensures .decides .so e);
-        chained = record {
-          chained = is-sound .ensures .chained (not-false _ (else1 .if1 .left));
-          heads-room = omega (arith, sound .counts-in .steps-in, start .pre .1 .1 .1 .0, is-sound .kept .1 .1 .1 .1 .1 .1 .1 .1 .1 .0);
-          nexts-room = omega (arith, sound .counts-in .rules-in, start .pre .1 .1 .1 .1 .0, is-sound .kept .1 .1 .1 .1 .1 .1 .1 .1 .1 .1 .0);
-        };
+        chained = is-sound .ensures .chained (not-false _ (else1 .if1 .left));
         indexed = at-record-fine .record-fine .ensures .indexed e;
       };
     }

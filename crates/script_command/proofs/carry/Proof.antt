@@ -21,7 +21,7 @@ judge-requires c κs =
     let start = c .before .before .before .before .before .before .before .before .before .before .before .before .before .before .before .before .before .before .before .before in
     let form-of = c .before .before .before .before .before .form-of in
     let args = start .args in
-    let before = in-hand (args .counts) (args .xs .now) (args .ys .now) (args .cs .now) (args .days .now) (args .marks .now) (args .notes) (args .names .now) (args .lens .now) (args .out .now) in
+    let before = in-hand (args .counts) (args .xs .now) (args .ys .now) (args .cs .now) (args .days .now) (args .levels .now) (args .notes) (args .names .now) (args .lens .now) (args .out .now) in
     let m = start .pre .1 .0 in
     let fine : Fine before = record { room = m .room; sound = m .sound } in
     (start .pre .0, (form-of .ensures, (m .sound .tables-sound .counts-in .rules-in, (m .sound .tables-sound .counts-in .marks-in, (shelved-of fine, m .indexed)))))
@@ -48,7 +48,7 @@ returns c =
     let form-of = c .before .before .before .before .before .before .before .form-of in
     let if1 = c .if1 in
     let args = start .args in
-    let before = in-hand (args .counts) (args .xs .now) (args .ys .now) (args .cs .now) (args .days .now) (args .marks .now) (args .notes) (args .names .now) (args .lens .now) (args .out .now) in (
+    let before = in-hand (args .counts) (args .xs .now) (args .ys .now) (args .cs .now) (args .days .now) (args .levels .now) (args .notes) (args .names .now) (args .lens .now) (args .out .now) in (
       record {
         first-unmet = subst (λ (x : Command). First (command-needs x (args .s .now) before) (judge .result)) (form-of .ensures) (judge .ensures before refl refl refl refl);
         when-done = λ done. absurd (omega (arith, done, if1 .taken));
@@ -65,7 +65,7 @@ perform-requires c κs =
     let if1 = c .before .before .before .before .before .before .before .before .before .before .before .before .before .before .if1 in
     let form-of = c .before .before .before .before .before .before .before .before .before .before .before .before .before .before .before .before .before .before .before .before .before .form-of in
     let args = start .args in
-    let before = in-hand (args .counts) (args .xs .now) (args .ys .now) (args .cs .now) (args .days .now) (args .marks .now) (args .notes) (args .names .now) (args .lens .now) (args .out .now) in
+    let before = in-hand (args .counts) (args .xs .now) (args .ys .now) (args .cs .now) (args .days .now) (args .levels .now) (args .notes) (args .names .now) (args .lens .now) (args .out .now) in
     let none : judge .result ≡ DONE = omega (arith, if1 .left) in
     (start .pre .0, (form-of .ensures, (subst (λ (g : ℕ). First (command-needs (form-of .result) (args .s .now) before) g) none (judge .ensures before refl refl refl refl), (start .pre .1 .0, start .pre .1 .1))))
 
@@ -141,7 +141,7 @@ returns-2 c =
     let judge = c .before .before .before .before .before .before .before .before .before .before .before .before .before .before .before .before .before .before .before .before .before .before .before .before .before .before .before .before .before .before .before .before .before .before .before .before .before .before .before .before .before .before .before .judge in
     let if1 = c .before .before .before .before .before .before .before .before .before .before .before .before .before .before .before .before .before .before .before .before .before .before .before .before .before .before .before .before .before .before .before .before .before .before .before .before .before .before .before .before .before .before .if1 in
     let args = start .args in
-    let before = in-hand (args .counts) (args .xs .now) (args .ys .now) (args .cs .now) (args .days .now) (args .marks .now) (args .notes) (args .names .now) (args .lens .now) (args .out .now) in
+    let before = in-hand (args .counts) (args .xs .now) (args .ys .now) (args .cs .now) (args .days .now) (args .levels .now) (args .notes) (args .names .now) (args .lens .now) (args .out .now) in
     let e = perform .ensures in
     let is = form-of .ensures in
     let none : judge .result ≡ DONE = omega (arith, if1 .left) in (

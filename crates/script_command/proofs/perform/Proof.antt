@@ -1,14 +1,14 @@
 -- `script_command::perform` meets its contract: its parts in a row do what the command does, and what they leave is maintained.
-use Prim.Native.Nat.{ℕ, _+_, _≤_, _<_}
+use Prim.Native.Nat.{ℕ}
 use native.Mathlib.Omega.{arith}
-use mathlib.Core.Path.{_≡_, refl, sym, _∙_, ap, subst}
-use lib.ListN.{length}
+use mathlib.Core.Path.{refl, sym, _∙_, ap, subst}
 use Rattle.lent.specs.Idle.{unwatched}
 use Rattle.names.specs.Names.{Indexed}
 use Rattle.script_meaning.specs.declared.Notes.{Notes}
 use Rattle.script_meaning.specs.Effect.{Does}
 use Rattle.script_meaning.proofs.Naming.{declared-in-form, asked-few, asked-within}
 use Rattle.script_meaning.proofs.Keeping.{Fine, tables-border, shelved-of, does-fine}
+use Rattle.script_meaning.proofs.Orderly.{does-orderly}
 use Rattle.script_telling.proofs.Indexing.{indexed-after}
 use Rattle.script_moving.proofs.Laws.{moves-border, moves-within}
 use Rattle.script_command.specs.Carrying.{in-hand}
@@ -25,7 +25,7 @@ print-requires : tie.Need-print-requires
 print-requires c κs =
     let start = c .before .before .before .before .before .before .before .before .before .before .before .before .before .before .before .before .before .before .before .before .before .before in
     let args = start .args in
-    let before = in-hand (args .counts) (args .xs .now) (args .ys .now) (args .cs .now) (args .days .now) (args .marks .now) (args .notes) (args .names .now) (args .lens .now) (args .out .now) in
+    let before = in-hand (args .counts) (args .xs .now) (args .ys .now) (args .cs .now) (args .days .now) (args .levels .now) (args .notes) (args .names .now) (args .lens .now) (args .out .now) in
     let m = start .pre .1 .1 .1 .0 in
     let fine : Fine before = record { room = m .room; sound = m .sound } in
     let is = sym (start .pre .1 .0) in (
@@ -52,7 +52,7 @@ move-tables-requires : tie.Need-move-tables-requires
 move-tables-requires c κs =
     let start = c .before .before .before .before .before .before .before .before .before .before .before .before .before .before .before .before .before .before .before .before .before .before .before .before .before .before .before .before .before .before .before .before .before .before .before .before .before .before in
     let args = start .args in
-    let before = in-hand (args .counts) (args .xs .now) (args .ys .now) (args .cs .now) (args .days .now) (args .marks .now) (args .notes) (args .names .now) (args .lens .now) (args .out .now) in
+    let before = in-hand (args .counts) (args .xs .now) (args .ys .now) (args .cs .now) (args .days .now) (args .levels .now) (args .notes) (args .names .now) (args .lens .now) (args .out .now) in
     let m = start .pre .1 .1 .1 .0 in
     let fine : Fine before = record { room = m .room; sound = m .sound } in
     let is = sym (start .pre .1 .0) in (
@@ -63,7 +63,7 @@ move-tables-requires c κs =
           m .indexed,
           (
             m .sound .names-different,
-            (movable-of before (args .s .now) fine (args .c) is (start .pre .1 .1 .0), (tables-border fine, (m .chained, (m .nexts-room, (m .days-kept, (start .pre .1 .1 .1 .1 .1, m .within)))))),
+            (movable-of before (args .s .now) fine (args .c) is (start .pre .1 .1 .0), (tables-border fine, (m .chained, (m .days-kept, (m .ordered, (start .pre .1 .1 .1 .1 .1, m .within)))))),
           ),
         ),
       ),
@@ -73,7 +73,7 @@ declare-requires : tie.Need-declare-requires
 declare-requires c κs =
     let start = c .before .before .before .before .before .before .before .before .before .before .before .before .before .before .before .before .before .before .before .before .before .before .before .before .before .before .before .before .before .before .before .before .before .before .before .before .before .before .before .before .before .before .before .before .before .before .before .before .before .before .before .before .before .before .before .before .before .before .before in
     let args = start .args in
-    let before = in-hand (args .counts) (args .xs .now) (args .ys .now) (args .cs .now) (args .days .now) (args .marks .now) (args .notes) (args .names .now) (args .lens .now) (args .out .now) in
+    let before = in-hand (args .counts) (args .xs .now) (args .ys .now) (args .cs .now) (args .days .now) (args .levels .now) (args .notes) (args .names .now) (args .lens .now) (args .out .now) in
     let m = start .pre .1 .1 .1 .0 in
     let fine : Fine before = record { room = m .room; sound = m .sound } in
     let is = sym (start .pre .1 .0) in
@@ -84,7 +84,7 @@ notes-after-requires c κs =
     let start = c .before .before .before .before .before .before .before .before .before .before .before .before .before .before .before .before .before .before .before .before .before .before .before .before .before .before .before .before .before .before .before .before .before .before .before .before .before .before .before .before .before .before .before .before .before .before .before .before .before .before .before .before .before .before .before .before .before .before .before .before .before .before .before .before .before .before .before .before .before .before .before in
     let move-tables = c .before .before .before .before .before .before .before .before .before .before .before .before .before .before .before .before .before .before .before .before .before .before .before .before .before .before .before .before .before .before .before .before .move-tables in
     let args = start .args in
-    let before = in-hand (args .counts) (args .xs .now) (args .ys .now) (args .cs .now) (args .days .now) (args .marks .now) (args .notes) (args .names .now) (args .lens .now) (args .out .now) in
+    let before = in-hand (args .counts) (args .xs .now) (args .ys .now) (args .cs .now) (args .days .now) (args .levels .now) (args .notes) (args .names .now) (args .lens .now) (args .out .now) in
     let last = move-tables .last .1 .1 .1 .1 .1 .1 .1 .1 .1 .1 .1 in
     let moved = unwatched (move-tables .result .counts) (last .0) (last .1 .0) (last .1 .1 .0) (last .1 .1 .1 .0) (last .1 .1 .1 .1 .0) in
     let m = start .pre .1 .1 .1 .0 in
@@ -173,7 +173,7 @@ returns c =
     let declare = c .before .before .before .before .before .before .before .before .before .before .before .before .before .declare in
     let print = c .before .before .before .before .before .before .before .before .before .before .before .before .before .before .before .before .before .before .before .before .before .before .before .before .before .before .before .before .before .before .before .before .before .before .before .before .before .before .before .before .before .before .before .before .before .before .before .before .before .before .print in
     let args = start .args in
-    let before = in-hand (args .counts) (args .xs .now) (args .ys .now) (args .cs .now) (args .days .now) (args .marks .now) (args .notes) (args .names .now) (args .lens .now) (args .out .now) in
+    let before = in-hand (args .counts) (args .xs .now) (args .ys .now) (args .cs .now) (args .days .now) (args .levels .now) (args .notes) (args .names .now) (args .lens .now) (args .out .now) in
     let last = move-tables .last .1 .1 .1 .1 .1 .1 .1 .1 .1 .1 .1 in
     let moved = unwatched (move-tables .result .counts) (last .0) (last .1 .0) (last .1 .1 .0) (last .1 .1 .1 .0) (last .1 .1 .1 .1 .0) in
     let after = in-hand (move-tables .result .counts) (last .0) (last .1 .0) (last .1 .1 .0) (last .1 .1 .1 .0) (last .1 .1 .1 .1 .0) (notes-after .result) (declare .last .1 .1 .1 .0) (declare .last .1 .1 .1 .1 .0) (print .last .1 .1 .1 .1 .1 .1 .1 .1 .1 .1 .1 .0) in
@@ -200,8 +200,8 @@ returns c =
           room = then .room;
           sound = then .sound;
           chained = move-tables .ensures .1 .0;
-          nexts-room = omega (arith, move-tables .kept .1 .1 .1 .1 .1 .1 .1 .1 .1 .1 .1 .1 .1 .1 .1 .1 .1 .0, m .nexts-room);
           days-kept = move-tables .ensures .1 .1;
+          ordered = λ some. does-orderly (args .c) (args .s .now) (args .to) (print .result) before after fine (start .pre .1 .1 .0) done (m .ordered (omega (arith, some, move-tables .kept .1 .1 .1 .1 .1 .1 .1 .1 .1 .1 .1 .1 .1 .1 .1 .1 .1 .1 .0)));
           within =
               moves-within (args .e) (args .c) (args .notes .broken) (args .s .now) (args .notes .names) (args .names .now) (args .lens .now) (before .tables) moved (move-tables .result .clash)
               (movable-of before (args .s .now) fine (args .c) is (start .pre .1 .1 .0)) (tables-border fine) (start .pre .1 .1 .1 .1 .1) (m .within) moves;

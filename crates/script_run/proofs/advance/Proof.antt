@@ -10,12 +10,12 @@ use Rattle.script_run.proofs.advance.Statement.{statement}
 use Rattle.script_run.proofs.advance.Tie as tie
 
 abbrev Inv-loop : tie.InvT-loop
-Inv-loop s tab start xs₀ ys₀ cs₀ days₀ marks₀ heads₀ nexts₀ kept₀ names₀ lens₀ hashes₀ name-heads₀ name-nexts₀ out₀ at₀ to₀ held₀ noted₀ xs ys cs days marks heads nexts kept names lens hashes name-heads name-nexts out at to held noted =
+Inv-loop s tab start xs₀ ys₀ cs₀ days₀ levels₀ heads₀ nexts₀ kept₀ names₀ lens₀ hashes₀ name-heads₀ name-nexts₀ out₀ at₀ to₀ held₀ noted₀ xs ys cs days levels heads nexts kept names lens hashes name-heads name-nexts out at to held noted =
     ((length xs ≡ length xs₀)
     × ((length ys ≡ length ys₀)
     × ((length cs ≡ length cs₀)
     × ((length days ≡ length days₀)
-    × ((length marks ≡ length marks₀)
+    × ((length levels ≡ length levels₀)
     × ((length heads ≡ length heads₀)
     × ((length nexts ≡ length nexts₀)
     × ((length kept ≡ length kept₀)
@@ -25,16 +25,16 @@ Inv-loop s tab start xs₀ ys₀ cs₀ days₀ marks₀ heads₀ nexts₀ kept�
     × ((length name-heads ≡ length name-heads₀)
     × ((length name-nexts ≡ length name-nexts₀)
     × ((length out ≡ length out₀)))))))))))))))
-    × (Underway s start (in-hand held₀ xs₀ ys₀ cs₀ days₀ marks₀ noted₀ names₀ lens₀ out₀) at to (in-hand held xs ys cs days marks noted names lens out)
-    × Maintained (noted .names) (in-hand held xs ys cs days marks noted names lens out) heads nexts kept hashes name-heads name-nexts)
+    × (Underway s start (in-hand held₀ xs₀ ys₀ cs₀ days₀ levels₀ noted₀ names₀ lens₀ out₀) at to (in-hand held xs ys cs days levels noted names lens out)
+    × Maintained (noted .names) (in-hand held xs ys cs days levels noted names lens out) heads nexts kept hashes name-heads name-nexts)
 
 abbrev μ-loop : tie.MeasureT-loop
-μ-loop s tab start xs₀ ys₀ cs₀ days₀ marks₀ heads₀ nexts₀ kept₀ names₀ lens₀ hashes₀ name-heads₀ name-nexts₀ out₀ at₀ to₀ held₀ noted₀ xs ys cs days marks heads nexts kept names lens hashes name-heads name-nexts out at to held noted = length s - at
+μ-loop s tab start xs₀ ys₀ cs₀ days₀ levels₀ heads₀ nexts₀ kept₀ names₀ lens₀ hashes₀ name-heads₀ name-nexts₀ out₀ at₀ to₀ held₀ noted₀ xs ys cs days levels heads nexts kept names lens hashes name-heads name-nexts out at to held noted = length s - at
 
 loop-holds : tie.Need-loop-holds Inv-loop μ-loop
 loop-holds c =
     let start = c .before .before .before .before .before .before .before .before .before .before .before .before .before .before in
-    ((refl, (refl, (refl, (refl, (refl, (refl, (refl, (refl, (refl, (refl, (refl, (refl, (refl, refl))))))))))))), (underway-first (start .args .s .now) (start .args .start) (in-hand (start .args .counts) (start .args .xs .now) (start .args .ys .now) (start .args .cs .now) (start .args .days .now) (start .args .marks .now) (start .args .notes) (start .args .names .now) (start .args .lens .now) (start .args .out .now)), start .pre .1))
+    ((refl, (refl, (refl, (refl, (refl, (refl, (refl, (refl, (refl, (refl, (refl, (refl, (refl, refl))))))))))))), (underway-first (start .args .s .now) (start .args .start) (in-hand (start .args .counts) (start .args .xs .now) (start .args .ys .now) (start .args .cs .now) (start .args .days .now) (start .args .levels .now) (start .args .notes) (start .args .names .now) (start .args .lens .now) (start .args .out .now)), start .pre .1))
 
 one-requires : tie.Need-one-requires Inv-loop μ-loop
 one-requires c κs =

@@ -23,7 +23,7 @@ halt-requires : tie.Need-halt-requires
 halt-requires c κs =
     let start = c .before .before .before .before .before .before .before .before .before .before .before .before .before .before .before .before .before .before in
     let begin = c .before .before .before .begin in
-    let before = in-hand (start .args .counts) (start .args .xs .now) (start .args .ys .now) (start .args .cs .now) (start .args .days .now) (start .args .marks .now) (start .args .notes) (start .args .names .now) (start .args .lens .now) (start .args .out .now) in
+    let before = in-hand (start .args .counts) (start .args .xs .now) (start .args .ys .now) (start .args .cs .now) (start .args .days .now) (start .args .levels .now) (start .args .notes) (start .args .names .now) (start .args .lens .now) (start .args .out .now) in
     λ e. halts-room (start .args .s .now) (start .args .at) before (start .args .to) (length (start .args .out .now)) (begin .result .number) (begin .ensures .when-not (not-true _ (c .before .if1 .taken))) e
 
 same-length : tie.Need-same-length
@@ -37,7 +37,7 @@ returns c =
     let begin = c .before .before .before .before .before .before .before .begin in
     let halt = c .before .before .before .halt in
     let if1 = c .before .before .before .before .before .if1 in
-    let before = in-hand (start .args .counts) (start .args .xs .now) (start .args .ys .now) (start .args .cs .now) (start .args .days .now) (start .args .marks .now) (start .args .notes) (start .args .names .now) (start .args .lens .now) (start .args .out .now) in
+    let before = in-hand (start .args .counts) (start .args .xs .now) (start .args .ys .now) (start .args .cs .now) (start .args .days .now) (start .args .levels .now) (start .args .notes) (start .args .names .now) (start .args .lens .now) (start .args .out .now) in
     (halted-steps (start .args .s .now) (start .args .at) before (start .args .to) (begin .result .number) (halt .result) (halt .last .0) (eqb (begin .result .number) SHORT) (eqb-true (begin .result .number) SHORT) (eqb-false (begin .result .number) SHORT) (begin .ensures .when-not (not-true _ (if1 .taken))) (halt .ensures), maintained-out (start .args .notes .names) (start .args .notes .names) before (halt .last .0) (start .args .heads .now) (start .args .nexts .now) (start .args .kept .now) (start .args .hashes .now) (start .args .name-heads .now) (start .args .name-nexts .now) (omega arith) (start .pre .1 .within .steps-there) (start .pre .1))
 
 sub-carry : tie.Need-sub-carry
@@ -69,7 +69,7 @@ settle-requires c κs =
     let begin = c .before .before .before .before .before .before .before .before .before .before .before .before .before .before .before .before .before .before .before .before .before .before .before .before .before .before .before .before .before .before .before .before .before .before .before .before .before .before .before .before .before .before .before .before .before .before .begin in
     let if1 = c .before .before .before .before .before .before .before .before .before .before .before .before .before .before .before .before .before .before .before .before .before .before .before .before .before .before .before .before .before .before .before .before .before .before .before .before .before .before .before .before .before .before .before .before .if1 in
     let slice-known3 = c .before .before .before .before .before .before .before .before .before .before .before .before .before .before .before .before .before .before .before .before .before .before .before .before .before .before .before .before .before .before .before .before .before .before .before .before .before .before .before .before .before .before .before .before .before .before .before .before .before .before .before .before .before .before .before .before .before .slice-known3 in
-    let before = in-hand (start .args .counts) (start .args .xs .now) (start .args .ys .now) (start .args .cs .now) (start .args .days .now) (start .args .marks .now) (start .args .notes) (start .args .names .now) (start .args .lens .now) (start .args .out .now) in
+    let before = in-hand (start .args .counts) (start .args .xs .now) (start .args .ys .now) (start .args .cs .now) (start .args .days .now) (start .args .levels .now) (start .args .notes) (start .args .names .now) (start .args .lens .now) (start .args .out .now) in
     let after = in-hand (carry .result .counts) (carry .last .1 .1 .1 .1 .0) (carry .last .1 .1 .1 .1 .1 .0) (carry .last .1 .1 .1 .1 .1 .1 .0) (carry .last .1 .1 .1 .1 .1 .1 .1 .0) (carry .last .1 .1 .1 .1 .1 .1 .1 .1 .0) (carry .result .notes) (carry .last .1 .1 .1 .1 .1 .1 .1 .1 .1 .1 .1 .1 .0) (carry .last .1 .1 .1 .1 .1 .1 .1 .1 .1 .1 .1 .1 .1 .0) (carry .last .1 .1 .1 .1 .1 .1 .1 .1 .1 .1 .1 .1 .1 .1 .1 .1 .1 .0) in
     (omega (arith, (begin .ensures .when-ready (not-false _ (if1 .left))) .room, carry .kept .1 .1 .1 .1 .1 .1 .1 .1 .1 .1 .1 .1 .1 .1 .1 .1 .1 .0), carried-short (start .args .s .now) (start .args .at) before (start .args .to) (begin .result .from) (begin .result .end) (begin .ensures .when-ready (not-false _ (if1 .left))) (carry .result) after (subst (λ (x : List ℕ). Carries x (start .args .to) before (carry .result) after) (part-is (start .args .s .now) (start .args .at) (length (start .args .out .now)) (start .args .to) (begin .result .from) (begin .result .end) ((begin .result .end) - (begin .result .from)) (begin .ensures .when-ready (not-false _ (if1 .left))) (omega (arith, (begin .ensures .when-ready (not-false _ (if1 .left))) .from-is, (begin .ensures .when-ready (not-false _ (if1 .left))) .end-is))) (carry .ensures .0)) (record { room = start .pre .1 .room; sound = start .pre .1 .sound }) (λ v. slice-known3 .given v .fits))
 
@@ -155,7 +155,7 @@ returns-2 c =
     let if1 = c .before .before .before .before .before .before .before .before .before .before .before .before .before .before .before .before .before .before .before .before .before .before .before .before .before .before .before .before .before .before .before .before .before .before .before .before .before .before .before .before .before .before .before .before .before .before .before .before .before .before .if1 in
     let settle = c .before .before .before .before .before .settle in
     let goes-on = c .goes-on in
-    let before = in-hand (start .args .counts) (start .args .xs .now) (start .args .ys .now) (start .args .cs .now) (start .args .days .now) (start .args .marks .now) (start .args .notes) (start .args .names .now) (start .args .lens .now) (start .args .out .now) in
+    let before = in-hand (start .args .counts) (start .args .xs .now) (start .args .ys .now) (start .args .cs .now) (start .args .days .now) (start .args .levels .now) (start .args .notes) (start .args .names .now) (start .args .lens .now) (start .args .out .now) in
     let after = in-hand (carry .result .counts) (carry .last .1 .1 .1 .1 .0) (carry .last .1 .1 .1 .1 .1 .0) (carry .last .1 .1 .1 .1 .1 .1 .0) (carry .last .1 .1 .1 .1 .1 .1 .1 .0) (carry .last .1 .1 .1 .1 .1 .1 .1 .1 .0) (carry .result .notes) (carry .last .1 .1 .1 .1 .1 .1 .1 .1 .1 .1 .1 .1 .0) (carry .last .1 .1 .1 .1 .1 .1 .1 .1 .1 .1 .1 .1 .1 .0) (carry .last .1 .1 .1 .1 .1 .1 .1 .1 .1 .1 .1 .1 .1 .1 .1 .1 .1 .0) in
     (carried-steps (start .args .s .now) (start .args .at) before (start .args .to) (begin .result .from) (begin .result .end) (begin .ensures .when-ready (not-false _ (if1 .left))) (carry .result) after (subst (λ (x : List ℕ). Carries x (start .args .to) before (carry .result) after) (part-is (start .args .s .now) (start .args .at) (length (start .args .out .now)) (start .args .to) (begin .result .from) (begin .result .end) ((begin .result .end) - (begin .result .from)) (begin .ensures .when-ready (not-false _ (if1 .left))) (omega (arith, (begin .ensures .when-ready (not-false _ (if1 .left))) .from-is, (begin .ensures .when-ready (not-false _ (if1 .left))) .end-is))) (carry .ensures .0)) (settle .last .0) (settle .result) (settle .ensures) (goes-on .result) (goes-on .ensures), maintained-out (start .args .notes .names) (carry .result .notes .names) after (settle .last .0) (carry .last .1 .1 .1 .1 .1 .1 .1 .1 .1 .0) (carry .last .1 .1 .1 .1 .1 .1 .1 .1 .1 .1 .0) (carry .last .1 .1 .1 .1 .1 .1 .1 .1 .1 .1 .1 .0) (carry .last .1 .1 .1 .1 .1 .1 .1 .1 .1 .1 .1 .1 .1 .1 .0) (carry .last .1 .1 .1 .1 .1 .1 .1 .1 .1 .1 .1 .1 .1 .1 .1 .0) (carry .last .1 .1 .1 .1 .1 .1 .1 .1 .1 .1 .1 .1 .1 .1 .1 .1 .0) (carried-named _ (start .args .to) before (carry .result) after (carry .ensures .0)) (omega (arith, carry .ensures .1 .sound .names-in, carry .ensures .1 .sound .all-steps)) (carry .ensures .1))
 

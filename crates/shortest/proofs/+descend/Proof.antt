@@ -1,7 +1,7 @@
--- The proof of the cycle of calls {descend}. The measure is the span, which falls to its upper third and to the rest. `Finishing` has the two returns: one rule, and both parts.
+-- The proof of the cycle of calls {descend}. The measure is the span, which falls to its upper part and to the rest. `Finishing` has the two returns: one rule, and both parts.
 use Prim.Native.Nat.{ℕ, _+_, _-_, _<_}
 use mathlib.Core.Path.{_∙_}
-use Rattle.lent.specs.Lent.{first}
+use Rattle.chains.specs.Chains.{linked}
 use Rattle.shortest.proofs.Sparing.{held-dated}
 use Rattle.shortest.proofs.Finishing.{one-pickable, one-descended, Parted, parted, upper-descendable, lower-descendable, both-descended}
 use borrow.Author.Needs.{needs}
@@ -15,18 +15,19 @@ use Rattle.lent.proofs.number_at.Reads as number-at-reads
 use Rattle.shortest.proofs.advance.Reads as advance-reads
 use Rattle.shortest.proofs.pick.Reads as pick-reads
 use Rattle.shortest.proofs.spare.Reads as spare-reads
-use Rattle.shortest.proofs.third.Reads as third-reads
+use Rattle.shortest.proofs.share.Reads as share-reads
+use Rattle.shortest.proofs.upper_part.Reads as upper-part-reads
 use Rattle.shortest.proofs.+descend.{statement}
 use Rattle.shortest.proofs.+descend.Tie.{close}
 
-abbrev μ-descend : Measures 8 descend-kinds.ps ℕ
-μ-descend κs a = a .1 .1 .1 .1 .1 .1 .1 .1 .1 .1 .0 - a .1 .1 .1 .1 .1 .1 .1 .1 .1 .0
+abbrev μ-descend : Measures 9 descend-kinds.ps ℕ
+μ-descend κs a = a .1 .1 .1 .1 .1 .1 .1 .1 .1 .1 .1 .0 - a .1 .1 .1 .1 .1 .1 .1 .1 .1 .1 .0
 
-abbrev descend-at : ℕ → In 8 descend-kinds.ps
-descend-at t = and 8 descend-kinds.ps (is 8 descend-kinds.ps μ-descend t) descend.Pre
+abbrev descend-at : ℕ → In 9 descend-kinds.ps
+descend-at t = and 9 descend-kinds.ps (is 9 descend-kinds.ps μ-descend t) descend.Pre
 
-abbrev descend-below : ℕ → In 8 descend-kinds.ps
-descend-below t = and 8 descend-kinds.ps (falls 8 descend-kinds.ps _<_ μ-descend t) descend.Pre
+abbrev descend-below : ℕ → In 9 descend-kinds.ps
+descend-below t = and 9 descend-kinds.ps (falls 9 descend-kinds.ps _<_ μ-descend t) descend.Pre
 
 -- What it may rely on in what it calls.
 abbrev calls : ℕ → descend-lts.Claims
@@ -37,8 +38,10 @@ calls t = (
   number-at-reads.Learnt,
   spare-reads.Asked,
   spare-reads.Learnt,
-  third-reads.Asked,
-  third-reads.Learnt,
+  share-reads.Asked,
+  share-reads.Learnt,
+  upper-part-reads.Asked,
+  upper-part-reads.Learnt,
   advance-reads.Asked,
   advance-reads.Learnt,
   descend-below t,
@@ -53,10 +56,10 @@ abbrev advance-before-descend : (t : ℕ) → descend-lts.After-descend (calls t
 advance-before-descend t c = c .before .before .before .before .before
 
 abbrev start-before-slice-known2 : (t : ℕ) → descend-lts.After-slice-known2 (calls t) (descend-at t) descend.Post → descend-lts.Start (calls t) (descend-at t) descend.Post
-start-before-slice-known2 t c = c .before .before .before .before .before .before .before
+start-before-slice-known2 t c = c .before .before .before .before .before .before .before .before
 
-abbrev start-before-third : (t : ℕ) → descend-lts.After-third (calls t) (descend-at t) descend.Post → descend-lts.Start (calls t) (descend-at t) descend.Post
-start-before-third t c = start-before-slice-known2 t (c .before .before)
+abbrev start-before-upper-part : (t : ℕ) → descend-lts.After-upper-part (calls t) (descend-at t) descend.Post → descend-lts.Start (calls t) (descend-at t) descend.Post
+start-before-upper-part t c = start-before-slice-known2 t (c .before .before .before)
 
 abbrev start-before-pick : (t : ℕ) → descend-lts.After-pick (calls t) (descend-at t) descend.Post → descend-lts.Start (calls t) (descend-at t) descend.Post
 start-before-pick t c = start-before-slice-known2 t (c .before .before .before)
@@ -68,7 +71,7 @@ descend-pick-requires : (t : ℕ) → descend-lts.Need-pick-requires (calls t) (
 descend-pick-requires t c κs =
     let start = start-before-slice-known2 t (c .before .before) in
     let a = start .args in
-    one-pickable (a .n) (first (a .m)) (a .xs .now) (a .ys .now) (a .cs .now) (a .days .now) (a .t) (start .pre .1 .0 .kept) (a .lo) (a .hi) (a .v) (a .bound) (a .place) (a .a) (a .cells .now) (a .list .now) (start .pre .1 .1) (c .before .if1 .taken)
+    (one-pickable (a .n) (linked (a .nexts .now)) (a .xs .now) (a .ys .now) (a .cs .now) (a .days .now) (a .depths .now) (a .g) (a .t) (start .pre .1 .0 .kept) (start .pre .1 .0 .deep) (a .lo) (a .hi) (a .v) (a .bound) (a .place) (a .a) (a .cap) (a .cells .now) (a .list .now) (start .pre .1 .1) (c .before .if1 .taken), (start .pre .1 .0 .firsts-room, start .pre .1 .0 .nexts-room))
 
 descend-cast-list : (t : ℕ) → descend-lts.Need-cast-list (calls t) (descend-at t) descend.Post
 descend-cast-list t c =
@@ -76,7 +79,9 @@ descend-cast-list t c =
     omega (arith, start .pre .1 .0 .kept .number-in _ (c .pick .ensures .fits .held))
 
 descend-mul-list : (t : ℕ) → descend-lts.Need-mul-list (calls t) (descend-at t) descend.Post
-descend-mul-list t c = search needs
+descend-mul-list t c =
+    let start = start-before-pick t c in
+    omega (arith, c .before .before .if1 .taken, start .pre .1 .1 .list-room, start .good .1 .1 .1 .1 .1 .1 .1 .1 .1 .1 .1 .1 .1 .1 .1 .1 .1 .1)
 
 descend-slice-write-list : (t : ℕ) → descend-lts.Need-slice-write-list (calls t) (descend-at t) descend.Post
 descend-slice-write-list t c =
@@ -93,10 +98,10 @@ descend-spare-requires t c κs =
     let start = start-before-pick t (c .before) in
     let a = start .args in
     let kept = start .pre .1 .0 .kept in
-    (held-dated (a .n) (first (a .m)) (a .xs .now) (a .ys .now) (a .cs .now) (a .days .now) _ kept (c .before .pick .ensures .fits .held), kept .plan _ (c .before .pick .ensures .fits .held))
+    (held-dated (a .n) (linked (a .nexts .now)) (a .xs .now) (a .ys .now) (a .cs .now) (a .days .now) _ kept (c .before .pick .ensures .fits .held), kept .plan _ (c .before .pick .ensures .fits .held))
 
-descend-sub-t30 : (t : ℕ) → descend-lts.Need-sub-t30 (calls t) (descend-at t) descend.Post
-descend-sub-t30 t c = omega (arith, c .spare .ensures .is, c .before .before .pick .ensures .fits .below)
+descend-sub-left : (t : ℕ) → descend-lts.Need-sub-left (calls t) (descend-at t) descend.Post
+descend-sub-left t c = omega (arith, c .spare .ensures .is, c .before .before .pick .ensures .fits .below)
 
 descend-same-length : (t : ℕ) → descend-lts.Need-same-length (calls t) (descend-at t) descend.Post
 descend-same-length t c = search needs
@@ -109,75 +114,76 @@ descend-returns t c =
     let at-pick = c .before .before in
     let start = start-before-pick t at-pick in
     let a = start .args in
-    one-descended (a .n) (first (a .m)) (a .xs .now) (a .ys .now) (a .cs .now) (a .days .now) (a .t) (start .pre .1 .0 .kept) (a .lo) (a .hi) (a .v) (a .bound) (a .place) (a .a) (a .cells .now) (a .list .now) (start .pre .1 .1) (c .before .before .before .before .if1 .taken) (at-pick .pick .result) (c .before .number-at .result) (c .spare .result)
+    one-descended (a .n) (linked (a .nexts .now)) (a .xs .now) (a .ys .now) (a .cs .now) (a .days .now) (a .depths .now) (a .g) (a .t) (start .pre .1 .0 .kept) (start .pre .1 .0 .deep) (a .lo) (a .hi) (a .v) (a .bound) (a .place) (a .a) (a .cap) (a .cells .now) (a .list .now) (start .pre .1 .1) (c .before .before .before .before .if1 .taken) (at-pick .pick .result) (c .before .number-at .result) (c .spare .result)
     (at-pick .pick .ensures) (c .before .number-at .ensures) (c .spare .ensures .is)
 
-descend-sub-third : (t : ℕ) → descend-lts.Need-sub-third (calls t) (descend-at t) descend.Post
-descend-sub-third t c =
-    let start = start-before-slice-known2 t (c .before) in
+descend-share-requires : (t : ℕ) → descend-lts.Need-share-requires (calls t) (descend-at t) descend.Post
+descend-share-requires t c κs = search needs
+
+descend-sub-upper-part : (t : ℕ) → descend-lts.Need-sub-upper-part (calls t) (descend-at t) descend.Post
+descend-sub-upper-part t c =
+    let start = start-before-slice-known2 t (c .before .before) in
     omega (arith, start .pre .1 .1 .some)
 
-descend-third-requires : (t : ℕ) → descend-lts.Need-third-requires (calls t) (descend-at t) descend.Post
-descend-third-requires t c κs =
-    let start = start-before-slice-known2 t (c .before) in
-    omega (arith, start .pre .1 .1 .some)
+descend-upper-part-requires : (t : ℕ) → descend-lts.Need-upper-part-requires (calls t) (descend-at t) descend.Post
+descend-upper-part-requires t c κs =
+    let start = start-before-slice-known2 t (c .before .before) in
+    (omega (arith, start .pre .1 .1 .some), start .pre .1 .1 .some-cap (c .before .if1 .left))
 
 -- The parts of a span of more than one rule.
 parts :
-    (t : ℕ) → (c : descend-lts.After-third (calls t) (descend-at t) descend.Post) →
-    let a = start-before-third t c .args in
-    Parted (a .n) (first (a .m)) (a .xs .now) (a .ys .now) (a .cs .now) (a .days .now) (a .t) (start-before-third t c .pre .1 .0 .kept) (a .lo) (a .hi) (c .third .result) (a .a) (a .cells .now)
+    (t : ℕ) → (c : descend-lts.After-upper-part (calls t) (descend-at t) descend.Post) →
+    let a = start-before-upper-part t c .args in
+    Parted (a .n) (linked (a .nexts .now)) (a .xs .now) (a .ys .now) (a .cs .now) (a .days .now) (a .depths .now) (a .g) (a .t) (start-before-upper-part t c .pre .1 .0 .kept) (start-before-upper-part t c .pre .1 .0 .deep) (a .lo) (a .hi) (c .upper-part .result) (c .before .share .result) (a .a) (a .cells .now)
 parts t c =
-    let start = start-before-third t c in
+    let start = start-before-upper-part t c in
     let a = start .args in
-    parted (a .n) (first (a .m)) (a .xs .now) (a .ys .now) (a .cs .now) (a .days .now) (a .t) (start .pre .1 .0 .kept) (a .lo) (a .hi) (a .v) (a .bound) (a .place) (a .a) (a .cells .now) (a .list .now) (start .pre .1 .1) (c .before .if1 .left) (c .third .result) (c .third .ensures)
+    parted (a .n) (linked (a .nexts .now)) (a .xs .now) (a .ys .now) (a .cs .now) (a .days .now) (a .depths .now) (a .g) (a .t) (start .pre .1 .0 .kept) (start .pre .1 .0 .deep) (a .lo) (a .hi) (a .v) (a .bound) (a .place) (a .a) (a .cap) (a .cells .now) (a .list .now) (start .pre .1 .1) (c .before .before .if1 .left) (c .upper-part .result) (c .before .share .result) (c .upper-part .ensures) (c .before .share .ensures)
 
 descend-sub-mid : (t : ℕ) → descend-lts.Need-sub-mid (calls t) (descend-at t) descend.Post
 descend-sub-mid t c = omega (arith, parts t c .some-lower)
 
-descend-sub-advance : (t : ℕ) → descend-lts.Need-sub-advance (calls t) (descend-at t) descend.Post
-descend-sub-advance t c = omega (arith, parts t c .some-lower)
-
 descend-advance-requires : (t : ℕ) → descend-lts.Need-advance-requires (calls t) (descend-at t) descend.Post
 descend-advance-requires t c κs =
-    let start = start-before-third t (c .before) in
-    (start .pre .1 .0, (start .pre .1 .1 .narrow, omega (arith, parts t (c .before) .cells-room)))
+    let start = start-before-upper-part t (c .before) in
+    let parts = parts t (c .before) in
+    (start .pre .1 .0, (start .pre .1 .1 .narrow, (omega (arith, parts .some-lower), (omega (arith, start .pre .1 .1 .near), omega (arith, parts .cells-room)))))
 
 descend-add-descend : (t : ℕ) → descend-lts.Need-add-descend (calls t) (descend-at t) descend.Post
 descend-add-descend t c =
-    let start = start-before-third t (c .before .before .before .before) in
+    let start = start-before-upper-part t (c .before .before .before .before) in
     omega (arith, parts t (c .before .before .before .before) .cells-room, start .good)
 
 descend-descend-requires : (t : ℕ) → descend-lts.Need-descend-requires (calls t) (descend-at t) descend.Post
 descend-descend-requires t c κs =
     let at-advance = c .before .before .before .before in
-    let at-third = at-advance .before .before in
-    let start = start-before-third t at-third in
+    let at-upper-part = at-advance .before .before in
+    let start = start-before-upper-part t at-upper-part in
     let a = start .args in
-    let parts = parts t at-third in (
+    let parts = parts t at-upper-part in (
       omega (arith, parts .some-upper, parts .some-lower, start .pre .0),
-      (start .pre .1 .0, upper-descendable (a .n) (first (a .m)) (a .xs .now) (a .ys .now) (a .cs .now) (a .days .now) (a .t) (start .pre .1 .0 .kept) (a .lo) (a .hi) (a .v) (a .bound) (a .place) (a .a) (a .cells .now) (a .list .now) (start .pre .1 .1) (at-third .third .result) parts _ (at-advance .advance .kept .1 .1 .1 .1 .1 .1 .1 .1 .1 .1 .1 .0) (at-advance .advance .ensures)),
+      (start .pre .1 .0, upper-descendable (a .n) (linked (a .nexts .now)) (a .xs .now) (a .ys .now) (a .cs .now) (a .days .now) (a .depths .now) (a .g) (a .t) (start .pre .1 .0 .kept) (start .pre .1 .0 .deep) (a .lo) (a .hi) (a .v) (a .bound) (a .place) (a .a) (a .cap) (a .cells .now) (a .list .now) (start .pre .1 .1) (at-upper-part .upper-part .result) (at-upper-part .before .share .result) parts _ (at-advance .advance .kept .1 .1 .1 .1 .1 .1 .1 .1 .1 .1 .1 .1 .1 .0) (at-advance .advance .ensures)),
     )
 
 descend-add-descend-2 : (t : ℕ) → descend-lts.Need-add-descend-2 (calls t) (descend-at t) descend.Post
 descend-add-descend-2 t c =
-    let at-third = advance-before-descend t (c .before .before .before .before) .before .before in
-    let start = start-before-third t at-third in
-    omega (arith, parts t at-third .some-lower, start .pre .1 .1 .list-room, start .good)
+    let at-upper-part = advance-before-descend t (c .before .before .before .before) .before .before in
+    let start = start-before-upper-part t at-upper-part in
+    omega (arith, parts t at-upper-part .some-lower, start .pre .1 .1 .list-room, start .good)
 
 descend-descend-requires-2 : (t : ℕ) → descend-lts.Need-descend-requires-2 (calls t) (descend-at t) descend.Post
 descend-descend-requires-2 t c κs =
     let at-descend = c .before .before .before .before .before .before in
     let at-advance = advance-before-descend t at-descend in
-    let at-third = at-advance .before .before in
-    let start = start-before-third t at-third in
+    let at-upper-part = at-advance .before .before in
+    let start = start-before-upper-part t at-upper-part in
     let a = start .args in
-    let parts = parts t at-third in (
+    let parts = parts t at-upper-part in (
       omega (arith, parts .some-upper, parts .some-lower, start .pre .0),
       (
         start .pre .1 .0,
-        lower-descendable (a .n) (first (a .m)) (a .xs .now) (a .ys .now) (a .cs .now) (a .days .now) (a .t) (start .pre .1 .0 .kept) (a .lo) (a .hi) (a .v) (a .bound) (a .place) (a .a) (a .cells .now) (a .list .now) (start .pre .1 .1) (at-third .third .result) parts _ (at-advance .advance .kept .1 .1 .1 .1 .1 .1 .1 .1 .1 .1 .1 .0) (at-advance .advance .ensures)
-            _ _ (at-descend .descend .result .step) (at-descend .descend .result .bound) (at-descend .descend .kept .1 .1 .1 .1 .1 .1 .1 .1 .1 .1 .1 .1 .1 .1 .1 .0) (at-descend .descend .kept .1 .1 .1 .1 .1 .1 .1 .1 .1 .1 .1 .1 .1 .1 .1 .1 .0) (at-descend .descend .ensures),
+        lower-descendable (a .n) (linked (a .nexts .now)) (a .xs .now) (a .ys .now) (a .cs .now) (a .days .now) (a .depths .now) (a .g) (a .t) (start .pre .1 .0 .kept) (start .pre .1 .0 .deep) (a .lo) (a .hi) (a .v) (a .bound) (a .place) (a .a) (a .cap) (a .cells .now) (a .list .now) (start .pre .1 .1) (at-upper-part .upper-part .result) (at-upper-part .before .share .result) parts _ (at-advance .advance .kept .1 .1 .1 .1 .1 .1 .1 .1 .1 .1 .1 .1 .1 .0) (at-advance .advance .ensures)
+            _ _ (at-descend .descend .result .step) (at-descend .descend .result .bound) (at-descend .descend .kept .1 .1 .1 .1 .1 .1 .1 .1 .1 .1 .1 .1 .1 .1 .1 .1 .1 .0) (at-descend .descend .kept .1 .1 .1 .1 .1 .1 .1 .1 .1 .1 .1 .1 .1 .1 .1 .1 .1 .1 .0) (at-descend .descend .ensures),
       ),
     )
 
@@ -185,24 +191,24 @@ descend-same-length-3 : (t : ℕ) → descend-lts.Need-same-length-3 (calls t) (
 descend-same-length-3 t c =
     let at-descend = descend-before-slice-known7 t c in
     let advance = advance-before-descend t at-descend .advance in
-    c .before .before .before .before .descend2 .kept .1 .1 .1 .1 .1 .1 .1 .1 .1 .1 .1 .1 .1 .1 .1 .0 ∙ at-descend .descend .kept .1 .1 .1 .1 .1 .1 .1 .1 .1 .1 .1 .1 .1 .1 .1 .0 ∙ advance .kept .1 .1 .1 .1 .1 .1 .1 .1 .1 .1 .1 .0
+    c .before .before .before .before .descend2 .kept .1 .1 .1 .1 .1 .1 .1 .1 .1 .1 .1 .1 .1 .1 .1 .1 .1 .0 ∙ at-descend .descend .kept .1 .1 .1 .1 .1 .1 .1 .1 .1 .1 .1 .1 .1 .1 .1 .1 .1 .0 ∙ advance .kept .1 .1 .1 .1 .1 .1 .1 .1 .1 .1 .1 .1 .1 .0
 
 descend-same-length-4 : (t : ℕ) → descend-lts.Need-same-length-4 (calls t) (descend-at t) descend.Post
 descend-same-length-4 t c =
     let descend = descend-before-slice-known7 t c .descend in
-    c .before .before .before .before .descend2 .kept .1 .1 .1 .1 .1 .1 .1 .1 .1 .1 .1 .1 .1 .1 .1 .1 .0 ∙ descend .kept .1 .1 .1 .1 .1 .1 .1 .1 .1 .1 .1 .1 .1 .1 .1 .1 .0
+    c .before .before .before .before .descend2 .kept .1 .1 .1 .1 .1 .1 .1 .1 .1 .1 .1 .1 .1 .1 .1 .1 .1 .1 .0 ∙ descend .kept .1 .1 .1 .1 .1 .1 .1 .1 .1 .1 .1 .1 .1 .1 .1 .1 .1 .1 .0
 
 descend-returns-2 : (t : ℕ) → descend-lts.Need-returns-2 (calls t) (descend-at t) descend.Post
 descend-returns-2 t c =
     let descend2 = c .before .before .before .before .descend2 in
     let at-descend = descend-before-slice-known7 t c in
     let at-advance = advance-before-descend t at-descend in
-    let at-third = at-advance .before .before in
-    let start = start-before-third t at-third in
+    let at-upper-part = at-advance .before .before in
+    let start = start-before-upper-part t at-upper-part in
     let a = start .args in
-    let parts = parts t at-third in
-    both-descended (a .n) (first (a .m)) (a .xs .now) (a .ys .now) (a .cs .now) (a .days .now) (a .t) (start .pre .1 .0 .kept) (a .lo) (a .hi) (a .v) (a .bound) (a .place) (a .a) (a .cells .now) (a .list .now) (start .pre .1 .1) (at-third .third .result) parts _ (at-advance .advance .kept .1 .1 .1 .1 .1 .1 .1 .1 .1 .1 .1 .0) (at-advance .advance .ensures)
-    _ _ (at-descend .descend .result .step) (at-descend .descend .result .bound) (at-descend .descend .kept .1 .1 .1 .1 .1 .1 .1 .1 .1 .1 .1 .1 .1 .1 .1 .0) (at-descend .descend .kept .1 .1 .1 .1 .1 .1 .1 .1 .1 .1 .1 .1 .1 .1 .1 .1 .0) (at-descend .descend .ensures)
+    let parts = parts t at-upper-part in
+    both-descended (a .n) (linked (a .nexts .now)) (a .xs .now) (a .ys .now) (a .cs .now) (a .days .now) (a .depths .now) (a .g) (a .t) (start .pre .1 .0 .kept) (start .pre .1 .0 .deep) (a .lo) (a .hi) (a .v) (a .bound) (a .place) (a .a) (a .cap) (a .cells .now) (a .list .now) (start .pre .1 .1) (at-upper-part .upper-part .result) (at-upper-part .before .share .result) parts _ (at-advance .advance .kept .1 .1 .1 .1 .1 .1 .1 .1 .1 .1 .1 .1 .1 .0) (at-advance .advance .ensures)
+    _ _ (at-descend .descend .result .step) (at-descend .descend .result .bound) (at-descend .descend .kept .1 .1 .1 .1 .1 .1 .1 .1 .1 .1 .1 .1 .1 .1 .1 .1 .1 .0) (at-descend .descend .kept .1 .1 .1 .1 .1 .1 .1 .1 .1 .1 .1 .1 .1 .1 .1 .1 .1 .1 .0) (at-descend .descend .ensures)
     _ _ (descend2 .result .step) (descend2 .result .bound) (descend2 .ensures)
 
 pub +descend-spec : {M : Type 1} → statement M
@@ -220,14 +226,14 @@ pub +descend-spec : {M : Type 1} → statement M
     (descend-slice-write-list t)
     (descend-number-at-requires t)
     (descend-spare-requires t)
-    (descend-sub-t30 t)
+    (descend-sub-left t)
     (descend-same-length t)
     (descend-same-length-2 t)
     (descend-returns t)
-    (descend-sub-third t)
-    (descend-third-requires t)
+    (descend-share-requires t)
+    (descend-sub-upper-part t)
+    (descend-upper-part-requires t)
     (descend-sub-mid t)
-    (descend-sub-advance t)
     (descend-advance-requires t)
     (descend-add-descend t)
     (descend-descend-requires t)

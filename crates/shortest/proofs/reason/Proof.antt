@@ -2,14 +2,15 @@
 -- number, is the reason.
 use Prim.Native.Nat.{ℕ, _+_, _*_, _-_, _≤_}
 use mathlib.Core.Path.{_≡_, _∙_}
+use mathlib.Core.List.{List}
 use mir.Syntax.{w32}
 use mir.ValLaws.{toZ-ofZ}
-use lib.ListN.{length-set, length-replicate}
+use lib.ListN.{length-set, length-replicate, getD-replicate}
 use Rattle.meaning.specs.Bounds.{STEPS}
-use Rattle.lent.specs.Lent.{first, BIAS}
-use Rattle.chains.specs.Chains.{number}
-use Rattle.shortest.specs.Contracts.{LAYERS, Chained}
-use Rattle.shortest.proofs.Writing.{short, short-is, seekable, few-rules, all-descendable, written-alone, written-all, buildable, built}
+use Rattle.lent.specs.Lent.{BIAS}
+use Rattle.chains.specs.Chains.{number, linked}
+use Rattle.shortest.specs.Contracts.{LAYERS, FAR, Chained, Refuted, ReasonIn}
+use Rattle.shortest.proofs.Writing.{short, short-is, seekable, few-rules, all-descendable, written-alone, written-all, leading, turnable, refuted-still, turned, reason-before}
 use native.Mathlib.Omega.{arith}
 use borrow.Author.Needs.{needs}
 use Rattle.shortest.proofs.reason.Statement.{statement}
@@ -28,26 +29,35 @@ biased-requires : tie.Need-biased-requires
 biased-requires c κs = search needs
 
 -- Places of the code, seen from later ones.
+abbrev turn-before-cells : tie.After-cells → tie.After-turn
+turn-before-cells c = c .before .before .before .before .before .before .before .before
+
+abbrev biased-before-cells : tie.After-cells → tie.After-biased
+biased-before-cells c = turn-before-cells c .before .before .before .before .before .before .before .before
+
 abbrev start-before-biased : tie.After-biased → tie.Start
 start-before-biased c = c .before .before .before .before .before .before .before .before .before
 
-abbrev biased-before-fewest : tie.After-fewest → tie.After-biased
-biased-before-fewest c = c .before .before .before .before .before .before .before .before .before .before .before
-
 abbrev fewest-before-slice-known6 : tie.After-slice-known6 → tie.After-fewest
-fewest-before-slice-known6 c = c .before .before .before .before .before .before .before .before .before .before .before .before .before
+fewest-before-slice-known6 c = c .before .before .before .before .before .before .before .before .before .before .before .before .before .before
+
+abbrev start-before-turn-arg2 : tie.After-turn-arg2 → tie.Start
+start-before-turn-arg2 c = start-before-biased (c .before .before .before .before .before .before .before)
+
+abbrev start-before-fewest : tie.After-fewest → tie.Start
+start-before-fewest c = start-before-biased (biased-before-cells (c .before))
 
 -- What is taken from what, and what is left: what the days lack.
 lack :
     (c : tie.After-biased) →
     let a = c .before .before .before .before .before .before .before .before .before .args in
     (c .before .day-at2 .result + c .biased .result ≤ c .before .before .day-at .result + BIAS)
-    × (c .before .before .day-at .result + BIAS - (c .before .day-at2 .result + c .biased .result) ≡ short (a .n) (first (a .m)) (a .m) (a .xs .now) (a .ys .now) (a .cs .now) (a .days .now) (a .heads .now) (a .nexts .now) (a .x) (a .y) (a .c) (a .list .now) (c .before .before .before .before .before .before .before .before .before .pre))
+    × (c .before .before .day-at .result + BIAS - (c .before .day-at2 .result + c .biased .result) ≡ short (a .n) (linked (a .nexts .now)) (a .m) (a .xs .now) (a .ys .now) (a .cs .now) (a .days .now) (a .heads .now) (a .nexts .now) (a .x) (a .y) (a .c) (a .list .now) (c .before .before .before .before .before .before .before .before .before .pre .0))
 lack c =
     let at-day-at = c .before .before in
     let start = at-day-at .before .before .before .before .before .before .before in
     let a = start .args in
-    short-is (a .n) (first (a .m)) (a .m) (a .xs .now) (a .ys .now) (a .cs .now) (a .days .now) (a .heads .now) (a .nexts .now) (a .x) (a .y) (a .c) (a .list .now) (start .pre)
+    short-is (a .n) (linked (a .nexts .now)) (a .m) (a .xs .now) (a .ys .now) (a .cs .now) (a .days .now) (a .heads .now) (a .nexts .now) (a .x) (a .y) (a .c) (a .list .now) (start .pre .0)
     (at-day-at .day-at .result) (c .before .day-at2 .result) (c .biased .result) (at-day-at .day-at .ensures) (c .before .day-at2 .ensures) (rw (toZ-ofZ w32 (a .c) (start .fits .c)) at (c .biased .ensures))
 
 add-t-2 : tie.Need-add-t-2
@@ -59,110 +69,178 @@ add-t-2 c =
 sub-t : tie.Need-sub-t
 sub-t c = lack c .0
 
-build-requires : tie.Need-build-requires
-build-requires c κs =
-    let start = start-before-biased (c .before .before) in
-    let a = start .args in
-    buildable (a .n) (a .m) (a .xs .now) (a .ys .now) (a .cs .now) (a .days .now) (a .heads .now) (a .nexts .now) (a .x) (a .y) (a .c) (a .list .now) (start .pre)
+slice-aggregate-deepen : tie.Need-slice-aggregate-deepen
+slice-aggregate-deepen c = search needs
 
--- The chains, once they are built.
-chains :
-    (c : tie.After-build) →
-    let a = start-before-biased (c .before .before .before) .args in
-    Chained (a .n) (first (a .m)) number (a .xs .now) (a .ys .now) (a .cs .now) (a .days .now) (c .build .last .1 .1 .1 .0) (c .build .last .1 .1 .1 .1 .0)
-chains c =
+deepen-requires : tie.Need-deepen-requires
+deepen-requires c κs =
     let start = start-before-biased (c .before .before .before) in
+    let a = start .args in (
+      leading (a .n) (a .m) (a .xs .now) (a .ys .now) (a .cs .now) (a .days .now) (a .heads .now) (a .nexts .now) (a .x) (a .y) (a .c) (a .list .now) (start .pre .0) (start .pre .1),
+      (start .pre .0 .first-in, (start .pre .0 .second-in, (omega (arith, start .pre .0 .kept .steps-in, length-replicate {A = ℕ} STEPS FAR), λ v v-in. getD-replicate STEPS v FAR 0 (omega (arith, start .pre .0 .kept .steps-in))))),
+    )
+
+turn-requires : tie.Need-turn-requires
+turn-requires c κs =
+    let start = start-before-turn-arg2 c in
     let a = start .args in
-    built (a .n) (a .m) (a .xs .now) (a .ys .now) (a .cs .now) (a .days .now) (a .heads .now) (a .nexts .now) (a .x) (a .y) (a .c) (a .list .now) (start .pre)
-    _ _ (c .build .kept .1 .1 .1 .0) (c .build .kept .1 .1 .1 .1 .0) (c .build .ensures)
+    turnable (a .n) (a .m) (a .xs .now) (a .ys .now) (a .cs .now) (a .days .now) (a .heads .now) (a .nexts .now) (a .x) (a .y) (a .c) (a .list .now) (start .pre .0)
+
+-- The chains, once they are made by second steps.
+abbrev heads-now : tie.After-turn → List ℕ
+heads-now c = c .turn .last .1 .1 .0
+
+abbrev nexts-now : tie.After-turn → List ℕ
+nexts-now c = c .turn .last .1 .1 .1 .0
+
+chains :
+    (c : tie.After-turn) →
+    let a = start-before-turn-arg2 (c .before) .args in
+    Chained (a .n) (linked (nexts-now c)) number (a .xs .now) (a .ys .now) (a .cs .now) (a .days .now) (heads-now c) (nexts-now c) (c .before .before .before .before .deepen .last .1 .1 .1 .1 .1 .1 .1 .1 .1 .1 .0) (c .before .before .before .before .before .before .before .before .before .before .day-at .result + BIAS - (c .before .before .before .before .before .before .before .before .before .day-at2 .result + c .before .before .before .before .before .before .before .before .biased .result))
+chains c =
+    let deepen = c .before .before .before .before .deepen in
+    let start = start-before-turn-arg2 (c .before) in
+    let a = start .args in
+    turned (a .n) (a .m) (a .xs .now) (a .ys .now) (a .cs .now) (a .days .now) (a .heads .now) (a .nexts .now) (a .x) (a .y) (a .c) (a .list .now) (start .pre .0)
+    (heads-now c) (nexts-now c) (c .turn .kept .1 .1 .0) (c .turn .kept .1 .1 .1 .0) (c .turn .ensures)
+    _ _ (omega (arith, start .pre .0 .kept .steps-in, deepen .kept .1 .1 .1 .1 .1 .1 .1 .1 .1 .1 .0, length-replicate {A = ℕ} STEPS FAR)) (deepen .ensures)
+
+-- The rule is refuted still.
+still :
+    (c : tie.After-turn) →
+    let a = start-before-turn-arg2 (c .before) .args in
+    Refuted (a .n) (linked (nexts-now c)) (a .m) (a .xs .now) (a .ys .now) (a .cs .now) (a .days .now) (heads-now c) (nexts-now c) (a .x) (a .y) (a .c) (a .list .now)
+still c =
+    let start = start-before-turn-arg2 (c .before) in
+    let a = start .args in
+    refuted-still (a .n) (a .m) (a .xs .now) (a .ys .now) (a .cs .now) (a .days .now) (a .heads .now) (a .nexts .now) (a .x) (a .y) (a .c) (a .list .now) (start .pre .0)
+    (heads-now c) (nexts-now c) (c .turn .kept .1 .1 .0) (c .turn .kept .1 .1 .1 .0) (c .turn .ensures)
+
+-- A reason of the rules on these chains is one of those that were lent.
+lent-reason :
+    (c : tie.After-turn) (r : ℕ) (after : List ℕ) →
+    let a = start-before-turn-arg2 (c .before) .args in
+    ReasonIn (linked (nexts-now c)) (a .m) (a .xs .now) (a .ys .now) (a .cs .now) (a .x) (a .y) (a .c) r (a .list .now) after →
+    ReasonIn (linked (a .nexts .now)) (a .m) (a .xs .now) (a .ys .now) (a .cs .now) (a .x) (a .y) (a .c) r (a .list .now) after
+lent-reason c r after =
+    let start = start-before-turn-arg2 (c .before) in
+    let a = start .args in
+    reason-before (a .n) (a .m) (a .xs .now) (a .ys .now) (a .cs .now) (a .days .now) (a .heads .now) (a .nexts .now) (a .x) (a .y) (a .c) (a .list .now) (start .pre .0)
+    (heads-now c) (nexts-now c) (c .turn .kept .1 .1 .0) (c .turn .kept .1 .1 .1 .0) (c .turn .ensures)
+    r (a .list .now) after
 
 slice-aggregate-fewest : tie.Need-slice-aggregate-fewest
 slice-aggregate-fewest c = search needs
 
+slice-aggregate-fewest-2 : tie.Need-slice-aggregate-fewest-2
+slice-aggregate-fewest-2 c = search needs
+
 fewest-requires : tie.Need-fewest-requires
 fewest-requires c κs =
-    let at-build = c .before .before .before .before .before .before .before in
-    let at-biased = at-build .before .before .before in
-    let start = start-before-biased at-biased in
+    let deepen = turn-before-cells c .before .before .before .before .deepen in
+    let start = start-before-biased (biased-before-cells c) in
     let a = start .args in
-    (chains at-build, seekable (a .n) (first (a .m)) (a .m) (a .xs .now) (a .ys .now) (a .cs .now) (a .days .now) (a .heads .now) (a .nexts .now) (a .x) (a .y) (a .c) (a .list .now) (start .pre) _ _ (lack at-biased .1) (omega (arith, length-replicate {A = ℕ} (LAYERS * STEPS) 0)))
+    let at-turn = turn-before-cells c in
+    (chains at-turn, seekable (a .n) (linked (nexts-now at-turn)) (a .m) (a .xs .now) (a .ys .now) (a .cs .now) (a .days .now) (heads-now at-turn) (nexts-now at-turn) (a .x) (a .y) (a .c) (a .list .now) (still at-turn) _ _ _ (lack (biased-before-cells c) .1) (deepen .ensures .begins) (omega (arith, length-replicate {A = ℕ} (LAYERS * STEPS) 0)))
 
 cast-list : tie.Need-cast-list
-cast-list c = search needs
+cast-list c =
+    let start = start-before-fewest (c .before) in
+    omega (arith, start .pre .0 .free-in)
 
 slice-write-list : tie.Need-slice-write-list
-slice-write-list c = search needs
+slice-write-list c =
+    let start = start-before-fewest (c .before) in
+    omega (arith, start .pre .0 .list-room, start .pre .0 .first-in)
 
 same-length : tie.Need-same-length
-same-length c = search needs
+same-length c =
+    let turn = turn-before-cells (c .before .before .before) .turn in
+    turn .kept .1 .1 .0
 
 same-length-2 : tie.Need-same-length-2
-same-length-2 c = search needs
+same-length-2 c =
+    let turn = turn-before-cells (c .before .before .before) .turn in
+    turn .kept .1 .1 .1 .0
 
 same-length-3 : tie.Need-same-length-3
-same-length-3 c = search needs
+same-length-3 c =
+    let start = start-before-fewest (c .before .before) in
+    length-set (start .args .list .now) 0 (start .args .m)
 
 returns : tie.Need-returns
 returns c =
-    let at-biased = biased-before-fewest (c .before .before) in
-    let start = start-before-biased at-biased in
+    let start = start-before-fewest (c .before .before) in
     let a = start .args in
-    written-alone (a .n) (first (a .m)) (a .m) (a .xs .now) (a .ys .now) (a .cs .now) (a .days .now) (a .heads .now) (a .nexts .now) (a .x) (a .y) (a .c) (a .list .now) (start .pre) _ _ (lack at-biased .1) (c .before .before .fewest .ensures) (c .if1 .taken)
+    let at-turn = turn-before-cells (c .before .before .before) in
+    lent-reason at-turn _ _
+    (written-alone (a .n) (linked (nexts-now at-turn)) (a .m) (a .xs .now) (a .ys .now) (a .cs .now) (a .days .now) (heads-now at-turn) (nexts-now at-turn) (a .x) (a .y) (a .c) (a .list .now) (still at-turn) _ _ (lack (biased-before-cells (c .before .before .before)) .1) (c .before .before .fewest .ensures) (c .if1 .taken))
 
 slice-aggregate-begin : tie.Need-slice-aggregate-begin
 slice-aggregate-begin c = search needs
 
 begin-requires : tie.Need-begin-requires
 begin-requires c κs =
-    let at-biased = biased-before-fewest (c .before .before .before) in
-    let start = start-before-biased at-biased in
+    let start = start-before-fewest (c .before .before .before) in
     let a = start .args in
-    (omega (arith, start .pre .kept .steps-in, c .before .before .before .fewest .kept .1 .1 .1 .1 .1 .1 .1 .1 .1 .1 .1 .0, length-replicate {A = ℕ} (LAYERS * STEPS) 0), (start .pre .first-in, omega (arith, lack at-biased .1, start .pre .small)))
+    (omega (arith, start .pre .0 .kept .steps-in, c .before .before .before .fewest .kept .1 .1 .1 .1 .1 .1 .1 .1 .1 .1 .1 .0, length-replicate {A = ℕ} (LAYERS * STEPS) 0), (start .pre .0 .first-in, omega (arith, lack (biased-before-cells (c .before .before .before .before)) .1, start .pre .0 .small)))
 
 slice-aggregate-descend : tie.Need-slice-aggregate-descend
 slice-aggregate-descend c = search needs
 
+slice-aggregate-descend-2 : tie.Need-slice-aggregate-descend-2
+slice-aggregate-descend-2 c = search needs
+
 descend-requires : tie.Need-descend-requires
 descend-requires c κs =
-    let at-begin = c .before .before .before .before .before in
+    let at-begin = c .before .before .before .before .before .before in
     let else1 = at-begin .before .before in
     let at-fewest = else1 .before .before in
-    let at-build = at-fewest .before .before .before .before .before .before .before .before in
-    let at-biased = biased-before-fewest at-fewest in
-    let start = start-before-biased at-biased in
-    let a = start .args in (
-      chains at-build,
-      all-descendable (a .n) (first (a .m)) (a .m) (a .xs .now) (a .ys .now) (a .cs .now) (a .days .now) (a .heads .now) (a .nexts .now) (a .x) (a .y) (a .c) (a .list .now) (start .pre) _ _ _ _ (lack at-biased .1) (at-fewest .fewest .ensures) (omega (arith, else1 .if1 .left)) (omega (arith, at-begin .begin .kept .1 .1 .1 .0, at-fewest .fewest .kept .1 .1 .1 .1 .1 .1 .1 .1 .1 .1 .1 .0, length-replicate {A = ℕ} (LAYERS * STEPS) 0)) (length-set (a .list .now) 0 (a .m)) (at-begin .begin .ensures),
+    let at-cells-there = at-fewest .before in
+    let deepen = turn-before-cells (at-fewest .before) .before .before .before .before .deepen in
+    let start = start-before-fewest at-fewest in
+    let a = start .args in
+    let at-cells = at-cells-there in
+    let at-turn = turn-before-cells at-cells in (
+      chains at-turn,
+      all-descendable (a .n) (linked (nexts-now at-turn)) (a .m) (a .xs .now) (a .ys .now) (a .cs .now) (a .days .now) (heads-now at-turn) (nexts-now at-turn) (a .x) (a .y) (a .c) (a .list .now) (still at-turn) _ _ _ _ _ (lack (biased-before-cells at-cells) .1) (deepen .ensures .begins) (at-fewest .fewest .ensures) (omega (arith, else1 .if1 .left)) (omega (arith, at-begin .begin .kept .1 .1 .1 .0, at-fewest .fewest .kept .1 .1 .1 .1 .1 .1 .1 .1 .1 .1 .1 .0, length-replicate {A = ℕ} (LAYERS * STEPS) 0)) (length-set (a .list .now) 0 (a .m)) (at-begin .begin .ensures),
     )
 
 add-result : tie.Need-add-result
 add-result c =
     let at-fewest = fewest-before-slice-known6 c in
-    let at-biased = biased-before-fewest at-fewest in
-    let start = start-before-biased at-biased in
+    let at-cells = at-fewest .before in
+    let start = start-before-fewest at-fewest in
     let a = start .args in
-    omega (arith, few-rules (a .n) (first (a .m)) (a .m) (a .xs .now) (a .ys .now) (a .cs .now) (a .days .now) (a .heads .now) (a .nexts .now) (a .x) (a .y) (a .c) (a .list .now) (start .pre) _ _ (lack at-biased .1) (at-fewest .fewest .ensures), start .pre .kept .steps-in)
+    let at-turn = turn-before-cells at-cells in
+    omega (arith, few-rules (a .n) (linked (nexts-now at-turn)) (a .m) (a .xs .now) (a .ys .now) (a .cs .now) (a .days .now) (heads-now at-turn) (nexts-now at-turn) (a .x) (a .y) (a .c) (a .list .now) (still at-turn) _ _ (lack (biased-before-cells at-cells) .1) (at-fewest .fewest .ensures), start .pre .0 .kept .steps-in)
 
 same-length-4 : tie.Need-same-length-4
-same-length-4 c = search needs
+same-length-4 c =
+    let turn = turn-before-cells (fewest-before-slice-known6 c .before) .turn in
+    turn .kept .1 .1 .0
 
 same-length-5 : tie.Need-same-length-5
-same-length-5 c = search needs
+same-length-5 c =
+    let turn = turn-before-cells (fewest-before-slice-known6 c .before) .turn in
+    turn .kept .1 .1 .1 .0
 
 same-length-6 : tie.Need-same-length-6
 same-length-6 c =
-    let start = start-before-biased (biased-before-fewest (fewest-before-slice-known6 c)) in
-    c .before .before .before .descend .kept .1 .1 .1 .1 .1 .1 .1 .1 .1 .1 .1 .1 .1 .1 .1 .1 .0 ∙ length-set (start .args .list .now) 0 (start .args .m)
+    let start = start-before-fewest (fewest-before-slice-known6 c) in
+    c .before .before .before .descend .kept .1 .1 .1 .1 .1 .1 .1 .1 .1 .1 .1 .1 .1 .1 .1 .1 .1 .1 .0 ∙ length-set (start .args .list .now) 0 (start .args .m)
 
 returns-2 : tie.Need-returns-2
 returns-2 c =
     let at-descend = c .before .before .before in
-    let begin = at-descend .before .before .before .before .before .before .begin in
+    let begin = at-descend .before .before .before .before .before .before .before .begin in
     let at-fewest = fewest-before-slice-known6 c in
-    let at-biased = biased-before-fewest at-fewest in
-    let start = start-before-biased at-biased in
+    let at-cells = at-fewest .before in
+    let start = start-before-fewest at-fewest in
     let a = start .args in
-    written-all (a .n) (first (a .m)) (a .m) (a .xs .now) (a .ys .now) (a .cs .now) (a .days .now) (a .heads .now) (a .nexts .now) (a .x) (a .y) (a .c) (a .list .now) (start .pre) _ _ _ _ _ _ _ (lack at-biased .1) (at-fewest .fewest .ensures) (begin .ensures) (at-descend .descend .kept .1 .1 .1 .1 .1 .1 .1 .1 .1 .1 .1 .1 .1 .1 .1 .1 .0 ∙ length-set (a .list .now) 0 (a .m)) (at-descend .descend .ensures)
+    let at-turn = turn-before-cells at-cells in
+    lent-reason at-turn _ _
+    (written-all (a .n) (linked (nexts-now at-turn)) (a .m) (a .xs .now) (a .ys .now) (a .cs .now) (a .days .now) (heads-now at-turn) (nexts-now at-turn) (a .x) (a .y) (a .c) (a .list .now) (still at-turn) _ _ _ _ _ _ _ _ (lack (biased-before-cells at-cells) .1) (at-fewest .fewest .ensures) (begin .ensures) (at-descend .descend .kept .1 .1 .1 .1 .1 .1 .1 .1 .1 .1 .1 .1 .1 .1 .1 .1 .1 .1 .0 ∙ length-set (a .list .now) 0 (a .m)) (at-descend .descend .ensures))
 
 pub reason-spec : {M : Type 1} → statement M
 reason-spec =
@@ -174,8 +252,11 @@ reason-spec =
     biased-requires
     add-t-2
     sub-t
-    build-requires
+    slice-aggregate-deepen
+    deepen-requires
+    turn-requires
     slice-aggregate-fewest
+    slice-aggregate-fewest-2
     fewest-requires
     cast-list
     slice-write-list
@@ -186,6 +267,7 @@ reason-spec =
     slice-aggregate-begin
     begin-requires
     slice-aggregate-descend
+    slice-aggregate-descend-2
     descend-requires
     add-result
     same-length-4

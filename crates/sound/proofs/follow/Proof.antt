@@ -9,9 +9,8 @@ use borrow.Author.Tests.{not-true, not-false}
 use Rattle.meaning.specs.Rules.{Grounded}
 use Rattle.meaning.specs.Tables.{rule-at, at}
 use Rattle.lent.specs.Lent.{columns, KeptAt}
-use Rattle.lent.specs.Lent.{first}
-use Rattle.chains.specs.Chains.{number}
-use Rattle.chains.proofs.Laws.{next-in, top-number}
+use Rattle.chains.specs.Chains.{number, linked}
+use Rattle.chains.proofs.Laws.{next-lower, top-number}
 use Rattle.sound.specs.Ground.{ListsRoom}
 use Rattle.sound.proofs.Entering.{enterable, entering}
 use Rattle.sound.proofs.Grounding.{Turned, dated, turned-tight, turned-loose, walking-start, walking-on, Walking}
@@ -19,11 +18,11 @@ use Rattle.sound.proofs.follow.Statement.{statement}
 use Rattle.sound.proofs.follow.Tie as tie
 
 abbrev Inv-loop : tie.InvT-loop
-Inv-loop n m a xs ys cs days heads nexts entered places₀ work₀ k₀ link₀ places work k link =
-    (length places ≡ length places₀) × (length work ≡ length work₀) × Walking n (first m) number xs ys cs days a places₀ k places work link
+Inv-loop n a xs ys cs days heads nexts entered places₀ work₀ k₀ link₀ places work k link =
+    (length places ≡ length places₀) × (length work ≡ length work₀) × Walking n (linked nexts) number xs ys cs days a places₀ k places work link
 
 abbrev μ-loop : tie.MeasureT-loop
-μ-loop n m a xs ys cs days heads nexts entered places₀ work₀ k₀ link₀ places work k link = link
+μ-loop n a xs ys cs days heads nexts entered places₀ work₀ k₀ link₀ places work k link = link
 
 -- The entry of the function, seen from the loop's head.
 abbrev entry : tie.At-loop Inv-loop μ-loop → tie.Start Inv-loop μ-loop
@@ -41,7 +40,7 @@ loop-holds c =
       refl,
       refl,
       rw (c .number-at .ensures)
-          (walking-start (args .n) (first (args .m)) (args .xs .now) (args .ys .now) (args .cs .now) (args .days .now) number (args .heads .now) (args .nexts .now) (start .pre .0 .chained)
+          (walking-start (args .n) (linked (args .nexts .now)) (args .xs .now) (args .ys .now) (args .cs .now) (args .days .now) number (args .heads .now) (args .nexts .now) (start .pre .0 .chained)
           (start .pre .0 .rules-in) (args .a) (start .pre .1 .1 .1 .0) (args .entered) (args .places .now) (args .work .now) (start .pre .1 .1 .0)),
     )
 
@@ -51,16 +50,16 @@ sub-i c = omega (arith, c .loop-test .taken)
 -- The walk, at the rule that its link leads to.
 walking-at :
     (c : tie.In-loop Inv-loop μ-loop) → let args = entry (c .before) .args in let l = c .before .loop in
-    Walking (args .n) (first (args .m)) number (args .xs .now) (args .ys .now) (args .cs .now) (args .days .now) (args .a) (args .places .now) (l .k) (l .places) (l .work) (suc (l .link - 1))
+    Walking (args .n) (linked (args .nexts .now)) number (args .xs .now) (args .ys .now) (args .cs .now) (args .days .now) (args .a) (args .places .now) (l .k) (l .places) (l .work) (suc (l .link - 1))
 walking-at c =
     let head = c .before in
     let args = entry head .args in
     let l = head .loop in
     let link-is : l .link ≡ suc (l .link - 1) = omega (arith, c .loop-test .taken) in
-    subst (Walking (args .n) (first (args .m)) number (args .xs .now) (args .ys .now) (args .cs .now) (args .days .now) (args .a) (args .places .now) (l .k) (l .places) (l .work)) link-is (l .inv .2)
+    subst (Walking (args .n) (linked (args .nexts .now)) number (args .xs .now) (args .ys .now) (args .cs .now) (args .days .now) (args .a) (args .places .now) (l .k) (l .places) (l .work)) link-is (l .inv .2)
 
 -- That rule is held.
-rule-held : (c : tie.In-loop Inv-loop μ-loop) → c .before .loop .link - 1 < entry (c .before) .args .m
+rule-held : (c : tie.In-loop Inv-loop μ-loop) → linked (entry (c .before) .args .nexts .now) (c .before .loop .link - 1)
 rule-held c = walking-at c .of-a .held (c .before .loop .link - 1) refl
 
 -- The two lists have room.
@@ -75,20 +74,20 @@ lists-room c =
 -- Step a, whose rules are followed, is grounded, and so is that rule's first step, which is a.
 first-grounded :
     (c : tie.In-loop Inv-loop μ-loop) → let args = entry (c .before) .args in
-    Grounded (rule-at (columns (args .xs .now) (args .ys .now) (args .cs .now))) (first (args .m)) (at (args .days .now)) (at (args .xs .now) (c .before .loop .link - 1))
+    Grounded (rule-at (columns (args .xs .now) (args .ys .now) (args .cs .now))) (linked (args .nexts .now)) (at (args .days .now)) (at (args .xs .now) (c .before .loop .link - 1))
 first-grounded c =
     let head = c .before in
     let args = entry head .args in
     let w = walking-at c in
     let a-in = entry head .pre .1 .1 .1 in
-    subst (Grounded (rule-at (columns (args .xs .now) (args .ys .now) (args .cs .now))) (first (args .m)) (at (args .days .now))) (sym (w .of-a .own (head .loop .link - 1) refl))
+    subst (Grounded (rule-at (columns (args .xs .now) (args .ys .now) (args .cs .now))) (linked (args .nexts .now)) (at (args .days .now))) (sym (w .of-a .own (head .loop .link - 1) refl))
     (w .underway .grounded (args .a) (a-in .0) (omega (arith, w .grown (args .a) (a-in .0) (a-in .1), a-in .1)))
 
 kept-requires : tie.Need-kept-requires Inv-loop μ-loop
 kept-requires c κs =
     let head = c .before in
     let args = entry head .args in
-    dated (args .n) (first (args .m)) (args .xs .now) (args .ys .now) (args .cs .now) (args .days .now) number (args .heads .now) (args .nexts .now) (entry head .pre .0) (head .loop .link - 1) (rule-held c)
+    dated (args .n) (linked (args .nexts .now)) (args .xs .now) (args .ys .now) (args .cs .now) (args .days .now) number (args .heads .now) (args .nexts .now) (entry head .pre .0) (head .loop .link - 1) (rule-held c)
 
 same-length : tie.Need-same-length Inv-loop μ-loop
 same-length c = c .before .before .before .loop .inv .0
@@ -116,7 +115,7 @@ slack-requires : tie.Need-slack-requires Inv-loop μ-loop
 slack-requires c κs =
     let head = c .before .before .before in
     let args = entry head .args in (
-      dated (args .n) (first (args .m)) (args .xs .now) (args .ys .now) (args .cs .now) (args .days .now) number (args .heads .now) (args .nexts .now) (entry head .pre .0) (head .loop .link - 1) (rule-held (c .before .before)),
+      dated (args .n) (linked (args .nexts .now)) (args .xs .now) (args .ys .now) (args .cs .now) (args .days .now) number (args .heads .now) (args .nexts .now) (entry head .pre .0) (head .loop .link - 1) (rule-held (c .before .before)),
       rule-kept c,
     )
 
@@ -140,7 +139,7 @@ enter-requires c κs =
 turned :
     (c : tie.Joined2 Inv-loop μ-loop) → let args = entry (c .before .before .before .before .before) .args in
     (length (c .if2 .places) ≡ length (c .before .before .before .before .before .loop .places)) × (length (c .if2 .work) ≡ length (c .before .before .before .before .before .loop .work)) ×
-    Turned (args .n) (first (args .m)) (args .xs .now) (args .ys .now) (args .cs .now) (args .days .now) (c .before .before .before .before .before .loop .link - 1) (c .before .before .before .before .before .loop .places) (c .if2 .k) (c .if2 .places) (c .if2 .work)
+    Turned (args .n) (linked (args .nexts .now)) (args .xs .now) (args .ys .now) (args .cs .now) (args .days .now) (c .before .before .before .before .before .loop .link - 1) (c .before .before .before .before .before .loop .places) (c .if2 .k) (c .if2 .places) (c .if2 .work)
 turned c =
     let else1 = c .before .before in
     let head = else1 .before .before .before in
@@ -152,7 +151,7 @@ turned c =
     (λ w. rw (w .9, w .10, w .11) (
       w .4 .kept .1 .1 .0,
       w .4 .kept .1 .1 .1 .0,
-      turned-tight (args .n) (first (args .m)) (args .xs .now) (args .ys .now) (args .cs .now) (args .days .now) i (c .before .slack .result) (l .k) (w .4 .result) (l .places) (l .work)
+      turned-tight (args .n) (linked (args .nexts .now)) (args .xs .now) (args .ys .now) (args .cs .now) (args .days .now) i (c .before .slack .result) (l .k) (w .4 .result) (l .places) (l .work)
           (w .4 .last .1 .1 .0) (w .4 .last .1 .1 .1 .0) (rule-held looped) (c .before .slack .ensures) (w .0 .taken) (rule-kept else1) (first-grounded looped) (walking-at looped .underway)
           (entering (args .n) (at (args .ys .now) i) (l .k) (l .places) (l .work) (entry head .pre .0 .rules-in i (rule-held looped) .second-in) (lists-room looped)
           (walking-at looped .underway .worklist) (w .4 .result) (w .4 .last .1 .1 .0) (w .4 .last .1 .1 .1 .0) (rw (w .1 .ensures) at (w .4 .ensures))),
@@ -160,7 +159,7 @@ turned c =
     (λ w. rw (w .1, w .2, w .3) (
       refl,
       refl,
-      turned-loose (args .n) (first (args .m)) (args .xs .now) (args .ys .now) (args .cs .now) (args .days .now) i (c .before .slack .result) (l .k) (l .places) (l .work) (c .before .slack .ensures) (w .0 .left)
+      turned-loose (args .n) (linked (args .nexts .now)) (args .xs .now) (args .ys .now) (args .cs .now) (args .days .now) i (c .before .slack .result) (l .k) (l .places) (l .work) (c .before .slack .ensures) (w .0 .left)
           (rule-kept else1) (walking-at looped .underway),
     ))
     (c .if2 .came)
@@ -174,7 +173,7 @@ loop-less : tie.Need-loop-less Inv-loop μ-loop
 loop-less c =
     let in-loop = c .before .before .before .before .before in
     let head = in-loop .before in
-    omega (arith, c .number-at3 .ensures, next-in (entry head .args .n) (entry head .args .m) (entry head .args .xs .now) (entry head .args .heads .now) (entry head .args .nexts .now) (entry head .pre .0 .chained) (head .loop .link - 1) (rule-held in-loop), in-loop .loop-test .taken)
+    omega (arith, c .number-at3 .ensures, next-lower (entry head .args .n) (linked (entry head .args .nexts .now)) (entry head .args .xs .now) (entry head .args .heads .now) (entry head .args .nexts .now) (entry head .pre .0 .chained) (head .loop .link - 1) (rule-held in-loop), in-loop .loop-test .taken)
 
 loop-again : tie.Need-loop-again Inv-loop μ-loop
 loop-again c =
@@ -186,7 +185,7 @@ loop-again c =
       turn .0 ∙ l .inv .0,
       turn .1 ∙ l .inv .1,
       rw (c .number-at3 .ensures)
-          (walking-on (args .n) (first (args .m)) (args .xs .now) (args .ys .now) (args .cs .now) (args .days .now) number (args .heads .now) (args .nexts .now) (entry head .pre .0 .chained)
+          (walking-on (args .n) (linked (args .nexts .now)) (args .xs .now) (args .ys .now) (args .cs .now) (args .days .now) number (args .heads .now) (args .nexts .now) (entry head .pre .0 .chained)
           (entry head .pre .0 .rules-in) (args .a) (entry head .pre .1 .1 .1 .0) (args .places .now) (l .link - 1) (l .k) (c .before .if2 .k) (l .places) (l .work) (c .before .if2 .places) (c .before .if2 .work)
           (turn .2) (walking-at in-loop)),
     )

@@ -17,7 +17,7 @@ returns-2 : tie.Need-returns-2
 returns-2 c counts = decides-no refl (λ h. omega (arith, c .if2 .taken, h .days-room))
 
 returns-3 : tie.Need-returns-3
-returns-3 c counts = decides-no refl (λ h. omega (arith, c .if3 .taken, h .marks-room))
+returns-3 c counts = decides-no refl (λ h. omega (arith, c .if3 .taken, h .levels-room))
 
 columns-have-requires-2 : tie.Need-columns-have-requires-2
 columns-have-requires-2 c κs = search needs
@@ -29,7 +29,7 @@ returns-4 c counts =
       so = λ e. record {
         rules-room = columns-have .ensures .so (not-false (columns-have .result) (c .before .before .before .if1 .left));
         days-room = omega (arith, c .before .before .if2 .left);
-        marks-room = omega (arith, c .before .if3 .left);
+        levels-room = omega (arith, c .before .if3 .left);
         watched-room = c .columns-have2 .ensures .so e;
       };
       not-so = λ e h. c .columns-have2 .ensures .not-so e (h .watched-room);

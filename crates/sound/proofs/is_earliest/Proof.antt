@@ -8,17 +8,17 @@ use Rattle.meaning.specs.Tables.{at}
 use Rattle.meaning.specs.Bounds.{STEPS}
 use Rattle.lent.specs.Decides.{decides-no}
 use Rattle.sound.proofs.Entering.{few, empty}
-use Rattle.lent.specs.Lent.{first}
+use Rattle.chains.specs.Chains.{linked}
 use Rattle.sound.proofs.Grounding.{grounding-start, grounding-on, count-decides, Grounding}
 use Rattle.sound.proofs.is_earliest.Statement.{statement}
 use Rattle.sound.proofs.is_earliest.Tie as tie
 
 abbrev Inv-loop : tie.InvT-loop
-Inv-loop n m xs ys cs days heads nexts places₀ work₀ entered₀ done₀ places work entered done =
-    (length places ≡ STEPS) × (length work ≡ STEPS) × Grounding n (first m) xs ys cs days done entered places work
+Inv-loop n xs ys cs days heads nexts places₀ work₀ entered₀ done₀ places work entered done =
+    (length places ≡ STEPS) × (length work ≡ STEPS) × Grounding n (linked nexts) xs ys cs days done entered places work
 
 abbrev μ-loop : tie.MeasureT-loop
-μ-loop n m xs ys cs days heads nexts places₀ work₀ entered₀ done₀ places work entered done = n - done
+μ-loop n xs ys cs days heads nexts places₀ work₀ entered₀ done₀ places work entered done = n - done
 
 -- The entry of the function, seen from the loop's head.
 abbrev entry : tie.At-loop Inv-loop μ-loop → tie.Start Inv-loop μ-loop
@@ -47,7 +47,7 @@ loop-holds c =
     let args = c .before .before .before .before .before .before .before .before .before .before .args in (
       seeded .kept .1 .1 .0,
       seeded .kept .1 .1 .1 .0,
-      grounding-start (args .n) (first (args .m)) (args .xs .now) (args .ys .now) (args .cs .now) (args .days .now)
+      grounding-start (args .n) (linked (args .nexts .now)) (args .xs .now) (args .ys .now) (args .cs .now) (args .days .now)
           (seeded .result) (seeded .last .1 .1 .0) (seeded .last .1 .1 .1 .0) (seeded .ensures),
     )
 
@@ -119,11 +119,11 @@ loop-again c =
     let args = entry head .args in
     let l = head .loop in
     let followed = c .before .before .before .before .follow in
-    let places′ = followed .last .1 .1 .1 .1 .1 .1 .1 .1 .1 .1 .0 in
-    let work′ = followed .last .1 .1 .1 .1 .1 .1 .1 .1 .1 .1 .1 .0 in (
-      followed .kept .1 .1 .1 .1 .1 .1 .1 .1 .1 .1 .0 ∙ l .inv .0,
-      followed .kept .1 .1 .1 .1 .1 .1 .1 .1 .1 .1 .1 .0 ∙ l .inv .1,
-      grounding-on (args .n) (first (args .m)) (args .xs .now) (args .ys .now) (args .cs .now) (args .days .now) (entry head .pre .rules-in) (l .done) (l .entered) (followed .result .entered)
+    let places′ = followed .last .1 .1 .1 .1 .1 .1 .1 .1 .1 .0 in
+    let work′ = followed .last .1 .1 .1 .1 .1 .1 .1 .1 .1 .1 .0 in (
+      followed .kept .1 .1 .1 .1 .1 .1 .1 .1 .1 .0 ∙ l .inv .0,
+      followed .kept .1 .1 .1 .1 .1 .1 .1 .1 .1 .1 .0 ∙ l .inv .1,
+      grounding-on (args .n) (linked (args .nexts .now)) (args .xs .now) (args .ys .now) (args .cs .now) (args .days .now) (entry head .pre .rules-in) (l .done) (l .entered) (followed .result .entered)
           (l .places) (l .work) places′ work′ (turn .loop-test .taken) (followed .ensures .underway) (followed .ensures .grown)
           (rw (at-number-at .number-at .ensures) at (followed .ensures .when-kept (not-false (followed .result .kept) (c .if1 .left)))) (l .inv .2),
     )
@@ -134,7 +134,7 @@ returns-2 c =
     let args = entry head .args in
     let l = head .loop in
     let all : l .done ≡ l .entered = omega (arith, l .inv .2 .done-in, c .loop-test .left) in
-    count-decides (args .n) (first (args .m)) (args .xs .now) (args .ys .now) (args .cs .now) (args .days .now) (entry head .pre .rules-in) (l .entered) (l .places) (l .work) (l .inv .2 .underway)
+    count-decides (args .n) (linked (args .nexts .now)) (args .xs .now) (args .ys .now) (args .cs .now) (args .days .now) (entry head .pre .rules-in) (l .entered) (l .places) (l .work) (l .inv .2 .underway)
     (l .inv .2 .every-day-0)
     (λ v h in-it. l .inv .2 .done-followed v h in-it (omega (arith, l .inv .2 .underway .worklist .place-in v h)))
 

@@ -1,30 +1,25 @@
 -- `sound::is_sound` meets its contract: each early return has a part that is not sound, and where every other part is, the days are the answer.
 use Prim.Native.Nat.{ℕ}
-use native.Mathlib.Omega.{arith}
 use mathlib.Core.Path.{_≡_}
 use mathlib.Core.List.{List}
 use lib.ListN.{length}
 use borrow.Author.Needs.{needs}
 use borrow.Author.Tests.{not-true, not-false}
 use Rattle.meaning.specs.Tables.{Tables, InCounts}
-use Rattle.lent.specs.Lent.{tables}
-use Rattle.chains.specs.Chains.{Chained}
-use Rattle.sound.specs.Parts.{AllIn}
+use Rattle.lent.specs.Lent.{tables, held-by}
+use Rattle.chains.specs.Chains.{LentChains}
+use Rattle.sound.specs.Parts.{HeldIn}
 use Rattle.sound.proofs.Answers.{room-for-fewer, testable-on, tested-no, chains-room, ready, tested-by-days}
 use Rattle.sound.proofs.is_sound.Statement.{statement}
 use Rattle.sound.proofs.is_sound.Tie as tie
 
 -- The tables lent.
 abbrev lent : tie.Start → Tables
-lent c = tables (c .args .counts) (c .args .xs .now) (c .args .ys .now) (c .args .cs .now) (c .args .days .now) (c .args .marks .now) (c .args .wxs .now) (c .args .wys .now) (c .args .wcs .now)
+lent c = tables (c .args .counts) (c .args .xs .now) (c .args .ys .now) (c .args .cs .now) (c .args .days .now) (c .args .levels .now) (c .args .wxs .now) (c .args .wys .now) (c .args .wcs .now)
 
 -- The entry of the function, seen from where the counts have been tested.
 abbrev entry : tie.Else1 → tie.Start
 entry c = c .before .before .before .before .before .before .before .before .before .before
-
--- Places of the code, seen from later ones.
-abbrev else2-before-marks-in : tie.After-marks-in → tie.Else2
-else2-before-marks-in c = c .before .before .before .before .before
 
 -- The counts are within bounds there.
 counts-good : (c : tie.Else1) → InCounts (entry c .args .counts)
@@ -32,30 +27,30 @@ counts-good c = c .before .counts-in .ensures .so (not-false (c .before .counts-
 
 -- Where the counts have been tested, seen from where the rules have been; and the chains as they are there.
 abbrev counted : tie.After-slice-known4 → tie.Else1
-counted c = c .before .before .before .before .before .before .before .before .before
+counted c = c .before .before .before .before .before .before .before .before .before .before
 
 abbrev heads-there : tie.After-slice-known4 → List ℕ
-heads-there c = c .before .before .before .before .rules-in .last .1 .1 .1 .1 .1 .0
+heads-there c = c .before .before .before .before .rules-in .last .1 .1 .1 .1 .1 .1 .1 .0
 
 abbrev nexts-there : tie.After-slice-known4 → List ℕ
-nexts-there c = c .before .before .before .before .rules-in .last .1 .1 .1 .1 .1 .1 .0
+nexts-there c = c .before .before .before .before .rules-in .last .1 .1 .1 .1 .1 .1 .1 .1 .0
 
 -- The lists for the chains are as long as they were.
 heads-same : (c : tie.After-slice-known4) → length (heads-there c) ≡ length (entry (counted c) .args .heads .now)
-heads-same c = c .before .before .before .before .rules-in .kept .1 .1 .1 .1 .1 .0
+heads-same c = c .before .before .before .before .rules-in .kept .1 .1 .1 .1 .1 .1 .1 .0
 
 nexts-same : (c : tie.After-slice-known4) → length (nexts-there c) ≡ length (entry (counted c) .args .nexts .now)
-nexts-same c = c .before .before .before .before .rules-in .kept .1 .1 .1 .1 .1 .1 .0
+nexts-same c = c .before .before .before .before .rules-in .kept .1 .1 .1 .1 .1 .1 .1 .1 .0
 
 -- The rules held are within bounds, and on chains.
-rules-good : (c : tie.Else2) → let args = entry (counted (c .before)) .args in AllIn (args .counts .steps) (args .counts .rules) (args .xs .now) (args .ys .now) (args .cs .now)
+rules-good : (c : tie.Else2) → let args = entry (counted (c .before)) .args in HeldIn (args .counts .steps) (args .counts .rules) (args .counts .marks) (args .xs .now) (args .ys .now) (args .cs .now) (args .levels .now)
 rules-good c =
     let rules-in = c .before .before .before .before .before .rules-in in
     rules-in .ensures .decides .so (not-false (rules-in .result) (c .if2 .left))
 
 rules-chained :
     (c : tie.Else2) → let args = entry (counted (c .before)) .args in
-    Chained (args .counts .steps) (args .counts .rules) (args .xs .now) (heads-there (c .before)) (nexts-there (c .before))
+    LentChains (args .counts .steps) (held-by (args .levels .now)) (args .xs .now) (heads-there (c .before)) (nexts-there (c .before))
 rules-chained c =
     let rules-in = c .before .before .before .before .before .rules-in in
     rules-in .ensures .chained (not-false (rules-in .result) (c .if2 .left))
@@ -75,9 +70,12 @@ cast-n c = search needs
 cast-m : tie.Need-cast-m
 cast-m c = search needs
 
+cast-rules-in : tie.Need-cast-rules-in
+cast-rules-in c = search needs
+
 rules-in-requires : tie.Need-rules-in-requires
 rules-in-requires c κs =
-    let past = c .before .before .before .before in
+    let past = c .before .before .before .before .before in
     let start = entry past in
     chains-room (lent start) (counts-good past) (start .args .heads .now) (start .args .nexts .now) (start .pre)
 
@@ -92,7 +90,8 @@ returns-2 c =
     let past = c .before in
     let rules-in = c .before .before .before .before .before .rules-in in
     tested-no (lent (entry (counted past))) (heads-there past) (nexts-there past)
-    (λ sound. rules-in .ensures .decides .not-so (not-true (rules-in .result) (c .if2 .taken)) (sound .rules-good))
+    (λ sound. rules-in .ensures .decides .not-so (not-true (rules-in .result) (c .if2 .taken))
+    (record { rules-good = sound .rules-good; levels-open = sound .levels-open; rules-counted = sound .rules-counted }))
 
 cast-all-in : tie.Need-cast-all-in
 cast-all-in c = search needs
@@ -114,59 +113,28 @@ returns-3 c =
     tested-no (lent (entry (counted past))) (heads-there past) (nexts-there past)
     (λ sound. c .before .all-in .ensures .not-so (not-true (c .before .all-in .result) (c .if3 .taken)) (sound .watched-good))
 
-cast-marks-in : tie.Need-cast-marks-in
-cast-marks-in c = search needs
-
-marks-in-requires : tie.Need-marks-in-requires
-marks-in-requires c κs =
-    let at-slice-known4 = c .before .before .before .before .before in
-    let past = counted at-slice-known4 in
-    omega (arith, counts-good past .marks-in, entry past .pre .room .marks-room)
-
-same-length-5 : tie.Need-same-length-5
-same-length-5 c =
-    let at-slice-known4 = else2-before-marks-in (c .before) .before in
-    heads-same at-slice-known4
-
-same-length-6 : tie.Need-same-length-6
-same-length-6 c =
-    let at-slice-known4 = else2-before-marks-in (c .before) .before in
-    nexts-same at-slice-known4
-
-returns-4 : tie.Need-returns-4
-returns-4 c =
-    let past = else2-before-marks-in (c .before) .before in
-    tested-no (lent (entry (counted past))) (heads-there past) (nexts-there past)
-    (λ sound. c .before .marks-in .ensures .not-so (not-true (c .before .marks-in .result) (c .if4 .taken)) (record { never-fall = sound .marks-never-fall; held = sound .marks-held }))
-
 days-in-requires : tie.Need-days-in-requires
 days-in-requires c κs =
-    let rules = else2-before-marks-in (c .before .before .before) in
+    let rules = c .before .before .before .before .before in
     let past = rules .before in
     let start = entry (counted past) in
     ready (lent start) (counts-good (counted past)) (rules-good rules) (heads-there past) (nexts-there past) (rules-chained rules)
     (testable-on (lent start) (start .args .heads .now) (start .args .nexts .now) (heads-there past) (nexts-there past) (heads-same past) (nexts-same past) (start .pre))
 
-same-length-7 : tie.Need-same-length-7
-same-length-7 c =
-    let at-slice-known4 = else2-before-marks-in (c .before .before .before .before) .before in
-    heads-same at-slice-known4
+same-length-5 : tie.Need-same-length-5
+same-length-5 c = heads-same (c .before .before .before .before .before .before .before)
 
-same-length-8 : tie.Need-same-length-8
-same-length-8 c =
-    let at-slice-known4 = else2-before-marks-in (c .before .before .before .before) .before in
-    nexts-same at-slice-known4
+same-length-6 : tie.Need-same-length-6
+same-length-6 c = nexts-same (c .before .before .before .before .before .before .before)
 
-returns-5 : tie.Need-returns-5
-returns-5 c =
-    let at-marks-in = c .before .before .before .before in
-    let else3 = at-marks-in .before .before in
+returns-4 : tie.Need-returns-4
+returns-4 c =
+    let else3 = c .before .before .before in
     let all-in = else3 .before .all-in in
-    let rules = else2-before-marks-in at-marks-in in
+    let rules = else3 .before .before .before in
     let past = rules .before in
     tested-by-days (lent (entry (counted past))) (counts-good (counted past)) (rules-good rules) (heads-there past) (nexts-there past) (rules-chained rules)
-    (all-in .ensures .so (not-false (all-in .result) (else3 .if3 .left)))
-    (at-marks-in .marks-in .ensures .so (not-false (at-marks-in .marks-in .result) (c .before .before .before .if4 .left))) (c .days-in .result) (c .days-in .ensures)
+    (all-in .ensures .so (not-false (all-in .result) (else3 .if3 .left))) (c .days-in .result) (c .days-in .ensures)
 
 pub is-sound-spec : {M : Type 1} → statement M
 is-sound-spec =
@@ -176,6 +144,7 @@ is-sound-spec =
     returns
     cast-n
     cast-m
+    cast-rules-in
     rules-in-requires
     same-length
     same-length-2
@@ -185,12 +154,7 @@ is-sound-spec =
     same-length-3
     same-length-4
     returns-3
-    cast-marks-in
-    marks-in-requires
+    days-in-requires
     same-length-5
     same-length-6
-    returns-4
-    days-in-requires
-    same-length-7
-    same-length-8
-    returns-5)
+    returns-4)

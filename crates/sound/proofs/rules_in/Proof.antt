@@ -1,117 +1,141 @@
--- `sound::rules_in` meets its contract. The loop's invariant: every rule passed is within bounds and on its chain. The measure is what is left of the rules.
+-- `sound::rules_in` meets its contract. The loop's invariant is `Passed`: the rules of the places passed are good and on their chains. The measure is what is left of the places. Behind
+-- the last rule every place is free, and off.
 use Prim.Native.Nat.{_≤_, _-_}
-use native.Mathlib.Omega.{arith}
-use mathlib.Core.Bool.{false≢true}
 use mathlib.Core.Path.{_≡_, refl, _∙_}
 use lib.ListN.{length}
-use borrow.Author.Count.{below-none, below-more}
 use borrow.Author.Tests.{not-true, not-false}
-use borrow.Author.Needs.{needs}
-use Rattle.meaning.specs.Rules.{InBounds}
-use Rattle.meaning.specs.Tables.{rule-at}
-use Rattle.lent.specs.Lent.{columns}
-use Rattle.lent.specs.Decides.{decides-yes, decides-no}
-use Rattle.chains.specs.Chains.{Chained}
-use Rattle.chains.proofs.Laws.{chained-none, chained-more}
-use Rattle.sound.specs.Parts.{AllIn}
+use Rattle.meaning.specs.Bounds.{RULES}
+use Rattle.sound.specs.Parts.{ChainsRoom}
+use Rattle.sound.proofs.Settling.{Passed, passed-none, passed-more, settled-bad, too-few, too-many, rules-tested, rules-refused}
+use native.Mathlib.Omega.{arith}
 use Rattle.sound.proofs.rules_in.Statement.{statement}
 use Rattle.sound.proofs.rules_in.Tie as tie
 
 abbrev Inv-loop : tie.InvT-loop
-Inv-loop n m xs ys cs heads₀ nexts₀ i₀ heads nexts i =
-    (length heads ≡ length heads₀) × (length nexts ≡ length nexts₀) × (i ≤ m) × AllIn n i xs ys cs × Chained n i xs heads nexts
+Inv-loop n m marks xs ys cs levels heads₀ nexts₀ i₀ seen₀ heads nexts i seen =
+    (length heads ≡ length heads₀) × (length nexts ≡ length nexts₀) × (i ≤ RULES) × (seen ≤ m) × Passed n marks xs ys cs levels i seen heads nexts
 
 abbrev μ-loop : tie.MeasureT-loop
-μ-loop n m xs ys cs heads₀ nexts₀ i₀ heads nexts i = m - i
+μ-loop n m marks xs ys cs levels heads₀ nexts₀ i₀ seen₀ heads nexts i seen = RULES - i
 
 -- The entry of the function, seen from the loop's head.
 abbrev entry : tie.At-loop Inv-loop μ-loop → tie.Start Inv-loop μ-loop
-entry c = c .before .before .before .before .before .before .before .before .before
+entry c = c .before .before .before .before .before .before .before .before .before .before
+
+-- The lists for the chains are as long as they were.
+heads-same : (c : tie.At-loop Inv-loop μ-loop) → length (c .loop .heads) ≡ length (entry c .args .heads .now)
+heads-same c = c .loop .inv .0 ∙ c .before .before .before .clear .kept .1 .0
+
+-- There is room for the chains.
+room : (c : tie.At-loop Inv-loop μ-loop) → let args = entry c .args in ChainsRoom (args .n) (args .marks) (args .xs .now) (args .ys .now) (args .cs .now) (args .levels .now) (c .loop .heads) (c .loop .nexts)
+room c =
+    let pre = entry c .pre in
+    record {
+      columns-room = pre .columns-room;
+      levels-room = pre .levels-room;
+      heads-room = omega (arith, heads-same c, pre .heads-room);
+      nexts-room = omega (arith, c .loop .inv .1, pre .nexts-room);
+      marks-in = pre .marks-in;
+    }
 
 clear-requires : tie.Need-clear-requires Inv-loop μ-loop
-clear-requires c κs = search needs
+clear-requires c κs = c .before .before .before .before .before .before .pre .heads-room
 
 loop-holds : tie.Need-loop-holds Inv-loop μ-loop
 loop-holds c =
-    let cleared = c .before .before .clear in
-    let start = c .before .before .before .before .before .before .before .before in
-    (refl, refl, omega arith, below-none _, chained-none (start .args .n) (start .args .xs .now) (cleared .last .1 .0) (start .args .nexts .now) (cleared .ensures))
-
-rule-in-requires : tie.Need-rule-in-requires Inv-loop μ-loop
-rule-in-requires c κs =
-    let head = c .before in
-    record {
-      first-place = omega (arith, c .loop-test .taken, entry head .pre .columns-room .firsts-room);
-      second-place = omega (arith, c .loop-test .taken, entry head .pre .columns-room .seconds-room);
-      amount-place = omega (arith, c .loop-test .taken, entry head .pre .columns-room .amounts-room);
-    }
+    let args = c .before .before .before .before .before .before .before .before .before .args in
+    (refl, refl, omega arith, omega arith, passed-none (args .n) (args .marks) (args .xs .now) (args .ys .now) (args .cs .now) (args .levels .now) (c .before .before .clear .last .1 .0) (args .nexts .now) (c .before .before .clear .ensures))
 
 same-length : tie.Need-same-length Inv-loop μ-loop
-same-length c =
-    let clear = c .before .before .before .before .before .before .clear in
-    c .before .before .before .loop .inv .0 ∙ clear .kept .1 .0
+same-length c = heads-same (c .before .before)
 
 same-length-2 : tie.Need-same-length-2 Inv-loop μ-loop
-same-length-2 c = c .before .before .before .loop .inv .1
+same-length-2 c = c .before .before .loop .inv .1
 
 returns : tie.Need-returns Inv-loop μ-loop
-returns c = record {
-  decides = decides-no refl (λ h. c .before .rule-in .ensures .not-so (not-true (c .before .rule-in .result) (c .if1 .taken)) (h (c .before .before .before .loop .i) (c .before .before .loop-test .taken)));
-  chained = λ e. absurd (false≢true e);
-}
+returns c =
+    let head = c .before .before in
+    let args = entry head .args in
+    let loop = head .loop in
+    rules-refused (args .n) (args .marks) (args .xs .now) (args .ys .now) (args .cs .now) (args .levels .now) (args .m) (loop .heads) (loop .nexts)
+    (too-few (args .n) (args .marks) (args .xs .now) (args .ys .now) (args .cs .now) (args .levels .now) (args .m) (loop .i) (loop .seen) (loop .heads) (loop .nexts) (loop .inv .4)
+    (omega (arith, loop .inv .2, c .if1 .taken)) (c .before .loop-test .taken))
 
--- The rule that has passed its test is within bounds.
-rule-good :
-    (c : tie.Else1 Inv-loop μ-loop) → let head = c .before .before .before in let args = entry head .args in
-    InBounds (args .n) (rule-at (columns (args .xs .now) (args .ys .now) (args .cs .now)) (head .loop .i))
-rule-good c = c .before .rule-in .ensures .so (not-false (c .before .rule-in .result) (c .if1 .left))
-
-push-requires : tie.Need-push-requires Inv-loop μ-loop
-push-requires c κs =
-    let turn = c .before .before .before .before in
-    let head = turn .before in
-    record {
-      first-place = omega (arith, turn .loop-test .taken, entry head .pre .columns-room .firsts-room);
-      next-place = omega (arith, turn .loop-test .taken, head .loop .inv .1, entry head .pre .nexts-room);
-      head-place = omega (arith, rule-good (c .before .before) .steps-in .first-in, head .loop .inv .0, head .before .before .before .clear .kept .1 .0, entry head .pre .heads-room);
-      link-fits = omega (arith, turn .loop-test .taken, entry head .pre .links-fit);
-    }
-
-add-i : tie.Need-add-i Inv-loop μ-loop
-add-i c = search needs
-
-loop-less : tie.Need-loop-less Inv-loop μ-loop
-loop-less c = search needs
-
-loop-again : tie.Need-loop-again Inv-loop μ-loop
-loop-again c =
-    let else1 = c .before .before .before .before .before .before .before in
-    let turn = else1 .before .before in
-    let head = turn .before in
-    let in-bounds = rule-good else1 in
-    let pushed = c .before .before .before .before .push in (
-      pushed .kept .1 .0 ∙ head .loop .inv .0,
-      pushed .kept .1 .1 .0 ∙ head .loop .inv .1,
-      omega (arith, turn .loop-test .taken),
-      below-more _ (head .loop .i) (head .loop .inv .3) in-bounds,
-      chained-more (entry head .args .n) (head .loop .i) (entry head .args .xs .now) (in-bounds .steps-in .first-in) (head .loop .heads) (head .loop .nexts) _ _ (pushed .ensures) (head .loop .inv .4),
-    )
+settle-requires : tie.Need-settle-requires Inv-loop μ-loop
+settle-requires c κs = (room (c .before .before .before .before), omega (arith, c .before .before .if1 .left))
 
 same-length-3 : tie.Need-same-length-3 Inv-loop μ-loop
-same-length-3 c = c .before .loop .inv .0 ∙ c .before .before .before .before .clear .kept .1 .0
+same-length-3 c = c .before .before .before .before .before .settle .kept .1 .1 .1 .1 .1 .1 .0 ∙ heads-same (c .before .before .before .before .before .before .before .before .before .before)
 
 same-length-4 : tie.Need-same-length-4 Inv-loop μ-loop
-same-length-4 c = c .before .loop .inv .1
+same-length-4 c = c .before .before .before .before .before .settle .kept .1 .1 .1 .1 .1 .1 .1 .0 ∙ c .before .before .before .before .before .before .before .before .before .before .loop .inv .1
 
 returns-2 : tie.Need-returns-2 Inv-loop μ-loop
 returns-2 c =
-    let head = c .before in
+    let head = c .before .before .before .before .before .before .before .before .before .before in
     let args = entry head .args in
-    let all : head .loop .i ≡ args .m = omega (arith, head .loop .inv .2, c .loop-test .left) in
-    record {
-      decides = decides-yes refl (rw all at (head .loop .inv .3));
-      chained = λ e. rw all at (head .loop .inv .4);
-    }
+    let loop = head .loop in
+    rules-refused (args .n) (args .marks) (args .xs .now) (args .ys .now) (args .cs .now) (args .levels .now) (args .m) _ _
+    (settled-bad (args .n) (args .marks) (args .xs .now) (args .ys .now) (args .cs .now) (args .levels .now) (args .m) (loop .i) (c .before .before .before .before .before .settle .result) (loop .heads) (loop .nexts) _ _
+    (omega (arith, c .before .before .before .before .before .before .before .before .if1 .left)) (c .if2 .taken) (c .before .before .before .before .before .settle .ensures))
+
+add-seen : tie.Need-add-seen Inv-loop μ-loop
+add-seen c = omega (arith, c .before .before .before .before .before .before .before .before .before .loop-test .taken, c .if2 .left, c .before .before .before .before .before .before .before .before .before .before .before .before .before .before .before .before .before .before .before .before .fits .m)
+
+add-i : tie.Need-add-i Inv-loop μ-loop
+add-i c = omega (arith, c .before .before .before .before .before .before .before .before .if1 .left)
+
+loop-less : tie.Need-loop-less Inv-loop μ-loop
+loop-less c = omega (arith, c .before .before .before .before .before .before .before .before .if1 .left)
+
+loop-again : tie.Need-loop-again Inv-loop μ-loop
+loop-again c =
+    let head = c .before .before .before .before .before .before .before .before .before .before in
+    let args = entry head .args in
+    let loop = head .loop in (
+      c .before .before .before .before .before .settle .kept .1 .1 .1 .1 .1 .1 .0 ∙ loop .inv .0,
+      c .before .before .before .before .before .settle .kept .1 .1 .1 .1 .1 .1 .1 .0 ∙ loop .inv .1,
+      omega (arith, c .before .before .before .before .before .before .before .before .if1 .left),
+      omega (arith, c .before .before .before .before .before .before .before .before .before .loop-test .taken, c .if2 .left),
+      passed-more (args .n) (args .marks) (args .xs .now) (args .ys .now) (args .cs .now) (args .levels .now) (loop .i) (loop .seen) (loop .heads) (loop .nexts) _ _
+          (omega (arith, c .before .before .before .before .before .before .before .before .if1 .left, room head .nexts-room)) (loop .inv .4) (c .before .before .before .before .before .settle .result) (c .if2 .left) (c .before .before .before .before .before .settle .ensures),
+    )
+
+free-from-requires : tie.Need-free-from-requires Inv-loop μ-loop
+free-from-requires c κs = c .before .before .before .before .before .before .before .before .before .before .before .pre .levels-room
+
+same-length-5 : tie.Need-same-length-5 Inv-loop μ-loop
+same-length-5 c = heads-same (c .before .before .before)
+
+same-length-6 : tie.Need-same-length-6 Inv-loop μ-loop
+same-length-6 c = c .before .before .before .loop .inv .1
+
+returns-3 : tie.Need-returns-3 Inv-loop μ-loop
+returns-3 c =
+    let head = c .before .before .before in
+    let args = entry head .args in
+    let loop = head .loop in
+    rules-refused (args .n) (args .marks) (args .xs .now) (args .ys .now) (args .cs .now) (args .levels .now) (args .m) (loop .heads) (loop .nexts)
+    (too-many (args .n) (args .marks) (args .xs .now) (args .ys .now) (args .cs .now) (args .levels .now) (args .m) (loop .i) (loop .seen) (loop .heads) (loop .nexts) (loop .inv .4)
+    (omega (arith, loop .inv .3, c .before .before .loop-test .left)) (c .before .free-from .ensures .not-so (not-true (c .before .free-from .result) (c .if3 .taken))))
+
+off-from-requires : tie.Need-off-from-requires Inv-loop μ-loop
+off-from-requires c κs = tt
+
+same-length-7 : tie.Need-same-length-7 Inv-loop μ-loop
+same-length-7 c = heads-same (c .before .before .before .before .before .before .before)
+
+same-length-8 : tie.Need-same-length-8 Inv-loop μ-loop
+same-length-8 c = c .before .before .off-from .kept .1 .0 ∙ c .before .before .before .before .before .before .before .loop .inv .1
+
+returns-4 : tie.Need-returns-4 Inv-loop μ-loop
+returns-4 c =
+    let head = c .before .before .before .before .before .before .before in
+    let args = entry head .args in
+    let loop = head .loop in
+    rules-tested (args .n) (args .marks) (args .xs .now) (args .ys .now) (args .cs .now) (args .levels .now) (args .m) (loop .i) (loop .seen) (loop .heads) (loop .nexts) (loop .inv .4)
+    (loop .inv .2) (omega (arith, loop .inv .3, c .before .before .before .before .before .before .loop-test .left)) (c .before .before .before .before .before .free-from .ensures .so (not-false (c .before .before .before .before .before .free-from .result) (c .before .before .before .before .if3 .left))) _
+    (room head .heads-room) (room head .nexts-room) (c .before .before .off-from .kept .1 .0) (c .before .before .off-from .ensures)
 
 pub rules-in-spec : {M : Type 1} → statement M
 rules-in-spec =
@@ -121,14 +145,22 @@ rules-in-spec =
     μ-loop
     clear-requires
     loop-holds
-    rule-in-requires
     same-length
     same-length-2
     returns
-    push-requires
+    settle-requires
+    same-length-3
+    same-length-4
+    returns-2
+    add-seen
     add-i
     loop-less
     loop-again
-    same-length-3
-    same-length-4
-    returns-2)
+    free-from-requires
+    same-length-5
+    same-length-6
+    returns-3
+    off-from-requires
+    same-length-7
+    same-length-8
+    returns-4)

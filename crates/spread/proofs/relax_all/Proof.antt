@@ -1,7 +1,6 @@
 -- `spread::relax_all` meets its contract. The loop's invariant: the rules of x from the link on have been relaxed. The measure is the link.
-use Rattle.lent.specs.Lent.{first}
-use Rattle.chains.specs.Chains.{number}
-use Rattle.chains.proofs.Laws.{next-in}
+use Rattle.chains.specs.Chains.{number, linked}
+use Rattle.chains.proofs.Laws.{next-lower}
 use Prim.Native.Nat.{suc, _-_, _<_}
 use mathlib.Core.Path.{_≡_, refl, _∙_}
 use lib.ListN.{length}
@@ -16,12 +15,12 @@ use Rattle.spread.proofs.relax_all.Statement.{statement}
 use Rattle.spread.proofs.relax_all.Tie as tie
 
 abbrev Inv-loop : tie.InvT-loop
-Inv-loop n m xs ys cs days heads nexts x gains₀ by₀ list₀ places₀ leaders₀ k reach count₀ link₀ gains by list places leaders count link =
-    ((length gains ≡ length gains₀) × (length by ≡ length by₀) × (length list ≡ length list₀) × (length places ≡ length places₀) × (length leaders ≡ length leaders₀)) × Link (first m) xs x link
-    × Walked n (first m) number xs ys cs days x link reach gains₀ by₀ list₀ k gains by list count × Led n (at gains) (at list) (at places) (at leaders) count
+Inv-loop n xs ys cs days heads nexts x gains₀ by₀ list₀ places₀ leaders₀ k reach count₀ link₀ gains by list places leaders count link =
+    ((length gains ≡ length gains₀) × (length by ≡ length by₀) × (length list ≡ length list₀) × (length places ≡ length places₀) × (length leaders ≡ length leaders₀)) × Link (linked nexts) xs x link
+    × Walked n (linked nexts) number xs ys cs days x link reach gains₀ by₀ list₀ k gains by list count × Led n (at gains) (at list) (at places) (at leaders) count
 
 abbrev μ-loop : tie.MeasureT-loop
-μ-loop n m xs ys cs days heads nexts x gains₀ by₀ list₀ places₀ leaders₀ k reach count₀ link₀ gains by list places leaders count link =
+μ-loop n xs ys cs days heads nexts x gains₀ by₀ list₀ places₀ leaders₀ k reach count₀ link₀ gains by list places leaders count link =
     link
 
 -- Places of the code, seen from later ones.
@@ -86,9 +85,9 @@ loop-holds c =
     let ground = start .pre .0 in
     let head = c .number-at .ensures in (
       (refl, refl, refl, refl, refl),
-      rw head (link-head (a .n) (first (a .m)) number (a .xs .now) (a .heads .now) (a .nexts .now) (ground .chained) (a .x) (start .pre .1 .1 .1 .1)),
+      rw head (link-head (a .n) (linked (a .nexts .now)) number (a .xs .now) (a .heads .now) (a .nexts .now) (ground .chained) (a .x) (start .pre .1 .1 .1 .1)),
       rw head
-          (walked-none (a .n) (first (a .m)) number (a .xs .now) (a .ys .now) (a .cs .now) (a .days .now) (a .heads .now) (a .nexts .now) (a .x) _ (a .gains .now) (a .by .now) (a .list .now) (a .k) ground (start .pre .1 .1 .1 .1)
+          (walked-none (a .n) (linked (a .nexts .now)) number (a .xs .now) (a .ys .now) (a .cs .now) (a .days .now) (a .heads .now) (a .nexts .now) (a .x) _ (a .gains .now) (a .by .now) (a .list .now) (a .k) ground (start .pre .1 .1 .1 .1)
           (omega (arith, c .before .before .before .day-at .ensures, c .before .gain-at .ensures))
           (start .pre .1 .1 .0)),
       start .pre .1 .1 .1 .0,
@@ -112,7 +111,7 @@ relax-requires c κs =
     let l = in-loop .before .loop in
     let start = start-before-in-loop in-loop in
     let a = start .args in (
-      relaxable (a .n) (first (a .m)) number (a .xs .now) (a .ys .now) (a .cs .now) (a .days .now) (a .heads .now) (a .nexts .now) (l .gains) (l .by) (l .list) (l .places) (l .leaders) (l .count) (l .link - 1)
+      relaxable (a .n) (linked (a .nexts .now)) number (a .xs .now) (a .ys .now) (a .cs .now) (a .days .now) (a .heads .now) (a .nexts .now) (l .gains) (l .by) (l .list) (l .places) (l .leaders) (l .count) (l .link - 1)
           (start .pre .0)
           (l .inv .1 .held (l .link - 1) (omega (arith, in-loop .loop-test .taken)))
           (room c)
@@ -136,7 +135,7 @@ loop-less c =
       arith,
       in-loop .loop-test .taken,
       c .number-at2 .ensures,
-      next-in (start .args .n) (start .args .m) (start .args .xs .now) (start .args .heads .now) (start .args .nexts .now) (start .pre .0 .chained) (loop .link - 1)
+      next-lower (start .args .n) (linked (start .args .nexts .now)) (start .args .xs .now) (start .args .heads .now) (start .args .nexts .now) (start .pre .0 .chained) (loop .link - 1)
           (loop .inv .1 .held (loop .link - 1) (omega (arith, in-loop .loop-test .taken))),
     )
 
@@ -150,7 +149,7 @@ loop-again c =
     let ground = start .pre .0 in
     let i = l .link - 1 in
     let counted : l .link ≡ suc i = omega (arith, in-loop .loop-test .taken) in
-    let held : i < a .m = l .inv .1 .held i counted in
+    let held : linked (a .nexts .now) i = l .inv .1 .held i counted in
     let own : at (a .xs .now) i ≡ a .x = l .inv .1 .own i counted in (
       (
         at-relax .relax .kept .1 .1 .1 .1 .1 .1 .0 ∙ l .inv .0 .0,
@@ -159,9 +158,9 @@ loop-again c =
         at-relax .relax .kept .1 .1 .1 .1 .1 .1 .1 .1 .1 .0 ∙ l .inv .0 .3,
         at-relax .relax .kept .1 .1 .1 .1 .1 .1 .1 .1 .1 .1 .0 ∙ l .inv .0 .4,
       ),
-      rw (c .number-at2 .ensures) (link-next (a .n) (first (a .m)) number (a .xs .now) (a .heads .now) (a .nexts .now) (ground .chained) (a .x) i held own),
+      rw (c .number-at2 .ensures) (link-next (a .n) (linked (a .nexts .now)) number (a .xs .now) (a .heads .now) (a .nexts .now) (ground .chained) (a .x) i held own),
       rw (c .number-at2 .ensures)
-          (walked-more (a .n) (first (a .m)) number (a .xs .now) (a .ys .now) (a .cs .now) (a .days .now) (a .heads .now) (a .nexts .now) ground i held _
+          (walked-more (a .n) (linked (a .nexts .now)) number (a .xs .now) (a .ys .now) (a .cs .now) (a .days .now) (a .heads .now) (a .nexts .now) ground i held _
           (a .gains .now) (a .by .now) (a .list .now) (a .k) (l .gains) (l .by) (l .list) (l .count) _ _ _ _ (a .x) own (at-relax .relax .ensures .0)
           (rw counted at (l .inv .2))),
       at-relax .relax .ensures .1,
@@ -187,7 +186,7 @@ returns c =
     let a = c .before .before .before .before .before .before .before .before .before .before .before .before .before .before .before .before .args in
     let done : c .before .loop .link ≡ 0 = omega (arith, c .loop-test .left) in
     let l = c .before .loop in
-    (walked-all (a .n) (first (a .m)) number (a .xs .now) (a .ys .now) (a .cs .now) (a .days .now) (a .x) _ (a .gains .now) (a .by .now) (a .list .now) (a .k) (l .gains) (l .by) (l .list) (l .count) (rw done at (l .inv .2)), l .inv .3)
+    (walked-all (a .n) (linked (a .nexts .now)) number (a .xs .now) (a .ys .now) (a .cs .now) (a .days .now) (a .x) _ (a .gains .now) (a .by .now) (a .list .now) (a .k) (l .gains) (l .by) (l .list) (l .count) (rw done at (l .inv .2)), l .inv .3)
 
 pub relax-all-spec : {M : Type 1} → statement M
 relax-all-spec =

@@ -1,7 +1,6 @@
 -- `spread::settle_all` meets its contract. The loop's invariant: a turn can be made, and the state is one between two turns. The measure is how
 -- many steps are without gain or in the list, which each turn brings down.
-use Rattle.lent.specs.Lent.{first}
-use Rattle.chains.specs.Chains.{number}
+use Rattle.chains.specs.Chains.{number, linked}
 use Prim.Native.Nat.{ℕ, _+_, _≤_}
 use mathlib.Core.Path.{_≡_, refl, _∙_}
 use lib.ListN.{length}
@@ -16,14 +15,14 @@ use Rattle.spread.proofs.settle_all.Statement.{statement}
 use Rattle.spread.proofs.settle_all.Tie as tie
 
 abbrev Inv-loop : tie.InvT-loop
-Inv-loop n m xs ys cs days heads nexts goal gains₀ by₀ list₀ places₀ leaders₀ k left₀ gains by list places leaders left =
+Inv-loop n xs ys cs days heads nexts goal gains₀ by₀ list₀ places₀ leaders₀ k left₀ gains by list places leaders left =
     ((length gains ≡ length gains₀) × (length by ≡ length by₀) × (length list ≡ length list₀) × (length places ≡ length places₀) × (length leaders ≡ length leaders₀))
     × Ready n (at gains) (at list) left × Led n (at gains) (at list) (at places) (at leaders) left × ((v : ℕ) → n ≤ v → at gains v ≡ at gains₀ v)
-    × ((low : ℕ → ℕ) → BetweenTurns n (rules xs ys cs) (first m) (at days) low (at gains₀) (at by₀) (at list₀) k →
-    BetweenTurns n (rules xs ys cs) (first m) (at days) low (at gains) (at by) (at list) left)
+    × ((low : ℕ → ℕ) → BetweenTurns n (rules xs ys cs) (linked nexts) (at days) low (at gains₀) (at by₀) (at list₀) k →
+    BetweenTurns n (rules xs ys cs) (linked nexts) (at days) low (at gains) (at by) (at list) left)
 
 abbrev μ-loop : tie.MeasureT-loop
-μ-loop n m xs ys cs days heads nexts goal gains₀ by₀ list₀ places₀ leaders₀ k left₀ gains by list places leaders left = without-gain n (at gains) + left
+μ-loop n xs ys cs days heads nexts goal gains₀ by₀ list₀ places₀ leaders₀ k left₀ gains by list places leaders left = without-gain n (at gains) + left
 
 -- Places of the code, seen from later ones.
 abbrev start-before-slice-known5 : tie.After-slice-known5 Inv-loop μ-loop → tie.Start Inv-loop μ-loop
@@ -62,7 +61,7 @@ returns c =
     let a = start .args in
     let l = c .before .before .before .before .loop in
     let met = c .before .reached .ensures .so (c .if1 .taken) in
-    stopped (a .n) (first (a .m)) number (a .xs .now) (a .ys .now) (a .cs .now) (a .days .now) (a .heads .now) (a .nexts .now) (a .goal) low (a .gains .now) (l .gains) (l .by) (l .list)
+    stopped (a .n) (linked (a .nexts .now)) number (a .xs .now) (a .ys .now) (a .cs .now) (a .days .now) (a .heads .now) (a .nexts .now) (a .goal) low (a .gains .now) (l .gains) (l .by) (l .list)
     (l .left) (start .pre .0) (l .inv .4 low b) (λ short. absurd (omega (arith, met .1, short (met .0)))) (l .inv .3)
 
 turn-requires : tie.Need-turn-requires Inv-loop μ-loop
@@ -89,11 +88,11 @@ loop-again c =
     let at-turn = c .before .before .before .before .before .before .before .before .before .before in
     let l = at-turn .before .before .before .before .before .before .before .before .before .before .loop in (
       (
-        at-turn .turn .kept .1 .1 .1 .1 .1 .1 .1 .1 .0 ∙ l .inv .0 .0,
-        at-turn .turn .kept .1 .1 .1 .1 .1 .1 .1 .1 .1 .0 ∙ l .inv .0 .1,
-        at-turn .turn .kept .1 .1 .1 .1 .1 .1 .1 .1 .1 .1 .0 ∙ l .inv .0 .2,
-        at-turn .turn .kept .1 .1 .1 .1 .1 .1 .1 .1 .1 .1 .1 .0 ∙ l .inv .0 .3,
-        at-turn .turn .kept .1 .1 .1 .1 .1 .1 .1 .1 .1 .1 .1 .1 .0 ∙ l .inv .0 .4,
+        at-turn .turn .kept .1 .1 .1 .1 .1 .1 .1 .0 ∙ l .inv .0 .0,
+        at-turn .turn .kept .1 .1 .1 .1 .1 .1 .1 .1 .0 ∙ l .inv .0 .1,
+        at-turn .turn .kept .1 .1 .1 .1 .1 .1 .1 .1 .1 .0 ∙ l .inv .0 .2,
+        at-turn .turn .kept .1 .1 .1 .1 .1 .1 .1 .1 .1 .1 .0 ∙ l .inv .0 .3,
+        at-turn .turn .kept .1 .1 .1 .1 .1 .1 .1 .1 .1 .1 .1 .0 ∙ l .inv .0 .4,
       ),
       at-turn .turn .ensures .0 .ready,
       at-turn .turn .ensures .1,
@@ -122,7 +121,7 @@ returns-2 c =
     λ low b.
     let a = start .args in
     let l = c .before .loop in
-    stopped (a .n) (first (a .m)) number (a .xs .now) (a .ys .now) (a .cs .now) (a .days .now) (a .heads .now) (a .nexts .now) (a .goal) low (a .gains .now) (l .gains) (l .by) (l .list)
+    stopped (a .n) (linked (a .nexts .now)) number (a .xs .now) (a .ys .now) (a .cs .now) (a .days .now) (a .heads .now) (a .nexts .now) (a .goal) low (a .gains .now) (l .gains) (l .by) (l .list)
     (l .left) (start .pre .0) (l .inv .4 low b) (λ short. omega (arith, c .loop-test .left)) (l .inv .3)
 
 pub settle-all-spec : {M : Type 1} → statement M

@@ -1,5 +1,5 @@
 -- `spread::spread` meets its contract: the steps with a gain are collected, and then all turns made.
-use Rattle.lent.specs.Lent.{first}
+use Rattle.chains.specs.Chains.{linked}
 use Prim.Native.Nat.{_+_}
 use mathlib.Core.Path.{refl}
 use Rattle.meaning.specs.Tables.{at}
@@ -72,7 +72,7 @@ returns c =
     let at-collect = at-settle-all .before .before .before .before .before .before .before .before .before .before .before in
     let a = start-before-collect at-collect .args in
     at-settle-all .settle-all .ensures (λ v. at (a .days .now) v + at (a .gains .now) v)
-    (no-turn-yet (a .n) (rules (a .xs .now) (a .ys .now) (a .cs .now)) (first (a .m)) (at (a .days .now)) (λ v. at (a .days .now) v + at (a .gains .now) v)
+    (no-turn-yet (a .n) (rules (a .xs .now) (a .ys .now) (a .cs .now)) (linked (a .nexts .now)) (at (a .days .now)) (λ v. at (a .days .now) v + at (a .gains .now) v)
     (at (a .gains .now)) (at (at-collect .collect .last .1 .1 .0)) (at (at-collect .collect .last .1 .1 .1 .0)) (at-collect .collect .result) (λ v v-in. refl) (at-collect .collect .ensures .0))
 
 pub spread-spec : {M : Type 1} → statement M

@@ -1,5 +1,5 @@
 -- `spread::spread_in` meets its contract: one step is given its gain, and then all turns made.
-use Rattle.lent.specs.Lent.{first}
+use Rattle.chains.specs.Chains.{linked}
 use Prim.Native.Nat.{ℕ, _+_, _^_, _<_}
 use native.Mathlib.Decide.{ℕ-discrete}
 use mathlib.Core.Path.{_≡_, _∙_, ap}
@@ -70,31 +70,31 @@ same-length : tie.Need-same-length
 same-length c =
     let at-settle-all = settle-all-before-slice-known15 c in
     let begin = begin-before-settle-all-arg5 (at-settle-all .before) .begin in
-    at-settle-all .settle-all .kept .1 .1 .1 .1 .1 .1 .1 .1 .1 .0 ∙ begin .kept .1 .1 .1 .0
+    at-settle-all .settle-all .kept .1 .1 .1 .1 .1 .1 .1 .1 .0 ∙ begin .kept .1 .1 .1 .0
 
 same-length-2 : tie.Need-same-length-2
 same-length-2 c =
     let at-settle-all = settle-all-before-slice-known15 c in
     let begin = begin-before-settle-all-arg5 (at-settle-all .before) .begin in
-    at-settle-all .settle-all .kept .1 .1 .1 .1 .1 .1 .1 .1 .1 .1 .0 ∙ begin .kept .1 .1 .1 .1 .0
+    at-settle-all .settle-all .kept .1 .1 .1 .1 .1 .1 .1 .1 .1 .0 ∙ begin .kept .1 .1 .1 .1 .0
 
 same-length-3 : tie.Need-same-length-3
 same-length-3 c =
     let at-settle-all = settle-all-before-slice-known15 c in
     let begin = begin-before-settle-all-arg5 (at-settle-all .before) .begin in
-    at-settle-all .settle-all .kept .1 .1 .1 .1 .1 .1 .1 .1 .1 .1 .1 .0 ∙ begin .kept .1 .1 .1 .1 .1 .0
+    at-settle-all .settle-all .kept .1 .1 .1 .1 .1 .1 .1 .1 .1 .1 .0 ∙ begin .kept .1 .1 .1 .1 .1 .0
 
 same-length-4 : tie.Need-same-length-4
 same-length-4 c =
     let at-settle-all = settle-all-before-slice-known15 c in
     let begin = begin-before-settle-all-arg5 (at-settle-all .before) .begin in
-    at-settle-all .settle-all .kept .1 .1 .1 .1 .1 .1 .1 .1 .1 .1 .1 .1 .0 ∙ begin .kept .1 .1 .1 .1 .1 .1 .0
+    at-settle-all .settle-all .kept .1 .1 .1 .1 .1 .1 .1 .1 .1 .1 .1 .0 ∙ begin .kept .1 .1 .1 .1 .1 .1 .0
 
 same-length-5 : tie.Need-same-length-5
 same-length-5 c =
     let at-settle-all = settle-all-before-slice-known15 c in
     let begin = begin-before-settle-all-arg5 (at-settle-all .before) .begin in
-    at-settle-all .settle-all .kept .1 .1 .1 .1 .1 .1 .1 .1 .1 .1 .1 .1 .1 .0 ∙ begin .kept .1 .1 .1 .1 .1 .1 .1 .0
+    at-settle-all .settle-all .kept .1 .1 .1 .1 .1 .1 .1 .1 .1 .1 .1 .1 .0 ∙ begin .kept .1 .1 .1 .1 .1 .1 .1 .0
 
 returns : tie.Need-returns
 returns c =
@@ -106,10 +106,10 @@ returns c =
     let begin = at-begin .begin in
     let begun = begin .ensures .0 in
     let low : ℕ → ℕ = λ v. at (a .days .now) v + alone (a .y) (a .gain) v in
-    from-before (a .n) (first (a .m)) (a .xs .now) (a .ys .now) (a .cs .now) (a .days .now) (a .goal) low (a .gains .now) (begin .last .1 .1 .1 .0) _ _ (a .y) (a .gain) (asked .step-in)
+    from-before (a .n) (linked (a .nexts .now)) (a .xs .now) (a .ys .now) (a .cs .now) (a .days .now) (a .goal) low (a .gains .now) (begin .last .1 .1 .1 .0) _ _ (a .y) (a .gain) (asked .step-in)
     (begun .asked)
     (at-settle-all .settle-all .ensures low
-    (no-turn-yet (a .n) (rules (a .xs .now) (a .ys .now) (a .cs .now)) (first (a .m)) (at (a .days .now)) low (at (begin .last .1 .1 .1 .0))
+    (no-turn-yet (a .n) (rules (a .xs .now) (a .ys .now) (a .cs .now)) (linked (a .nexts .now)) (at (a .days .now)) low (at (begin .last .1 .1 .1 .0))
     (at (begin .last .1 .1 .1 .1 .0)) (at (begin .last .1 .1 .1 .1 .1 .0)) (begin .result)
     (λ v v-in. omega (arith, alone-is (a .n) (a .y) (a .gain) (at (a .gains .now)) (at (begin .last .1 .1 .1 .0)) (asked .none-yet) (begun .asked) v v-in))
     (begun .collected)))

@@ -40,12 +40,12 @@ spread-in-requires c κs =
 same-length : tie.Need-same-length
 same-length c =
     let spread-in = spread-in-before-leaders2 c .spread-in in
-    spread-in .kept .1 .1 .1 .1 .1 .1 .1 .1 .1 .1 .1 .0
+    spread-in .kept .1 .1 .1 .1 .1 .1 .1 .1 .1 .1 .0
 
 same-length-2 : tie.Need-same-length-2
 same-length-2 c =
     let spread-in = spread-in-before-leaders2 c .spread-in in
-    spread-in .kept .1 .1 .1 .1 .1 .1 .1 .1 .1 .1 .1 .1 .0
+    spread-in .kept .1 .1 .1 .1 .1 .1 .1 .1 .1 .1 .1 .0
 
 returns : tie.Need-returns
 returns c =
@@ -80,12 +80,12 @@ spread-in-requires-2 c κs =
 same-length-3 : tie.Need-same-length-3
 same-length-3 c =
     let spread-in2 = spread-in2-before-leaders4 c .spread-in2 in
-    spread-in2 .kept .1 .1 .1 .1 .1 .1 .1 .1 .1 .1 .1 .0
+    spread-in2 .kept .1 .1 .1 .1 .1 .1 .1 .1 .1 .1 .0
 
 same-length-4 : tie.Need-same-length-4
 same-length-4 c =
     let spread-in2 = spread-in2-before-leaders4 c .spread-in2 in
-    spread-in2 .kept .1 .1 .1 .1 .1 .1 .1 .1 .1 .1 .1 .1 .0
+    spread-in2 .kept .1 .1 .1 .1 .1 .1 .1 .1 .1 .1 .1 .0
 
 returns-2 : tie.Need-returns-2
 returns-2 c =

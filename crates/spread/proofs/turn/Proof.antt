@@ -1,6 +1,5 @@
 -- `spread::turn` meets its contract: a step of largest gain leaves the list, and its rules are relaxed, which together is a turn.
-use Rattle.lent.specs.Lent.{first}
-use Rattle.chains.specs.Chains.{number}
+use Rattle.chains.specs.Chains.{number, linked}
 use mathlib.Core.Path.{refl, sym}
 use Rattle.meaning.specs.Tables.{at}
 use Rattle.spread.proofs.Walking.{room-kept}
@@ -62,7 +61,7 @@ returns c =
     let start = at-take .before .before .before .before .before .before .before .before .before .before .before .before .before .before .before in
     let a = start .args in
     let taken = at-take .take .ensures in (
-      turned (a .n) (first (a .m)) number (a .xs .now) (a .ys .now) (a .cs .now) (a .days .now) (a .heads .now) (a .nexts .now) (a .gains .now) (a .by .now) (a .list .now)
+      turned (a .n) (linked (a .nexts .now)) number (a .xs .now) (a .ys .now) (a .cs .now) (a .days .now) (a .heads .now) (a .nexts .now) (a .gains .now) (a .by .now) (a .list .now)
           (at-take .take .last .1 .1 .0) (a .k) (taken .place) _ _ _ _ (start .pre .0)
           (start .pre .1 .1 .0 .listed-in (taken .place) (taken .largest .place-in)) (taken .largest) (taken .out)
           (rw (sym (taken .there)) at (at-relax-all .relax-all .ensures .0)),

@@ -27,11 +27,11 @@ slice-aggregate-lent-numbers c = long (c .before .before .before .before .before
 lent-numbers-requires : tie.Need-lent-numbers-requires
 lent-numbers-requires c κs = tt
 
-slice-aggregate-lent-numbers-2 : tie.Need-slice-aggregate-lent-numbers-2
-slice-aggregate-lent-numbers-2 c = long (c .before .before .before .before .before .before .before .before .before .before .before .before .before .before .before .before .before .before .before .args .o) (c .before .before .before .before .before .before .before .before .before .before .before .before .before .before .before .before .before .before .before .good .1 .1 .0) .marks
+slice-aggregate-lent-levels : tie.Need-slice-aggregate-lent-levels
+slice-aggregate-lent-levels c = long (c .before .before .before .before .before .before .before .before .before .before .before .before .before .before .before .before .before .before .before .args .o) (c .before .before .before .before .before .before .before .before .before .before .before .before .before .before .before .before .before .before .before .good .1 .1 .0) .levels
 
-lent-numbers-requires-2 : tie.Need-lent-numbers-requires-2
-lent-numbers-requires-2 c κs = tt
+lent-levels-requires : tie.Need-lent-levels-requires
+lent-levels-requires c κs = tt
 
 slice-aggregate-lent-steps-3 : tie.Need-slice-aggregate-lent-steps-3
 slice-aggregate-lent-steps-3 c = long (c .before .before .before .before .before .before .before .before .before .before .before .before .before .before .before .before .before .before .before .before .before .args .o) (c .before .before .before .before .before .before .before .before .before .before .before .before .before .before .before .before .before .before .before .before .before .good .1 .1 .0) .wxs
@@ -51,17 +51,17 @@ slice-aggregate-lent-amounts-2 c = long (c .before .before .before .before .befo
 lent-amounts-requires-2 : tie.Need-lent-amounts-requires-2
 lent-amounts-requires-2 c κs = tt
 
+slice-aggregate-lent-numbers-2 : tie.Need-slice-aggregate-lent-numbers-2
+slice-aggregate-lent-numbers-2 c = long (c .before .before .before .before .before .before .before .before .before .before .before .before .before .before .before .before .before .before .before .before .before .before .before .before .before .before .before .args .o) (c .before .before .before .before .before .before .before .before .before .before .before .before .before .before .before .before .before .before .before .before .before .before .before .before .before .before .before .good .1 .1 .0) .one
+
+lent-numbers-requires-2 : tie.Need-lent-numbers-requires-2
+lent-numbers-requires-2 c κs = tt
+
 slice-aggregate-lent-numbers-3 : tie.Need-slice-aggregate-lent-numbers-3
-slice-aggregate-lent-numbers-3 c = long (c .before .before .before .before .before .before .before .before .before .before .before .before .before .before .before .before .before .before .before .before .before .before .before .before .before .before .before .args .o) (c .before .before .before .before .before .before .before .before .before .before .before .before .before .before .before .before .before .before .before .before .before .before .before .before .before .before .before .good .1 .1 .0) .one
+slice-aggregate-lent-numbers-3 c = long (c .before .before .before .before .before .before .before .before .before .before .before .before .before .before .before .before .before .before .before .before .before .before .before .before .before .before .before .before .before .args .o) (c .before .before .before .before .before .before .before .before .before .before .before .before .before .before .before .before .before .before .before .before .before .before .before .before .before .before .before .before .before .good .1 .1 .0) .two
 
 lent-numbers-requires-3 : tie.Need-lent-numbers-requires-3
 lent-numbers-requires-3 c κs = tt
-
-slice-aggregate-lent-numbers-4 : tie.Need-slice-aggregate-lent-numbers-4
-slice-aggregate-lent-numbers-4 c = long (c .before .before .before .before .before .before .before .before .before .before .before .before .before .before .before .before .before .before .before .before .before .before .before .before .before .before .before .before .before .args .o) (c .before .before .before .before .before .before .before .before .before .before .before .before .before .before .before .before .before .before .before .before .before .before .before .before .before .before .before .before .before .good .1 .1 .0) .two
-
-lent-numbers-requires-4 : tie.Need-lent-numbers-requires-4
-lent-numbers-requires-4 c κs = tt
 
 made-requires : tie.Need-made-requires
 made-requires c κs = tt
@@ -81,17 +81,17 @@ lend-spec =
     lent-amounts-requires
     slice-aggregate-lent-numbers
     lent-numbers-requires
-    slice-aggregate-lent-numbers-2
-    lent-numbers-requires-2
+    slice-aggregate-lent-levels
+    lent-levels-requires
     slice-aggregate-lent-steps-3
     lent-steps-requires-3
     slice-aggregate-lent-steps-4
     lent-steps-requires-4
     slice-aggregate-lent-amounts-2
     lent-amounts-requires-2
+    slice-aggregate-lent-numbers-2
+    lent-numbers-requires-2
     slice-aggregate-lent-numbers-3
     lent-numbers-requires-3
-    slice-aggregate-lent-numbers-4
-    lent-numbers-requires-4
     made-requires
     returns)

@@ -27,6 +27,31 @@ impl<const PLACES: usize> Chains<PLACES> {
         }
     }
 
+    /// Makes them the chains of the rules held at these places, whatever they were.
+    pub fn build_held(&mut self, levels: &[u8], steps: &[u16]) {
+        self.heads.fill(0);
+        for (number, (&level, &step)) in levels.iter().zip(steps).enumerate() {
+            if level != 0 {
+                self.push(step, number);
+            }
+        }
+    }
+
+    /// Takes a rule of a step out of its chain.
+    pub fn unlink(&mut self, step: u16, number: usize) {
+        let own = number as u16 + 1;
+        let after = self.nexts[number];
+        let mut link = self.heads[step as usize];
+        if link == own {
+            self.heads[step as usize] = after;
+            return;
+        }
+        while self.nexts[usize::from(link) - 1] != own {
+            link = self.nexts[usize::from(link) - 1];
+        }
+        self.nexts[usize::from(link) - 1] = after;
+    }
+
     #[inline]
     pub fn push(&mut self, step: u16, number: usize) {
         let head = &mut self.heads[step as usize];

@@ -22,16 +22,32 @@ const STEP: u32 = 3;
 const AMOUNT: u32 = 4;
 pub const FULL: u32 = 5;
 pub const CONFLICT: u32 = 6;
-const NOMARK: u32 = 7;
+pub const NOMARK: u32 = 7;
+pub const ABSENT: u32 = 12;
 
-/// Tests the room and the tables; `chains` gets the rules held.
-fn test(counts: &Counts, t: &Tables, chains: &mut Chains<RULES>) -> Result<(), u32> {
+/// The rules held: their chains, and the place past the last of them.
+struct Held {
+    chains: Chains<RULES>,
+    end: usize,
+}
+
+impl Held {
+    fn new() -> Held {
+        Held { chains: Chains::new(), end: 0 }
+    }
+
+    /// The lowest free place; as many as there are where all are taken.
+    fn next(&self, t: &Tables) -> usize {
+        t.levels[..self.end].iter().position(|level| *level == 0).unwrap_or(self.end)
+    }
+}
+
+/// Tests the room and the tables; `held`, which has none yet, gets the rules held.
+fn test(counts: &Counts, t: &Tables, held: &mut Held) -> Result<(), u32> {
     if !sound::has_room(t) {
         return Err(SHORT);
     }
-    if !sound::is_sound(counts, t, chains) {
-        return Err(DAMAGED);
-    }
+    held.end = sound::sound(counts, t, &mut held.chains).ok_or(DAMAGED)?;
     Ok(())
 }
 
@@ -62,6 +78,7 @@ pub fn open(counts: &mut Counts, t: &mut Tables, steps: u32) -> u32 {
         return STEP;
     }
     t.days[..steps as usize].fill(0);
+    t.levels[..RULES].fill(0);
     *counts = Counts { steps, rules: 0, marks: 0, watched: 0, last: 0 };
     DONE
 }
@@ -71,7 +88,7 @@ pub fn watch(counts: &mut Counts, t: &mut Tables, rule: Rule) -> u32 {
 }
 
 fn try_watch(counts: &mut Counts, t: &mut Tables, rule: Rule) -> Result<(), u32> {
-    test(counts, t, &mut Chains::new())?;
+    test(counts, t, &mut Held::new())?;
     test_rule(counts, rule, counts.watched, WATCHED)?;
     let at = counts.watched as usize;
     t.wxs[at] = rule.first as u16;
@@ -86,11 +103,10 @@ pub fn mark(counts: &mut Counts, t: &mut Tables) -> u32 {
 }
 
 fn try_mark(counts: &mut Counts, t: &mut Tables) -> Result<(), u32> {
-    test(counts, t, &mut Chains::new())?;
+    test(counts, t, &mut Held::new())?;
     if counts.marks as usize >= MARKS {
         return Err(FULL);
     }
-    t.marks[counts.marks as usize] = counts.rules;
     counts.marks += 1;
     Ok(())
 }
@@ -100,26 +116,61 @@ pub fn back(counts: &mut Counts, t: &mut Tables) -> u32 {
 }
 
 fn try_back(counts: &mut Counts, t: &mut Tables) -> Result<(), u32> {
-    test(counts, t, &mut Chains::new())?;
+    let mut held = Held::new();
+    test(counts, t, &mut held)?;
     if counts.marks == 0 {
         return Err(NOMARK);
     }
-    let mark = t.marks[counts.marks as usize - 1];
-    if mark < counts.rules {
-        counts.last = plan_afresh(counts.steps as usize, mark as usize, counts.last, t);
+    let gone = free_level(&mut t.levels[..held.end], counts.marks as u8 + 1);
+    if gone > 0 {
+        held.chains.build_held(&t.levels[..held.end], &t.xs[..held.end]);
+        counts.last = plan_afresh(counts.steps as usize, &held.chains, counts.last, t);
     }
     counts.marks -= 1;
-    counts.rules = mark;
+    counts.rules -= gone;
     Ok(())
 }
 
-/// Brings the days, which keep the first `rules` rules, to the earliest plan of these: every step is asked to reach the last day, and all are then
+/// Frees the places of a level, and returns how many they are.
+fn free_level(levels: &mut [u8], newest: u8) -> u32 {
+    let mut gone = 0;
+    for level in levels {
+        if *level == newest {
+            *level = 0;
+            gone += 1;
+        }
+    }
+    gone
+}
+
+pub fn withdraw(counts: &mut Counts, t: &mut Tables, number: u32) -> u32 {
+    self::number(try_withdraw(counts, t, number))
+}
+
+/// Where the rule has days to spare, no day came by it, and the plan stays.
+fn try_withdraw(counts: &mut Counts, t: &mut Tables, number: u32) -> Result<(), u32> {
+    let mut held = Held::new();
+    test(counts, t, &mut held)?;
+    if !sound::is_held(t, number) {
+        return Err(ABSENT);
+    }
+    let at = number as usize;
+    let rule = Rule { first: t.xs[at].into(), second: t.ys[at].into(), amount: t.cs[at] };
+    if lack(t.days, rule) == 0 {
+        held.chains.unlink(t.xs[at], at);
+        counts.last = plan_afresh(counts.steps as usize, &held.chains, counts.last, t);
+    }
+    t.levels[at] = 0;
+    counts.rules -= 1;
+    Ok(())
+}
+
+/// Brings the days, which keep the rules of the chains, to the earliest plan of these: every step is asked to reach the last day, and all are then
 /// brought back by it. Returns the last day after that.
-fn plan_afresh(steps: usize, rules: usize, last: u32, t: &mut Tables) -> u32 {
-    let chains = Chains::of_all(&t.xs[..rules]);
+fn plan_afresh(steps: usize, chains: &Chains<RULES>, last: u32, t: &mut Tables) -> u32 {
     let days = &t.days[..steps];
     let latest = i64::from(last);
-    let mut spread = Spread::new(days, t.ys, t.cs, &chains);
+    let mut spread = Spread::new(days, t.ys, t.cs, chains);
     for (step, &day) in days.iter().enumerate() {
         if i64::from(day) < latest {
             spread.ask(step, latest - i64::from(day));
@@ -166,29 +217,30 @@ fn try_add<const SHORTEST: bool>(counts: &mut Counts, t: &mut Tables, list: &mut
     if list.len() < STEPS {
         return Err(SHORT);
     }
-    let mut chains = Chains::new();
-    test(counts, t, &mut chains)?;
+    let mut held = Held::new();
+    test(counts, t, &mut held)?;
     test_rule(counts, rule, counts.rules, RULES)?;
     if lack(t.days, rule) > 0 {
-        raise::<SHORTEST>(counts, t, &mut chains, list, rule, value)?;
+        raise::<SHORTEST>(counts, t, &mut held, list, rule, value)?;
     }
-    let at = counts.rules as usize;
+    let at = held.next(t);
     t.xs[at] = rule.first as u16;
     t.ys[at] = rule.second as u16;
     t.cs[at] = rule.amount;
+    t.levels[at] = counts.marks as u8 + 1;
     counts.rules += 1;
     Ok(())
 }
 
 /// Raises the days to the earliest plan with a rule that they break; on a conflict the list has its ring. The value is how many steps move, or the ring's length.
-fn raise<const SHORTEST: bool>(counts: &mut Counts, t: &mut Tables, chains: &mut Chains<RULES>, list: &mut [u32], rule: Rule, value: &mut u32) -> Result<(), u32> {
+fn raise<const SHORTEST: bool>(counts: &mut Counts, t: &mut Tables, held: &mut Held, list: &mut [u32], rule: Rule, value: &mut u32) -> Result<(), u32> {
     let steps = counts.steps as usize;
-    let mut spread = Spread::new(&t.days[..steps], t.ys, t.cs, chains);
+    let mut spread = Spread::new(&t.days[..steps], t.ys, t.cs, &held.chains);
     if !fits(&mut spread, rule) {
         *value = if SHORTEST {
-            shortest::reason(counts, t, chains, rule, list)
+            shortest::reason(counts, t, held, rule, list)
         } else {
-            spread.ring(t.xs, rule.first as usize, rule.second as usize, counts.rules, list)
+            spread.ring(t.xs, rule.first as usize, rule.second as usize, held.next(t) as u32, list)
         } as u32;
         return Err(CONFLICT);
     }
@@ -211,16 +263,16 @@ fn try_trial(counts: &Counts, t: &Tables, days: &mut [u32], ring: &mut [u32], ru
     if days.len() < STEPS || ring.len() < STEPS {
         return Err(SHORT);
     }
-    let mut chains = Chains::new();
-    test(counts, t, &mut chains)?;
+    let mut held = Held::new();
+    test(counts, t, &mut held)?;
     test_rule(counts, rule, counts.rules, RULES)?;
-    let held = &t.days[..counts.steps as usize];
-    let mut spread = Spread::new(held, t.ys, t.cs, &chains);
+    let plan = &t.days[..counts.steps as usize];
+    let mut spread = Spread::new(plan, t.ys, t.cs, &held.chains);
     if !fits(&mut spread, rule) {
-        *value = shortest::reason(counts, t, &mut chains, rule, ring) as u32;
+        *value = shortest::reason(counts, t, &mut held, rule, ring) as u32;
         return Err(CONFLICT);
     }
-    for ((to, &day), &gain) in days.iter_mut().zip(held).zip(&spread.gains) {
+    for ((to, &day), &gain) in days.iter_mut().zip(plan).zip(&spread.gains) {
         *to = day + gain as u32;
         *value += u32::from(gain > 0);
     }
@@ -233,9 +285,10 @@ pub fn ring_check(counts: &Counts, t: &mut Tables, list: &[u32], rule: Rule, ver
 }
 
 fn try_ring_check(counts: &Counts, t: &Tables, list: &[u32], rule: Rule) -> Result<bool, u32> {
-    test(counts, t, &mut Chains::new())?;
+    let mut held = Held::new();
+    test(counts, t, &mut held)?;
     test_rule(counts, rule, 0, RULES)?;
-    Ok(ring::is_ring(counts.steps as usize, counts.rules, t, rule, list))
+    Ok(ring::is_ring(counts.steps as usize, held.next(t) as u32, t, rule, list))
 }
 
 pub fn consequences(counts: &Counts, t: &mut Tables, all: &mut [u32], none: &mut [u32], held: &mut u32, excluded: &mut u32) -> u32 {
@@ -252,13 +305,13 @@ fn try_consequences(counts: &Counts, t: &Tables, all: &mut [u32], none: &mut [u3
     if all.len() < watched || none.len() < watched {
         return Err(SHORT);
     }
-    let mut chains = Chains::new();
-    test(counts, t, &mut chains)?;
-    let spread = Spread::new(&t.days[..counts.steps as usize], t.ys, t.cs, &chains);
+    let mut rules = Held::new();
+    test(counts, t, &mut rules)?;
+    let spread = Spread::new(&t.days[..counts.steps as usize], t.ys, t.cs, &rules.chains);
     Ok(split::split(spread, t, watched, all, none))
 }
 
 pub fn last_day(counts: &Counts, t: &mut Tables, day: &mut u32) -> u32 {
     *day = 0;
-    number(test(counts, t, &mut Chains::new()).map(|()| *day = counts.last))
+    number(test(counts, t, &mut Held::new()).map(|()| *day = counts.last))
 }

@@ -1,23 +1,24 @@
 //! Whether a list is a negative ring of a rule that is to be added and of rules held.
 
+use super::sound;
 use planner::calls::{Rule, Tables};
 
 /// A window has so many steps: a flag for each of them is one bit of a u64.
 const WINDOW: usize = 64;
 
-/// Whether the list is a negative ring of the rule under the number `rules` and then of rules held.
-pub fn is_ring(steps: usize, rules: u32, t: &Tables, rule: Rule, list: &[u32]) -> bool {
+/// Whether the list is a negative ring of the rule under the number `next` and then of rules held.
+pub fn is_ring(steps: usize, next: u32, t: &Tables, rule: Rule, list: &[u32]) -> bool {
     match list.split_first() {
-        Some((&first, rest)) if list.len() <= steps && first == rules => closes(rules, t, rule, rest) && different(steps, t.xs, rule.first as usize, rest),
+        Some((&first, rest)) if list.len() <= steps && first == next => closes(t, rule, rest) && different(steps, t.xs, rule.first as usize, rest),
         _ => false,
     }
 }
 
 /// Whether the rest leads from the rule's second step to its first, over rules held, with a negative sum.
-fn closes(rules: u32, t: &Tables, rule: Rule, rest: &[u32]) -> bool {
+fn closes(t: &Tables, rule: Rule, rest: &[u32]) -> bool {
     let (mut reached, mut sum) = (rule.second, i64::from(rule.amount));
     for &number in rest {
-        if number >= rules || u32::from(t.xs[number as usize]) != reached {
+        if !sound::is_held(t, number) || u32::from(t.xs[number as usize]) != reached {
             return false;
         }
         sum += i64::from(t.cs[number as usize]);

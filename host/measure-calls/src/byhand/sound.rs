@@ -6,9 +6,14 @@ use planner::calls::{Counts, Rule, Tables};
 
 /// Whether each table has room for its full bound.
 pub fn has_room(t: &Tables) -> bool {
-    let rules = t.xs.len().min(t.ys.len()).min(t.cs.len());
+    let rules = t.xs.len().min(t.ys.len()).min(t.cs.len()).min(t.levels.len());
     let watched = t.wxs.len().min(t.wys.len()).min(t.wcs.len());
-    rules >= RULES && t.days.len() >= STEPS && t.marks.len() >= MARKS && watched >= WATCHED
+    rules >= RULES && t.days.len() >= STEPS && watched >= WATCHED
+}
+
+/// Whether a rule is held under the number.
+pub fn is_held(t: &Tables, number: u32) -> bool {
+    t.levels[..RULES].get(number as usize).map_or(false, |level| *level != 0)
 }
 
 /// Whether both steps are below the count.
@@ -20,27 +25,50 @@ pub fn amount_fits(amount: i32) -> bool {
     (-LARGEST..=LARGEST).contains(&amount)
 }
 
-/// Whether the tables, which have room, are sound; where they are, `chains` has the rules held.
-pub fn is_sound(counts: &Counts, t: &Tables, chains: &mut Chains<RULES>) -> bool {
-    let (rules, marks, watched) = (counts.rules as usize, counts.marks as usize, counts.watched as usize);
-    if counts.steps < 1 || counts.steps as usize > STEPS || rules > RULES || marks > MARKS || watched > WATCHED {
-        return false;
+/// Whether the tables, which have room, are sound: where they are, the place past the last rule held, and `chains` has the rules held.
+pub fn sound(counts: &Counts, t: &Tables, chains: &mut Chains<RULES>) -> Option<usize> {
+    let watched = counts.watched as usize;
+    if counts.steps < 1 || counts.steps as usize > STEPS || counts.rules as usize > RULES || counts.marks as usize > MARKS || watched > WATCHED {
+        return None;
     }
-    let in_bounds = |x: u16, y: u16, c: i32| u32::from(x) < counts.steps && u32::from(y) < counts.steps && amount_fits(c);
-    for (number, ((&x, &y), &c)) in t.xs[..rules].iter().zip(&t.ys[..rules]).zip(&t.cs[..rules]).enumerate() {
-        if !in_bounds(x, y, c) {
-            return false;
-        }
-        chains.push(x, number);
-    }
+    let end = enter(counts, t, chains)?;
     let mut watch = t.wxs[..watched].iter().zip(&t.wys[..watched]).zip(&t.wcs[..watched]);
     let days = &t.days[..counts.steps as usize];
-    watch.all(|((&x, &y), &c)| in_bounds(x, y, c)) && marks_in(counts.rules, &t.marks[..marks]) && is_largest(counts.last, days) && are_earliest(days, t.ys, t.cs, chains)
+    let good = watch.all(|((&x, &y), &c)| in_bounds(counts.steps, x, y, c)) && is_largest(counts.last, days) && are_earliest(days, t.ys, t.cs, chains);
+    if good {
+        Some(end)
+    } else {
+        None
+    }
 }
 
-/// Whether the marks never fall and none exceeds the rule count.
-fn marks_in(rules: u32, marks: &[u32]) -> bool {
-    marks.windows(2).all(|pair| pair[0] <= pair[1]) && marks.last().map_or(true, |newest| *newest <= rules)
+fn in_bounds(steps: u32, x: u16, y: u16, c: i32) -> bool {
+    u32::from(x) < steps && u32::from(y) < steps && amount_fits(c)
+}
+
+/// Enters the rules held into the chains, place by place until as many are seen as are counted, and looks that the places after these are free. Gives the first of them;
+/// nothing where a rule or its level is out of bounds, or the count is not right.
+fn enter(counts: &Counts, t: &Tables, chains: &mut Chains<RULES>) -> Option<usize> {
+    let (levels, xs, ys, cs) = (&t.levels[..RULES], &t.xs[..RULES], &t.ys[..RULES], &t.cs[..RULES]);
+    let (mut left, mut place) = (counts.rules, 0);
+    while left > 0 {
+        if place == RULES {
+            return None;
+        }
+        if levels[place] != 0 {
+            if u32::from(levels[place]) > counts.marks + 1 || !in_bounds(counts.steps, xs[place], ys[place], cs[place]) {
+                return None;
+            }
+            chains.push(xs[place], place);
+            left -= 1;
+        }
+        place += 1;
+    }
+    if levels[place..].iter().all(|level| *level == 0) {
+        Some(place)
+    } else {
+        None
+    }
 }
 
 /// Whether the last day is the largest of the days.

@@ -7,7 +7,7 @@ mod scripts;
 mod sound;
 
 pub use rings::{reason, refutes};
-pub use sound::{is_sound, rules};
+pub use sound::{is_sound, level, rules};
 
 use crate::acts::Act;
 use crate::office::{Lent, Office, Place, STEPS, WATCHED};
@@ -19,6 +19,7 @@ use sound::{held, largest, planned};
 pub const DAMAGED: u32 = 2;
 pub const STEP: u32 = 3;
 pub const CONFLICT: u32 = 6;
+pub const ABSENT: u32 = 12;
 
 /// What a call gives back: its number and its values, 0 where it has none.
 #[derive(Clone, Copy, PartialEq, Eq, Debug)]
@@ -38,6 +39,7 @@ pub fn carry_out(office: &mut Office, act: &Act) -> Given {
         Act::Add(rule) => add(office, *rule),
         Act::Mark => mark(office),
         Act::Back => back(office),
+        Act::Withdraw(number) => withdraw(office, *number),
         Act::Trial(rule) => trial(office, *rule),
         Act::Consequences => consequences(office),
         Act::RingCheck(rule, list) => ring_check(office, *rule, list),
@@ -74,7 +76,7 @@ fn need(met: bool, number: u32) -> Result<(), u32> {
 /// Every table has room for its full bound.
 fn room(office: &Office) -> bool {
     use Place::*;
-    [Xs, Ys, Cs, Days, Marks, Wxs, Wys, Wcs].iter().all(|place| office.lent(*place) >= place.room())
+    [Xs, Ys, Cs, Days, Levels, Wxs, Wys, Wcs].iter().all(|place| office.lent(*place) >= place.room())
 }
 
 /// A rule handed to a call: STEP, then AMOUNT.
@@ -87,9 +89,15 @@ fn rule_in_bounds(office: &Office, rule: Rule) -> Result<(), u32> {
 fn open(office: &mut Office, steps: u32) -> Outcome {
     need(room(office), SHORT)?;
     need(1 <= steps && steps as usize <= STEPS, STEP)?;
+    empty(office, steps);
+    done(0, 0)
+}
+
+/// That many steps, all on day 0, and nothing else: every place for a rule is free.
+fn empty(office: &mut Office, steps: u32) {
     office.counts[1] = Counts { steps, rules: 0, marks: 0, watched: 0, last: 0 };
     office.shelf.days.part_mut()[..steps as usize].fill(0);
-    done(0, 0)
+    office.shelf.levels.part_mut()[..RULES].fill(0);
 }
 
 fn watch(office: &mut Office, rule: Rule) -> Outcome {
@@ -136,13 +144,15 @@ fn add(office: &mut Office, rule: Rule) -> Outcome {
     }
 }
 
-/// The rule is held under the next number, and these are the days.
+/// The rule is held under the next number, at the present level, and these are the days.
 fn hold(office: &mut Office, rule: Rule, days: &[i64]) {
-    let number = office.counts().rules as usize;
+    let number = office.next_number() as usize;
+    let level = office.counts().marks + 1;
     let shelf = &mut office.shelf;
     shelf.xs.part_mut()[number] = rule.first as u16;
     shelf.ys.part_mut()[number] = rule.second as u16;
     shelf.cs.part_mut()[number] = rule.amount;
+    shelf.levels.part_mut()[number] = level as u8;
     office.counts[1].rules += 1;
     plan_is(office, days);
 }
@@ -163,16 +173,8 @@ fn mark(office: &mut Office) -> Outcome {
     need(room(office), SHORT)?;
     need(is_sound(office), DAMAGED)?;
     need((office.counts().marks as usize) < MARKS, FULL)?;
-    set_marks(office, 1);
+    office.counts[1].marks += 1;
     done(0, 0)
-}
-
-/// That many more marks at the number of rules held.
-fn set_marks(office: &mut Office, more: usize) {
-    let counts = &mut office.counts[1];
-    let open = counts.marks as usize;
-    office.shelf.marks.part_mut()[open..open + more].fill(counts.rules);
-    counts.marks += more as u32;
 }
 
 fn back(office: &mut Office) -> Outcome {
@@ -183,12 +185,27 @@ fn back(office: &mut Office) -> Outcome {
     done(0, 0)
 }
 
-/// The newest marks, that many, and every rule added after the oldest of them are dropped; the days are the earliest plan of the rules left.
+/// The newest marks, that many, and the rules added while one of them was open are dropped.
 fn drop_marks(office: &mut Office, fewer: usize) {
-    for _ in 0..fewer {
-        let newest = office.counts().marks as usize - 1;
-        office.counts[1].rules = office.shelf.marks.part()[newest];
-        office.counts[1].marks = newest as u32;
+    office.counts[1].marks -= fewer as u32;
+    let deeper = |number: &u32| level(office, *number) > office.counts().marks;
+    let gone: Vec<u32> = office.numbers().into_iter().filter(deeper).collect();
+    free(office, &gone);
+}
+
+fn withdraw(office: &mut Office, number: u32) -> Outcome {
+    need(room(office), SHORT)?;
+    need(is_sound(office), DAMAGED)?;
+    need(office.holds(number), ABSENT)?;
+    free(office, &[number]);
+    done(0, 0)
+}
+
+/// The rules held under these numbers go, and the days are the earliest plan of the rest.
+fn free(office: &mut Office, numbers: &[u32]) {
+    for number in numbers {
+        office.shelf.levels.part_mut()[*number as usize] = 0;
+        office.counts[1].rules -= 1;
     }
     let days = planned(office).expect("fewer rules than sound tables had");
     plan_is(office, &days);

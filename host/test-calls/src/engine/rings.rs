@@ -7,9 +7,9 @@ use std::collections::HashSet;
 
 /// Whether the list is a negative ring that starts with the rule under its would-be number and goes on over held rules. The tables are sound.
 pub fn refutes(office: &Office, rule: Rule, list: &[u32]) -> bool {
-    let next = office.counts().rules;
+    let next = office.next_number();
     match list.split_first() {
-        Some((first, others)) if *first == next && others.iter().all(|number| *number < next) => (),
+        Some((first, others)) if *first == next && others.iter().all(|number| office.holds(*number)) => (),
         _ => return false,
     }
     let ring: Vec<Rule> = list.iter().map(|number| if *number == next { rule } else { office.rule(*number as usize) }).collect();
@@ -27,7 +27,7 @@ type Sums = Vec<Option<i64>>;
 /// sound, and no arrangement keeps the rule along with those held. A list that goes back to a step is never among the shortest: held rules that lead from a step back
 /// to it add up to no less than 0, so without them it is below 0 as well.
 pub fn reason(office: &Office, rule: Rule) -> Vec<u32> {
-    let (refused, rules) = (held(rule), rules(office));
+    let (refused, numbers, rules) = (held(rule), office.numbers(), rules(office));
     // By how many rules there are in a row: first none, which leads from the step to itself.
     let mut sums: Vec<Sums> = vec![vec![None; office.counts().steps as usize]];
     sums[0][refused.x] = Some(0);
@@ -35,12 +35,13 @@ pub fn reason(office: &Office, rule: Rule) -> Vec<u32> {
         sums.push(one_more(&rules, &sums[sums.len() - 1]));
         assert!(sums.len() <= office.counts().steps as usize, "no ring of {:?}", rule);
     }
-    let mut list = vec![office.counts().rules];
+    let mut list = vec![office.next_number()];
     let (mut step, mut sum) = (refused.y, refused.c);
     for rest in sums.iter().rev().skip(1) {
         let goes_on = |rule: &reader::Rule| rule.x == step && ends_below_0(sum + rule.c, rest[rule.y]);
+        // They stand by their numbers, so the first one has the lowest.
         let lowest = rules.iter().position(goes_on).expect("a rule that goes on");
-        list.push(lowest as u32);
+        list.push(numbers[lowest]);
         step = rules[lowest].y;
         sum += rules[lowest].c;
     }

@@ -1,8 +1,8 @@
 //! The script calls over what is lent: start, and one command, read by the independent reader of scripts.
 
 use crate::office::{Office, Place, STEPS};
-use super::{done, drop_marks, hold, is_sound, need, room, set_marks, Outcome, DAMAGED};
-use planner::calls::{Counts, Record, Rule};
+use super::{done, drop_marks, empty, hold, is_sound, need, room, Outcome, DAMAGED};
+use planner::calls::{Record, Rule};
 use reader::{
     earliest, is_name, next_command, read, rules_of, Command, Next, Stop, FULL, MARKS, MODE, NAME, NAMES, NAME_BYTES, NOMARK, RULES, SHORT, SYNTAX,
 };
@@ -15,8 +15,7 @@ fn names_room(office: &Office) -> bool {
 /// The tables are opened with all steps, and the record is emptied.
 pub fn start(office: &mut Office) -> Outcome {
     need(room(office) && names_room(office), SHORT)?;
-    office.counts[1] = Counts { steps: STEPS as u32, rules: 0, marks: 0, watched: 0, last: 0 };
-    office.shelf.days.part_mut()[..STEPS].fill(0);
+    empty(office, STEPS as u32);
     office.record[1] = Record { names: 0, logic: 0, broken: 0, sat: 0 };
     done(0, 0)
 }
@@ -96,7 +95,7 @@ fn carry_out(office: &mut Office, command: &Command) -> Result<String, u32> {
         }
         Command::Push(more) => {
             need(u64::from(office.counts().marks) + more <= MARKS as u64, FULL)?;
-            set_marks(office, *more as usize);
+            office.counts[1].marks += *more as u32;
         }
         Command::Pop(fewer) => {
             need(*fewer <= u64::from(office.counts().marks), NOMARK)?;

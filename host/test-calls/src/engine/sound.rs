@@ -11,7 +11,12 @@ pub fn held(rule: Rule) -> reader::Rule {
 
 /// The rules held, by their numbers.
 pub fn rules(office: &Office) -> Vec<reader::Rule> {
-    (0..office.counts().rules as usize).map(|number| held(office.rule(number))).collect()
+    office.numbers().into_iter().map(|number| held(office.rule(number as usize))).collect()
+}
+
+/// How many marks were open when the rule held under a number was added.
+pub fn level(office: &Office, number: u32) -> u32 {
+    u32::from(office.shelf.levels.part()[number as usize]) - 1
 }
 
 /// The earliest plan of the rules held, from scratch; nothing where they have no arrangement.
@@ -24,20 +29,19 @@ pub fn largest(days: &[i64]) -> i64 {
     days.iter().fold(0, |so_far, day| if so_far < *day { *day } else { so_far })
 }
 
-/// The counts are within bounds, every held and watched rule too, marks never fall and none exceeds the rule count, the days are the earliest plan, and the last
-/// day is the largest of them.
+/// The counts are within bounds, every held and watched rule too, no level of a held rule has more marks than are open, as many places are held as the count says, the
+/// days are the earliest plan, and the last day is the largest of them.
 pub fn is_sound(office: &Office) -> bool {
     let counts = office.counts();
-    let (steps, held, open, watched) = (counts.steps as usize, counts.rules as usize, counts.marks as usize, counts.watched as usize);
-    if steps < 1 || steps > STEPS || held > RULES || open > MARKS || watched > WATCHED {
+    let (steps, watched) = (counts.steps as usize, counts.watched as usize);
+    if steps < 1 || steps > STEPS || counts.rules as usize > RULES || counts.marks as usize > MARKS || watched > WATCHED {
         return false;
     }
     let good = |rule: Rule| rule.first < counts.steps && rule.second < counts.steps && i64::from(rule.amount).abs() <= LARGEST;
-    let marks = &office.shelf.marks.part()[..open];
-    (0..held).all(|number| good(office.rule(number)))
+    let numbers = office.numbers();
+    numbers.len() == counts.rules as usize
+        && numbers.iter().all(|number| good(office.rule(*number as usize)) && level(office, *number) <= counts.marks)
         && (0..watched).all(|number| good(office.watched_rule(number)))
-        && marks.windows(2).all(|two| two[0] <= two[1])
-        && marks.iter().all(|mark| *mark <= counts.rules)
         && planned(office).map_or(false, |days| {
             days.iter().zip(office.shelf.days.part()).all(|(day, cell)| *day == i64::from(*cell)) && i64::from(counts.last) == largest(&days)
         })

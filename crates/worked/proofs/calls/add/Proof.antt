@@ -28,8 +28,14 @@ slice-aggregate-lend-numbers c = long (c .before .before .before .before .before
 lend-numbers-requires : tie.Need-lend-numbers-requires
 lend-numbers-requires c κs = tt
 
+slice-aggregate-lend-levels : tie.Need-slice-aggregate-lend-levels
+slice-aggregate-lend-levels c = long (c .before .before .before .before .before .before .before .before .before .before .before .before .before .before .before .before .before .args .o) (c .before .before .before .before .before .before .before .before .before .before .before .before .before .before .before .before .before .good .1 .0) .levels
+
+lend-levels-requires : tie.Need-lend-levels-requires
+lend-levels-requires c κs = tt
+
 slice-aggregate-lend-numbers-2 : tie.Need-slice-aggregate-lend-numbers-2
-slice-aggregate-lend-numbers-2 c = long (c .before .before .before .before .before .before .before .before .before .before .before .before .before .before .before .before .before .args .o) (c .before .before .before .before .before .before .before .before .before .before .before .before .before .before .before .before .before .good .1 .0) .one
+slice-aggregate-lend-numbers-2 c = long (c .before .before .before .before .before .before .before .before .before .before .before .before .before .before .before .before .before .before .before .args .o) (c .before .before .before .before .before .before .before .before .before .before .before .before .before .before .before .before .before .before .before .good .1 .0) .one
 
 lend-numbers-requires-2 : tie.Need-lend-numbers-requires-2
 lend-numbers-requires-2 c κs = tt
@@ -61,6 +67,8 @@ add-spec =
     lend-amounts-requires
     slice-aggregate-lend-numbers
     lend-numbers-requires
+    slice-aggregate-lend-levels
+    lend-levels-requires
     slice-aggregate-lend-numbers-2
     lend-numbers-requires-2
     cast-add

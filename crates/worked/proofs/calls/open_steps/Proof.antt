@@ -9,6 +9,12 @@ slice-aggregate-lend-numbers c = long (c .before .before .before .before .before
 lend-numbers-requires : tie.Need-lend-numbers-requires
 lend-numbers-requires c κs = tt
 
+slice-aggregate-lend-levels : tie.Need-slice-aggregate-lend-levels
+slice-aggregate-lend-levels c = long (c .before .before .before .before .before .before .before .before .before .args .o) (c .before .before .before .before .before .before .before .before .before .good .1 .0) .levels
+
+lend-levels-requires : tie.Need-lend-levels-requires
+lend-levels-requires c κs = tt
+
 open-requires : tie.Need-open-requires
 open-requires c κs = tt
 
@@ -24,6 +30,8 @@ open-steps-spec =
     (tie.spec
     slice-aggregate-lend-numbers
     lend-numbers-requires
+    slice-aggregate-lend-levels
+    lend-levels-requires
     open-requires
     after-requires
     returns)
