@@ -422,8 +422,8 @@ struct Stand {
 }
 
 // Writes the numbers of the rules lo to hi of the least way from v below the bound from the place on, the first one first, where layer lo stands in the cells
-// from place a on. Says where the way goes on. Where there is more than one rule, those of an upper part, no more than the cap, are found by a layer that is kept
-// for them, then the others as before.
+// from place a on. Says where the way goes on. While more than one rule is left, those of an upper part, no more than the cap, are found by a layer that is kept
+// for them; the last one by layer lo.
 fn descend(
     n: usize,
     xs: &[u16],
@@ -451,77 +451,64 @@ fn descend(
         Descended n (linked (now (nexts .entry))) (now (xs .entry)) (now (ys .entry)) (now (cs .entry)) (now (days .entry)) (now (depths .entry)) g t lo hi v bound place a
         (now (cells .entry)) (now (list .entry)) (now (cells .exit)) (now (list .exit)) (r .step) (r .bound) ⌝ }
 {
-    if hi == lo + 1 {
-        let i = pick(n, xs, ys, cs, days, nexts, v, bound, a, cells);
-        list[place] = i as u32;
-        let after = lent::number_at(ys, i);
-        let left = bound - spare(xs, ys, cs, days, i);
-        return Stand {
-            step: after,
-            bound: left,
-        };
-    }
     let part = share(cap);
-    let upper = upper_part(hi - lo, cap);
-    let mid = hi - upper;
-    advance(
-        n,
-        xs,
-        ys,
-        cs,
-        days,
-        heads,
-        nexts,
-        depths,
-        t,
-        g,
-        lo,
-        mid,
-        a,
-        cells,
-    );
-    let stand = descend(
-        n,
-        xs,
-        ys,
-        cs,
-        days,
-        heads,
-        nexts,
-        depths,
-        t,
-        g,
-        mid,
-        hi,
-        v,
-        bound,
-        place,
-        a + meaning::STEPS,
-        part,
-        cells,
-        list,
-    );
-    descend(
-        n,
-        xs,
-        ys,
-        cs,
-        days,
-        heads,
-        nexts,
-        depths,
-        t,
-        g,
-        lo,
-        mid,
-        stand.step,
-        stand.bound,
-        place + upper,
-        a,
-        cap,
-        cells,
-        list,
-    )
+    let mut top = hi;
+    let mut step = v;
+    let mut left = bound;
+    let mut to = place;
+    while 1 < top - lo {
+        let upper = upper_part(top - lo, cap);
+        let mid = top - upper;
+        advance(
+            n,
+            xs,
+            ys,
+            cs,
+            days,
+            heads,
+            nexts,
+            depths,
+            t,
+            g,
+            lo,
+            mid,
+            a,
+            cells,
+        );
+        let stand = descend(
+            n,
+            xs,
+            ys,
+            cs,
+            days,
+            heads,
+            nexts,
+            depths,
+            t,
+            g,
+            mid,
+            top,
+            step,
+            left,
+            to,
+            a + meaning::STEPS,
+            part,
+            cells,
+            list,
+        );
+        top = mid;
+        step = stand.step;
+        left = stand.bound;
+        to += upper;
+    }
+    let i = pick(n, xs, ys, cs, days, nexts, step, left, a, cells);
+    list[to] = i as u32;
+    let after = lent::number_at(ys, i);
+    let rest = left - spare(xs, ys, cs, days, i);
+    Stand {
+        step: after,
+        bound: rest,
+    }
 }
 
 // How many rules the shortest way from y to x has that stays below t, where that is no more than g; else one more than g.
