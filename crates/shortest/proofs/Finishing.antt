@@ -89,7 +89,7 @@ module _ (n : ℕ) (H : ℕ → Type 0) (xs ys : List ℕ) (cs : List ℤ) (days
   parted lo hi v bound place a cap cells list here more upper part above share =
       let (before, is, part-is, some-part) = share-fits cap part (here .depth) (here .some-cap more) (here .cap-is) share in record {
         some-upper = above .some;
-        some-lower = omega (arith, here .some, above .not-all);
+        some-lower = omega (arith, here .some, more, above .half);
         depth = before;
         cap-is = part-is;
         some-cap = λ several. some-part (omega (arith, above .capped));

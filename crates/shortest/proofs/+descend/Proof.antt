@@ -85,7 +85,7 @@ descend-sub-upper-part t c = omega (arith, c .before .loop .inv .3 .rest .some)
 descend-upper-part-requires : (t : ℕ) → descend-lts.Need-upper-part-requires (calls t) (descend-at t) descend.Post Inv-loop μ-loop
 descend-upper-part-requires t c κs =
     let rest = c .before .loop .inv .3 .rest in
-    (c .loop-test .taken, rest .some-cap (λ one. omega (arith, one, c .loop-test .taken)))
+    (omega (arith, rest .some), rest .some-cap (λ one. omega (arith, one, c .loop-test .taken)))
 
 -- The parts of what is left, where that is more than one rule.
 parts :
