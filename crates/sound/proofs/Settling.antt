@@ -14,19 +14,11 @@ use Rattle.meaning.specs.Rules.{plus}
 use Rattle.meaning.specs.Tables.{at, taken}
 use Rattle.meaning.proofs.Places.{taken-of-none, taken-free, taken-held, free-or-held}
 use Rattle.lent.specs.Decides.{decides-yes, decides-no}
-use Rattle.lent.specs.Lent.{first, held-by, FreeFrom}
-use Rattle.lent.proofs.Cells.{taken-rest-free, taken-past}
+use Rattle.lent.specs.Lent.{held-by, FreeFrom}
+use Rattle.lent.proofs.Cells.{taken-rest-free, taken-past, only-first}
 use Rattle.chains.specs.Chains.{ChainsOf, number, OFF, linked, Empty, OffFrom}
 use Rattle.chains.proofs.Laws.{chained-none, chains-agree, chains-nexts, chains-more, next-lower, lent-chains}
 use Rattle.sound.specs.Parts.{Good, FreeThere, GoodThere, Settled, HeldIn, RulesTested}
-
--- Where the places from m on are free, what is held is among the first m.
-pub only-first : (m : ℕ) (levels : List ℕ) → FreeFrom m levels → (j : ℕ) → held-by levels j → first m j
-only-first m levels free j h = by-place (decLt j m)
-  where
-    by-place : Dec (j < m) → first m j
-    by-place (yes l) = l
-    by-place (no past) = absurd (omega (arith, h .1, free j (omega (arith, past)) (h .0)))
 
 -- The rules held below number i.
 abbrev pub passed : List ℕ → ℕ → ℕ → Type 0

@@ -2,10 +2,10 @@
 // grounded: it has day 0, or a rule with nothing to spare leads to it from a grounded step. So steps are entered in a work-list, those
 // of day 0 first, and the rules of each are followed once: a broken rule, or a step left out at the end, says no.
 ghost use mathlib.Core.Logic.{_⊎_};
-ghost use Prim.Native.Nat.{_+_, _≤_, _<_};
+ghost use Prim.Native.Nat.{_≤_, _<_};
 ghost use lib.ListN.{length};
 ghost use Rattle.meaning.specs.declared.Counts.{Counts};
-ghost use Rattle.meaning.specs.Bounds.{STEPS, RULES, MARKS};
+ghost use Rattle.meaning.specs.Bounds.{STEPS, RULES};
 ghost use Rattle.meaning.specs.Rules.{Earliest};
 ghost use Rattle.meaning.specs.Tables.{ColumnsRoom, InCounts, Room, rule-at, at};
 ghost use Rattle.lent.specs.Decides.{Decides};
@@ -72,7 +72,7 @@ fn counts_in(counts: Counts) -> bool
     counts.watched as usize <= meaning::WATCHED
 }
 
-// Whether every number of the list below place m is below n. Here and in the next two every cell is looked at, so that many are at a time.
+// Whether every number of the list below place m is below n. Here and in the next every cell is looked at, so that many are at a time.
 fn steps_in(n: usize, m: usize, list: &[u16]) -> bool
     requires { ⌜ m ≤ length (now list) ⌝ }
     ensures { λ r. ⌜ Decides r (AllBelow n m (now (list .entry))) ⌝ }
@@ -94,22 +94,6 @@ fn amounts_in(m: usize, list: &[i32]) -> bool
     let mut all = true;
     for i in 0..m {
         if !lent::amount_in(list, i) {
-            all = false;
-        }
-    }
-    all
-}
-
-// Whether no level below place m is above those that are open with so many marks.
-fn levels_in(m: usize, marks: usize, levels: &[u8]) -> bool
-    requires { ⌜ m ≤ length (now levels) ⌝ }
-    requires { ⌜ marks ≤ MARKS ⌝ }
-    ensures { λ r. ⌜ Decides r (AllBelow (marks + 2) m (now (levels .entry))) ⌝ }
-{
-    let highest = (marks + 1) as u8;
-    let mut all = true;
-    for i in 0..m {
-        if highest < levels[i] {
             all = false;
         }
     }
@@ -216,7 +200,7 @@ fn first_in(
     requires { ⌜ AllHeld m (now levels) ⌝ }
     ensures { λ r. ⌜ RulesTested n m marks (now (xs .entry)) (now (ys .entry)) (now (cs .entry)) (now (levels .entry)) r (now (heads .exit)) (now (nexts .exit)) ⌝ }
 {
-    if !levels_in(m, marks, levels) {
+    if !lent::none_above(levels, m, marks) {
         return false;
     }
     if !all_in(n, m, xs, ys, cs) {

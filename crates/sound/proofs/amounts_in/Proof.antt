@@ -8,7 +8,7 @@ use borrow.Author.Tests.{not-true, not-false}
 use Rattle.meaning.specs.Rules.{InAmount}
 use Rattle.lent.specs.Decides.{Decides}
 use Rattle.sound.specs.Parts.{AmountsIn}
-use Rattle.sound.proofs.Columns.{decides-none, decides-next}
+use Rattle.lent.proofs.Cells.{decides-none, decides-next}
 use borrow.Author.Needs.{needs}
 use native.Mathlib.Omega.{arith}
 use Rattle.sound.proofs.amounts_in.Statement.{statement}

@@ -14,7 +14,7 @@ use Rattle.chains.proofs.build.Reads as build-reads
 use Rattle.chains.proofs.off_from.Reads as off-from-reads
 use Rattle.lent.proofs.free_from.Reads as free-from-reads
 use Rattle.sound.proofs.all_in.Reads as all-in-reads
-use Rattle.sound.proofs.levels_in.Reads as levels-in-reads
+use Rattle.lent.proofs.none_above.Reads as none-above-reads
 
 -- Places of the code, seen from later ones.
 abbrev start-before-else1 : tie.Else1 → tie.Start
@@ -23,15 +23,15 @@ start-before-else1 c = c .before .before .before .before .before .before .before
 abbrev build-before-slice-known5 : tie.After-slice-known5 → tie.After-build
 build-before-slice-known5 c = c .before .before .before .before .before .before .before .before
 
-levels-in-requires : tie.Need-levels-in-requires
-levels-in-requires c κs =
+none-above-requires : tie.Need-none-above-requires
+none-above-requires c κs =
     let start = c .before .before .before .before .before in
     (omega (arith, start .pre .0 .levels-room, start .pre .1 .0), start .pre .0 .marks-in)
 
 returns : tie.Need-returns
 returns c =
     let start = c .before .before .before .before .before .before .before in
-    level-high (start .pre .1 .0) (start .pre .1 .1) (c .before .levels-in .ensures .not-so (not-true (c .before .levels-in .result) (c .if1 .taken)))
+    level-high (start .pre .1 .0) (start .pre .1 .1) (c .before .none-above .ensures .not-so (not-true (c .before .none-above .result) (c .if1 .taken)))
 
 all-in-requires : tie.Need-all-in-requires
 all-in-requires c κs =
@@ -87,14 +87,14 @@ returns-4 c =
     let else2 = else3 .before .before in
     let all-in = else2 .before .all-in in
     let else1 = else2 .before .before in
-    let levels-in = else1 .before .levels-in in
+    let none-above = else1 .before .none-above in
     let start = start-before-else1 else1 in
     let args = start .args in
     let pre = start .pre in
     let build = at-build .build in
     let off-from = c .before .before .off-from in
     first-tested (pre .1 .0) (pre .1 .1)
-    (free-from .ensures .so (not-false (free-from .result) (else3 .if3 .left))) (levels-in .ensures .so (not-false (levels-in .result) (else1 .if1 .left)))
+    (free-from .ensures .so (not-false (free-from .result) (else3 .if3 .left))) (none-above .ensures .so (not-false (none-above .result) (else1 .if1 .left)))
     (all-in .ensures .so (not-false (all-in .result) (else2 .if2 .left)))
     (lent-off (args .n) (args .m) (args .xs .now) _ _ _ (pre .1 .0) (omega (arith, build .kept .1 .1 .1 .0, pre .0 .heads-room)) (omega (arith, build .kept .1 .1 .1 .1 .0, pre .0 .nexts-room)) (off-from .kept .1 .0)
     (off-from .ensures) (build .ensures))
@@ -103,7 +103,7 @@ pub first-in-spec : {M : Type 1} → statement M
 first-in-spec =
     tie.close
     (tie.spec
-    levels-in-requires
+    none-above-requires
     returns
     all-in-requires
     returns-2

@@ -5,7 +5,7 @@ use mathlib.Core.Logic.{inl, inr, ⊎-elim}
 use Rattle.meaning.specs.Tables.{at}
 use Rattle.lent.specs.Decides.{Decides}
 use Rattle.sound.specs.Parts.{AllBelow}
-use Rattle.sound.proofs.Columns.{decides-none, decides-next}
+use Rattle.lent.proofs.Cells.{decides-none, decides-next}
 use borrow.Author.Needs.{needs}
 use native.Mathlib.Omega.{arith}
 use Rattle.sound.proofs.steps_in.Statement.{statement}
