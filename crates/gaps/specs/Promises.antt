@@ -1,17 +1,37 @@
 -- The promises of the eleven calls over the lists and the gap table that are lent, each stated once, as those without the gap table stand in `lent`: public calls and exports cite them.
 -- Where a call is lent a list, it stands behind the gap table; then what was asked; then what is given back, the counts and what the call may write as it left them.
-use Prim.Native.Nat.{ℕ}
+use Prim.Native.Nat.{ℕ, _+_, _≤_}
 use mathlib.Core.List.{List}
-use lib.IntN.{ℤ}
+use mathlib.Core.Bool.{cond}
+use lib.Dec.{eqb}
+use lib.IntN.{ℤ, pos, negsuc}
 use Rattle.meaning.specs.declared.Counts.{Counts}
 use Rattle.meaning.specs.declared.Reply.{Reply}
 use Rattle.meaning.specs.Rules.{rule}
 use Rattle.meaning.specs.Tables.{Tables}
-use Rattle.meaning.specs.Promise.{Given, Obeys, given}
+use Rattle.meaning.specs.Promise.{Given, Obeys, given, gave}
+use Rattle.meaning.specs.Reckoning.{up, dn}
 use Rattle.meaning.specs.Calls.{with-list, with-lists}
 use Rattle.lent.specs.Lent.{tables}
+use Rattle.gaps.specs.declared.GapReply.{GapReply}
 use Rattle.gaps.specs.Gaps.{Gaps}
 use Rattle.gaps.specs.Beside.{beside, open-beside, watch-beside, add-beside, mark-beside, back-beside, withdraw-beside, trial-beside, consequences-beside, ring-check-beside, last-day-beside, gap-beside}
+
+-- A limit is told in two values: 1 and its size where it is not below 0, 2 and its size where it is.
+abbrev pub kind-of : ℤ → ℕ
+kind-of (pos n) = 1
+kind-of (negsuc n) = 2
+
+abbrev pub size-of : ℤ → ℕ
+size-of z = up z + dn z
+
+-- What Gap gives, where a caller has it as its number, whether the pair has a limit, and the limit.
+abbrev pub gap-given : ℕ → ℕ → ℤ → Given
+gap-given number limited limit = gave number (cond (eqb limited 0) 0 (kind-of limit)) (size-of limit)
+
+-- A reply of Gap.
+abbrev pub gap-reply : Counts → ℕ → ℕ → ℤ → GapReply
+gap-reply c k l z = record { counts = c; number = k; limited = l; limit = z }
 
 module _ (counts : Counts) (xs ys : List ℕ) (cs : List ℤ) (days levels wxs wys : List ℕ) (wcs : List ℤ) (gaps : Gaps) where
   -- The tables as they were lent.
@@ -86,8 +106,11 @@ module _ (counts : Counts) (xs ys : List ℕ) (cs : List ℤ) (days levels wxs w
   abbrev pub TellsLastDay : Reply → Type 0
   TellsLastDay r = TellsLastDayTo (given r) (r .counts)
 
-  abbrev pub TellsGapTo : ℕ → ℕ → Given → Counts → Type 0
-  TellsGapTo x y g counts′ = Obeys (gap-beside x y (beside lent gaps)) (beside lent gaps) g (beside (tables counts′ xs ys cs days levels wxs wys wcs) gaps)
+  -- What Gap gives is told so, and `limited` is 1 or 0.
+  pub record TellsGapTo (x y number limited : ℕ) (limit : ℤ) (counts′ : Counts) : Type 0 where
+    pub obeys :
+        Obeys (gap-beside x y (beside lent gaps)) (beside lent gaps) (gap-given number limited limit) (beside (tables counts′ xs ys cs days levels wxs wys wcs) gaps)
+    pub flag : limited ≤ 1
 
-  abbrev pub TellsGap : ℕ → ℕ → Reply → Type 0
-  TellsGap x y r = TellsGapTo x y (given r) (r .counts)
+  abbrev pub TellsGap : ℕ → ℕ → GapReply → Type 0
+  TellsGap x y r = TellsGapTo x y (r .number) (r .limited) (r .limit) (r .counts)
