@@ -1,0 +1,4 @@
+-- What follows from the meaning of the gap table alone.
+pub mod Closing
+pub mod Stages
+pub mod Limits
