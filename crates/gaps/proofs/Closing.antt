@@ -12,7 +12,7 @@ use borrow.Author.Tests.{lt-ltb, le-ltb, lt-leb, le-leb}
 use Rattle.meaning.specs.Bounds.{NO-LIMIT}
 use Rattle.meaning.specs.Rules.{Rule, rule, InSteps, Plan, Always, Arrangement}
 use Rattle.meaning.specs.Reckoning.{up, dn}
-use Rattle.meaning.proofs.Whole.{→le, →eq, minus-is, keeps→, →keeps, plan→, →plan}
+use Rattle.meaning.proofs.Whole.{le→, →le, →eq, minus-is, keeps→, →keeps, plan→, →plan}
 use Rattle.gaps.specs.Gaps.{Limit, NoLimit, Says}
 use Rattle.gaps.specs.Slacks.{NONE, Spares, cell-of}
 
@@ -20,6 +20,11 @@ use Rattle.gaps.specs.Slacks.{NONE, Spares, cell-of}
 pub parts-few : (z : ℤ) (a b : ℕ) → a + dn z ≡ b + up z → (up z ≤ a) × (dn z ≤ b)
 parts-few (pos z) a b e = omega arith
 parts-few (negsuc z) a b e = omega arith
+
+-- A whole number that is at most a lies no further above 0 than a.
+pub up-most : (a : ℕ) (z : ℤ) → z ≤ℤ pos a → up z ≤ a
+up-most a (pos z) h = omega (arith, le→ (pos z) (pos a) h)
+up-most a (negsuc z) h = omega arith
 
 -- The rule that the slack w of the pair x, y stands for holds in every arrangement.
 abbrev pub Holds : (ℕ → Rule) → (ℕ → Type 0) → (ℕ → ℕ) → ℕ → ℕ → ℕ → Type 0

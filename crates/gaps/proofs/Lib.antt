@@ -2,3 +2,4 @@
 pub mod Closing
 pub mod Stages
 pub mod Limits
+pub mod Raising

@@ -27,7 +27,7 @@ abbrev pub staged : ℕ → (ℕ → ℕ → ℕ) → ℕ → ℕ → ℕ
 staged k W x y = min (W x y) (W x k + W k y)
 
 -- The smaller of two numbers is the one or the other.
-min-either : (a b : ℕ) → ((a ≤ b) × (min a b ≡ a)) ⊎ ((b ≤ a) × (min a b ≡ b))
+pub min-either : (a b : ℕ) → ((a ≤ b) × (min a b ≡ a)) ⊎ ((b ≤ a) × (min a b ≡ b))
 min-either a b = tell (decLe a b)
   where
     tell : Dec (a ≤ b) → ((a ≤ b) × (min a b ≡ a)) ⊎ ((b ≤ a) × (min a b ≡ b))
