@@ -16,6 +16,21 @@ use Rattle.meaning.proofs.Whole.{le→, →le, →eq, minus-is, keeps→, →ke
 use Rattle.gaps.specs.Gaps.{Limit, NoLimit, Says}
 use Rattle.gaps.specs.Slacks.{NONE, Spares, cell-of}
 
+-- a where A holds, and else b.
+pub picked : {A : Type 0} → ℕ → ℕ → Dec A → ℕ
+picked a b (yes h) = a
+picked a b (no h) = b
+
+pub picked-yes : {A : Type 0} (a b : ℕ) (d : Dec A) → A → picked a b d ≡ a
+unfolding picked
+picked-yes a b (yes h) so = refl
+picked-yes a b (no h) so = absurd (h so)
+
+pub picked-no : {A : Type 0} (a b : ℕ) (d : Dec A) → (A → ⊥) → picked a b d ≡ b
+unfolding picked
+picked-no a b (yes h) not-so = absurd (not-so h)
+picked-no a b (no h) not-so = refl
+
 -- A difference of a and b is no further above 0 than a, and no further below it than b.
 pub parts-few : (z : ℤ) (a b : ℕ) → a + dn z ≡ b + up z → (up z ≤ a) × (dn z ≤ b)
 parts-few (pos z) a b e = omega arith

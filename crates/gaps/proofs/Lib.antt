@@ -3,3 +3,5 @@ pub mod Closing
 pub mod Stages
 pub mod Limits
 pub mod Raising
+pub mod Making
+pub mod Right

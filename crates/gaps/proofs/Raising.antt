@@ -13,24 +13,9 @@ use Rattle.meaning.proofs.Whole.{le→, lt→, →eq, add-is, keeps→, →keep
 use Rattle.meaning.proofs.More.{more-all, arrangement-new, arrangement-old}
 use Rattle.gaps.specs.Gaps.{Limit, NoLimit, Says}
 use Rattle.gaps.specs.Slacks.{Spares, NEAR, Near, SmallerOf}
-use Rattle.gaps.proofs.Closing.{parts-few, up-most, Holds, →holds, holds-over, Closed, Tells, tells-says}
+use Rattle.gaps.proofs.Closing.{picked, picked-yes, picked-no, parts-few, up-most, Holds, →holds, holds-over, Closed, Tells, tells-says}
 use Rattle.gaps.proofs.Stages.{min-either}
 use Rattle.gaps.proofs.Limits.{always-over}
-
--- a where A holds, and else b.
-picked : {A : Type 0} → ℕ → ℕ → Dec A → ℕ
-picked a b (yes h) = a
-picked a b (no h) = b
-
-picked-yes : {A : Type 0} (a b : ℕ) (d : Dec A) → A → picked a b d ≡ a
-unfolding picked
-picked-yes a b (yes h) so = refl
-picked-yes a b (no h) so = absurd (h so)
-
-picked-no : {A : Type 0} (a b : ℕ) (d : Dec A) → (A → ⊥) → picked a b d ≡ b
-unfolding picked
-picked-no a b (yes h) not-so = absurd (not-so h)
-picked-no a b (no h) not-so = refl
 
 -- The slack that the cell c stands for, between steps of the days a and b; `none` where it has no limit.
 pub slack-of : ℕ → ℕ → ℕ → ℤ → ℕ
