@@ -5,5 +5,7 @@ pub mod Limits
 pub mod Raising
 pub mod Making
 pub mod Right
+pub mod Squares
 pub mod Lifting
 pub mod Keeping
+pub mod Fixing
