@@ -5,3 +5,4 @@ pub mod Limits
 pub mod Raising
 pub mod Making
 pub mod Right
+pub mod Squares
