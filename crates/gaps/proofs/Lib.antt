@@ -9,3 +9,5 @@ pub mod Squares
 pub mod Lifting
 pub mod Keeping
 pub mod Fixing
+pub mod Meeting
+pub mod Screens
