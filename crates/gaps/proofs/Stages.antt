@@ -87,6 +87,21 @@ staged-next n R H p none k most W in-k s = record {
     small x y in-x in-y known (inr (h, e)) =
         omega (arith, e, s .small x k in-x in-k (omega (arith, e)), s .small k y in-k in-y (omega (arith, e)))
 
+-- The pair of a step with itself keeps the slack 0 in every stage.
+pub stages-self : (n : ℕ) (W : ℕ → ℕ → ℕ) → ((v : ℕ) → v < n → W v v ≡ 0) → (k v : ℕ) → v < n → stages k W v v ≡ 0
+unfolding stages
+stages-self n W self zero v below = self v below
+stages-self n W self (suc k) v below = omega (arith, stages-self n W self k v below)
+
+-- So stage k leaves the column and the row of the step k as they are: a stage can be made in place.
+pub stages-column : (n : ℕ) (W : ℕ → ℕ → ℕ) → ((v : ℕ) → v < n → W v v ≡ 0) → (k x : ℕ) → k < n → stages (suc k) W x k ≡ stages k W x k
+unfolding stages
+stages-column n W self k x below = omega (arith, stages-self n W self k k below)
+
+pub stages-row : (n : ℕ) (W : ℕ → ℕ → ℕ) → ((v : ℕ) → v < n → W v v ≡ 0) → (k y : ℕ) → k < n → stages (suc k) W k y ≡ stages k W k y
+unfolding stages
+stages-row n W self k y below = omega (arith, stages-self n W self k k below)
+
 -- The bound of the slacks that are known, after k stages.
 unfoldable pub bound : ℕ → ℕ
 bound zero = 33554432
