@@ -1,16 +1,15 @@
 -- Limits: what a cell says is fixed, tells every rule of its pair, and speaks of the rules held alone.
-use Prim.Native.Nat.{ℕ, _+_, _≤_, _<_}
+use Prim.Native.Nat.{ℕ}
 use native.Mathlib.Omega.{arith}
-use mathlib.Core.Path.{_≡_, refl, sym, _∙_, subst}
-use mathlib.Core.Logic.{_⊎_, inl, inr, _↔_}
+use mathlib.Core.Path.{_≡_, sym, _∙_}
+use mathlib.Core.Logic.{inl, inr, _↔_}
 use lib.IntN.{ℤ, pos, _+ℤ_}
 use lib.Signed.{_≤ℤ_}
 use Rattle.meaning.specs.Bounds.{NO-LIMIT}
 use Rattle.meaning.specs.Rules.{Rule, rule, Always}
-use Rattle.meaning.specs.Reckoning.{up, dn}
 use Rattle.meaning.proofs.Whole.{le→, →le, →eq, add-is, keeps→, →keeps}
 use Rattle.meaning.proofs.Theory.{arrangement-same}
-use Rattle.gaps.specs.Gaps.{Limit, NoLimit, Says}
+use Rattle.gaps.specs.Gaps.{Says}
 
 -- ---- the order of whole numbers
 

@@ -1,11 +1,10 @@
 -- The slacks of single rules can be made: rule by rule, the smaller each time.
-use Prim.Native.Nat.{ℕ, zero, suc, _+_, _≤_, _<_, min}
+use Prim.Native.Nat.{ℕ, zero, suc, _≤_, _<_, min}
 use native.Mathlib.Omega.{arith}
 use native.Mathlib.Decide.{ℕ-discrete}
 use mathlib.Core.Path.{_≡_, refl, sym, subst}
 use mathlib.Core.Logic.{_⊎_, inl, inr}
 use Rattle.meaning.specs.Rules.{Rule, Plan}
-use Rattle.meaning.specs.Reckoning.{up, dn}
 use Rattle.meaning.proofs.Below.{both?}
 use Rattle.gaps.specs.Slacks.{NONE, Spares, Slacks}
 use Rattle.gaps.proofs.Closing.{picked, picked-yes, picked-no, spares-some}

@@ -7,11 +7,9 @@ use mathlib.Core.List.{List, [], _∷_}
 use lib.ListN.{length, getD, List·getD-eq-default}
 use lib.Seq.{ext-getD}
 use lib.IntN.{ℤ, pos}
-use Rattle.meaning.specs.Bounds.{YARD-STEPS}
 use Rattle.meaning.specs.Tables.{Tables, Sound}
 use Rattle.meaning.specs.Calls.{rules-of, held-in}
-use Rattle.gaps.specs.Gaps.{Gaps, Square, cell, Says, InYard, Right, Remade}
-use Rattle.gaps.specs.Slacks.{Near}
+use Rattle.gaps.specs.Gaps.{Gaps, Square, cell, Says, InYard, Remade}
 use Rattle.gaps.proofs.Limits.{says-unique}
 use Rattle.gaps.proofs.Right.{limit-cell, in-yard?}
 
@@ -29,6 +27,10 @@ remade-same t before a b one two =
     same : (x y : ℕ) → Dec (InYard (t .counts .steps) x y) → cell a x y ≡ cell b x y
     same x y (yes yard) = says-unique {R = rules-of t} {H = held-in t} {x = x} {y = y} (one .right x y yard) (two .right x y yard)
     same x y (no outside) = one .others x y outside ∙ sym (two .others x y outside)
+
+-- A square stays one.
+pub remade-square : (t : Tables) (before after : Gaps) → Remade t before after → Square before → Square after
+remade-square t before after remade square = record { rows = remade .as-many ∙ square .rows; columns = λ x h. remade .as-long x ∙ square .columns x h }
 
 -- ---- a table of given cells
 

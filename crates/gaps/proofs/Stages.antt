@@ -1,15 +1,13 @@
 -- The stages of the slacks: after as many as there are steps the slacks of single rules are closed.
 use Prim.Native.Nat.{ℕ, zero, suc, _+_, _-_, _*_, _≤_, _<_, min}
 use native.Mathlib.Omega.{arith}
-use native.Mathlib.Decide.{ℕ-discrete, decLe, decLt}
-use mathlib.Core.Path.{_≡_, refl, sym, _∙_, ap, subst}
+use native.Mathlib.Decide.{ℕ-discrete, decLe}
+use mathlib.Core.Path.{_≡_, sym, subst}
 use mathlib.Core.Logic.{_⊎_, inl, inr}
-use lib.IntN.{ℤ, pos, negℤ}
-use lib.Signed.{_≤ℤ_}
-use Rattle.meaning.specs.Bounds.{YARD-STEPS, NO-LIMIT, LARGEST}
-use Rattle.meaning.specs.Rules.{Rule, rule, InSteps, InAmount, InBounds, Plan}
-use Rattle.meaning.specs.Reckoning.{up, dn}
-use Rattle.meaning.proofs.Whole.{le→, minus-is, up-neg, dn-neg}
+use lib.IntN.{pos}
+use Rattle.meaning.specs.Bounds.{YARD-STEPS, LARGEST}
+use Rattle.meaning.specs.Rules.{Rule, InBounds, Plan}
+use Rattle.meaning.proofs.Whole.{le→}
 use Rattle.gaps.specs.Gaps.{Says}
 use Rattle.gaps.specs.Slacks.{NONE, Spares, Slacks, stages, cell-of, Near}
 use Rattle.gaps.proofs.Closing.{parts-few, Holds, holds-over, holds-self, holds-rule, Closed, Tells, cell-tells, closed-says}
@@ -89,6 +87,21 @@ staged-next n R H p none k most W in-k s = record {
     small x y in-x in-y known (inr (h, e)) =
         omega (arith, e, s .small x k in-x in-k (omega (arith, e)), s .small k y in-k in-y (omega (arith, e)))
 
+-- The pair of a step with itself keeps the slack 0 in every stage.
+pub stages-self : (n : ℕ) (W : ℕ → ℕ → ℕ) → ((v : ℕ) → v < n → W v v ≡ 0) → (k v : ℕ) → v < n → stages k W v v ≡ 0
+unfolding stages
+stages-self n W self zero v below = self v below
+stages-self n W self (suc k) v below = omega (arith, stages-self n W self k v below)
+
+-- So stage k leaves the column and the row of the step k as they are: a stage can be made in place.
+pub stages-column : (n : ℕ) (W : ℕ → ℕ → ℕ) → ((v : ℕ) → v < n → W v v ≡ 0) → (k x : ℕ) → k < n → stages (suc k) W x k ≡ stages k W x k
+unfolding stages
+stages-column n W self k x below = omega (arith, stages-self n W self k k below)
+
+pub stages-row : (n : ℕ) (W : ℕ → ℕ → ℕ) → ((v : ℕ) → v < n → W v v ≡ 0) → (k y : ℕ) → k < n → stages (suc k) W k y ≡ stages k W k y
+unfolding stages
+stages-row n W self k y below = omega (arith, stages-self n W self k k below)
+
 -- The bound of the slacks that are known, after k stages.
 unfoldable pub bound : ℕ → ℕ
 bound zero = 33554432
@@ -154,6 +167,18 @@ module _ (n : ℕ) (R : ℕ → Rule) (H : ℕ → Type 0) (p : ℕ → ℕ) (W 
   unfolding stages bound
   staged-all zero h = staged-none
   staged-all (suc k) h = staged-next n R H p NONE k (bound k) (stages k W) (omega arith) (staged-all k (omega arith))
+
+  -- No slack is ever above NONE.
+  pub stages-most : (k x y : ℕ) → x < n → y < n → stages k W x y ≤ NONE
+  unfolding stages
+  stages-most zero x y in-x in-y = told (slacks .given x y in-x in-y)
+    where
+      told :
+          (W x y ≡ NONE) ⊎ ((x ≡ y) × (W x y ≡ 0)) ⊎ ((i : ℕ) × H i × (R i .first ≡ x) × (R i .second ≡ y) × Spares R p i (W x y)) → W x y ≤ NONE
+      told (inl e) = omega arith
+      told (inr (inl (e, z))) = omega arith
+      told (inr (inr (i, held, e, f, spares))) = omega (arith, spares-few i (W x y) held spares)
+  stages-most (suc k) x y in-x in-y = omega (arith, stages-most k x y in-x in-y)
 
   -- After n stages they are closed.
   pub slacks-closed : Closed n R H p NONE 2199023255552 (stages n W)
