@@ -37,8 +37,7 @@ module _ (t : Tables) (a : Gaps) (kept : Kept t) (right : Right t a) (yard : t .
   -- **A watched rule stands in the first list exactly when its limit is at most its amount.**
   pub first-list-limited : (j : ℕ) → j < t .counts .watched → In j (first-list s) ↔ Limited a (rule-at (t .watched) j)
   first-list-limited j below =
-      let split = kept-splits t (s .one) (s .two) (s .one′) (s .two′) (s .answer) (s .after) kept (s .long-one) (s .long-two) (s .made) .1 in
-      (
+      let split = kept-splits t (s .one) (s .two) (s .one′) (s .two′) (s .answer) (s .after) kept (s .long-one) (s .long-two) (s .made) .1 in (
         λ there. watched-always j below .0 (all-in (λ i. (i < t .counts .watched) × Always (rules-of t) (held-in t) (rule-at (t .watched) i)) (first-list s) j (split .in-all .holds .nothing-else) there .1),
         λ limited. split .in-all .holds .all-there j below (watched-always j below .1 limited),
       )

@@ -54,7 +54,7 @@ same-length-6 c = search needs
 returns : tie.Need-returns
 returns c =
     let has = c .before .before .before .before .before .before .before .before .before .before .before .before .has in
-    rw (c .refused .ensures) (refused-with _ _ _ _ _ (c .before .before .before .before .verdict .ensures) _ _ (omega (arith, c .before .if1 .taken)) (has .ensures) (λ f. f))
+    rw (c .refused .ensures) (refused-with _ _ _ _ _ _ (c .before .before .before .before .verdict .ensures) _ _ (omega (arith, c .before .if1 .taken)) (has .ensures) (λ f. f))
 
 slice-aggregate-add : tie.Need-slice-aggregate-add
 slice-aggregate-add c = search needs
@@ -68,9 +68,9 @@ add-requires c κs =
     let at-verdict = else1 .before .before .before in
     let has = at-verdict .before .before .before .before .before .before .before .before .has in
     let chains = at-verdict .verdict .ensures .chained (omega (arith, else1 .if1 .left)) in
-    let border = entered _ _ _ _ _ (at-verdict .verdict .ensures) (omega (arith, else1 .if1 .left)) in (
+    let border = entered _ _ _ _ _ _ (at-verdict .verdict .ensures) (omega (arith, else1 .if1 .left)) in (
       base _ _ _ _ _ _ _ _ _ border _ _ chains,
-      (chains, (counted _ _ _ _ _ _ _ _ _ border, lists-entered _ _ _ _ _ (at-verdict .verdict .ensures) (has .ensures) (omega (arith, else1 .if1 .left)))),
+      (chains, (counted _ _ _ _ _ _ _ _ _ border, lists-entered _ _ _ _ _ _ (at-verdict .verdict .ensures) (has .ensures) (omega (arith, else1 .if1 .left)))),
     )
 
 same-length-7 : tie.Need-same-length-7
@@ -98,7 +98,7 @@ returns-2 c =
     let at-verdict = else1 .before .before .before in
     let start = at-verdict .before .before .before .before .before .before .before .before .before .before .before .before .before .before .before .before .before in
     (rw (toZ-ofZ w32 (start .args .c) (start .fits .c)) at (at-add .add .ensures))
-    (start .args .wxs .now) (start .args .wys .now) (start .args .wcs .now) (entered _ _ _ _ _ (at-verdict .verdict .ensures) (omega (arith, else1 .if1 .left)))
+    (start .args .wxs .now) (start .args .wys .now) (start .args .wcs .now) (entered _ _ _ _ _ _ (at-verdict .verdict .ensures) (omega (arith, else1 .if1 .left)))
 
 pub add-spec : {M : Type 1} → statement M
 add-spec =

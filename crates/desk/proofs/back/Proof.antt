@@ -33,7 +33,7 @@ same-length-2 : tie.Need-same-length-2
 same-length-2 c = search needs
 
 returns : tie.Need-returns
-returns c = rw (c .refused .ensures) (refused-alone _ _ _ _ _ (c .before .before .before .before .verdict .ensures) _ _ (omega (arith, c .before .if1 .taken)) refl (λ f. f))
+returns c = rw (c .refused .ensures) (refused-alone _ _ _ _ _ _ (c .before .before .before .before .verdict .ensures) _ _ (omega (arith, c .before .if1 .taken)) refl (λ f. f))
 
 slice-aggregate-back : tie.Need-slice-aggregate-back
 slice-aggregate-back c = search needs
@@ -45,7 +45,7 @@ back-requires : tie.Need-back-requires
 back-requires c κs =
     let else1 = c .before .before .before .before in
     let verdict = else1 .before .before .before .verdict in
-    (entered _ _ _ _ _ (verdict .ensures) (omega (arith, else1 .if1 .left)), verdict .ensures .chained (omega (arith, else1 .if1 .left)))
+    (entered _ _ _ _ _ _ (verdict .ensures) (omega (arith, else1 .if1 .left)), verdict .ensures .chained (omega (arith, else1 .if1 .left)))
 
 same-length-3 : tie.Need-same-length-3
 same-length-3 c = search needs

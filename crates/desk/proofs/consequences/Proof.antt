@@ -42,7 +42,7 @@ same-length-2 c = search needs
 returns : tie.Need-returns
 returns c =
     let both-have = c .before .before .before .before .before .before .before .both-have in
-    rw (c .refused .ensures) (refused-with-two _ _ _ _ _ (c .before .before .before .before .verdict .ensures) _ _ (omega (arith, c .before .if1 .taken)) (both-have .ensures) (λ f. f))
+    rw (c .refused .ensures) (refused-with-two _ _ _ _ _ _ (c .before .before .before .before .verdict .ensures) _ _ (omega (arith, c .before .if1 .taken)) (both-have .ensures) (λ f. f))
 
 slice-aggregate-consequences : tie.Need-slice-aggregate-consequences
 slice-aggregate-consequences c = search needs
@@ -55,8 +55,8 @@ consequences-requires c κs =
     let at-verdict = c .before .before .before .before .before .before .before in
     let both-have = at-verdict .before .before .before .both-have in
     let is : at-verdict .verdict .result ≡ 0 = omega (arith, c .before .before .before .before .if1 .left) in
-    let room = lists-entered _ _ _ _ _ (at-verdict .verdict .ensures) (both-have .ensures) is in
-    (entered _ _ _ _ _ (at-verdict .verdict .ensures) is, (room .0, (room .1, at-verdict .verdict .ensures .chained is)))
+    let room = lists-entered _ _ _ _ _ _ (at-verdict .verdict .ensures) (both-have .ensures) is in
+    (entered _ _ _ _ _ _ (at-verdict .verdict .ensures) is, (room .0, (room .1, at-verdict .verdict .ensures .chained is)))
 
 same-length-3 : tie.Need-same-length-3
 same-length-3 c = search needs

@@ -23,14 +23,14 @@ refused-requires : tie.Need-refused-requires
 refused-requires c κs = search needs
 
 returns : tie.Need-returns
-returns c = rw (c .refused .ensures) (refused-alone _ _ _ _ _ (c .before .before .before .before .verdict .ensures) _ _ (omega (arith, c .before .if1 .taken)) refl (λ f. f))
+returns c = rw (c .refused .ensures) (refused-alone _ _ _ _ _ _ (c .before .before .before .before .verdict .ensures) _ _ (omega (arith, c .before .if1 .taken)) refl (λ f. f))
 
 done-requires : tie.Need-done-requires
 done-requires c κs = search needs
 
 returns-2 : tie.Need-returns-2
 returns-2 c =
-    let border = entered _ _ _ _ _ (c .before .before .before .before .verdict .ensures) (omega (arith, c .before .if1 .left)) in
+    let border = entered _ _ _ _ _ _ (c .before .before .before .before .verdict .ensures) (omega (arith, c .before .if1 .left)) in
     rw (c .done .ensures) (obeys-done _ _ _ 0 _ (border .room, (border .sound, tt)) (record { day = border .sound .last-largest; no-second = refl; all-stays = refl }))
 
 pub last-day-spec : {M : Type 1} → statement M

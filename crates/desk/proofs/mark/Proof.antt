@@ -27,10 +27,10 @@ refused-requires : tie.Need-refused-requires
 refused-requires c κs = search needs
 
 returns : tie.Need-returns
-returns c = rw (c .refused .ensures) (refused-alone _ _ _ _ _ (c .before .before .before .before .verdict .ensures) _ _ (omega (arith, c .before .if1 .taken)) refl (λ f. f))
+returns c = rw (c .refused .ensures) (refused-alone _ _ _ _ _ _ (c .before .before .before .before .verdict .ensures) _ _ (omega (arith, c .before .if1 .taken)) refl (λ f. f))
 
 mark-requires : tie.Need-mark-requires
-mark-requires c κs = entered _ _ _ _ _ (c .before .before .before .verdict .ensures) (omega (arith, c .if1 .left))
+mark-requires c κs = entered _ _ _ _ _ _ (c .before .before .before .verdict .ensures) (omega (arith, c .if1 .left))
 
 returns-2 : tie.Need-returns-2
 returns-2 c = search needs

@@ -42,7 +42,7 @@ same-length-2 c = search needs
 returns : tie.Need-returns
 returns c =
     let both-have = c .before .before .before .before .before .before .before .both-have in
-    rw (c .refused .ensures) (refused-with-two _ _ _ _ _ (c .before .before .before .before .verdict .ensures) _ _ (omega (arith, c .before .if1 .taken)) (both-have .ensures) (λ f. f))
+    rw (c .refused .ensures) (refused-with-two _ _ _ _ _ _ (c .before .before .before .before .verdict .ensures) _ _ (omega (arith, c .before .if1 .taken)) (both-have .ensures) (λ f. f))
 
 slice-aggregate-trial : tie.Need-slice-aggregate-trial
 slice-aggregate-trial c = search needs
@@ -55,9 +55,9 @@ trial-requires c κs =
     let else1 = c .before .before .before .before in
     let at-verdict = else1 .before .before .before in
     let both-have = at-verdict .before .before .before .both-have in
-    let room = lists-entered _ _ _ _ _ (at-verdict .verdict .ensures) (both-have .ensures) (omega (arith, else1 .if1 .left)) in
+    let room = lists-entered _ _ _ _ _ _ (at-verdict .verdict .ensures) (both-have .ensures) (omega (arith, else1 .if1 .left)) in
     let chains = at-verdict .verdict .ensures .chained (omega (arith, else1 .if1 .left)) in
-    let border = entered _ _ _ _ _ (at-verdict .verdict .ensures) (omega (arith, else1 .if1 .left)) in
+    let border = entered _ _ _ _ _ _ (at-verdict .verdict .ensures) (omega (arith, else1 .if1 .left)) in
     (base _ _ _ _ _ _ _ _ _ border _ _ chains, (chains, (counted _ _ _ _ _ _ _ _ _ border, record { one-room = room .0; two-room = room .1 })))
 
 same-length-3 : tie.Need-same-length-3
@@ -72,7 +72,7 @@ returns-2 c =
     let at-verdict = else1 .before .before .before in
     let start = at-verdict .before .before .before .before .before .before .before .before .before .before .before .before .before .before in
     (rw (toZ-ofZ w32 (start .args .c) (start .fits .c)) at (c .before .before .before .before .before .before .trial .ensures))
-    (start .args .wxs .now) (start .args .wys .now) (start .args .wcs .now) (entered _ _ _ _ _ (at-verdict .verdict .ensures) (omega (arith, else1 .if1 .left)))
+    (start .args .wxs .now) (start .args .wys .now) (start .args .wcs .now) (entered _ _ _ _ _ _ (at-verdict .verdict .ensures) (omega (arith, else1 .if1 .left)))
 
 pub trial-spec : {M : Type 1} → statement M
 trial-spec =

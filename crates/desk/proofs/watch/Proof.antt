@@ -38,12 +38,12 @@ same-length-3 : tie.Need-same-length-3
 same-length-3 c = search needs
 
 returns : tie.Need-returns
-returns c = rw (c .refused .ensures) (refused-alone _ _ _ _ _ (c .before .before .before .before .verdict .ensures) _ _ (omega (arith, c .before .if1 .taken)) refl (λ f. f))
+returns c = rw (c .refused .ensures) (refused-alone _ _ _ _ _ _ (c .before .before .before .before .verdict .ensures) _ _ (omega (arith, c .before .if1 .taken)) refl (λ f. f))
 
 watch-requires : tie.Need-watch-requires
 watch-requires c κs =
     let verdict = c .before .before .before .before .before .before .verdict in
-    entered _ _ _ _ _ (verdict .ensures) (omega (arith, c .before .before .before .if1 .left))
+    entered _ _ _ _ _ _ (verdict .ensures) (omega (arith, c .before .before .before .if1 .left))
 
 same-length-4 : tie.Need-same-length-4
 same-length-4 c = search needs
