@@ -4,6 +4,8 @@ ghost use mathlib.Core.Path.{_≡_};
 ghost use Prim.Native.Nat.{_≤_, _<_};
 ghost use lib.ListN.{length};
 ghost use Rattle.meaning.specs.Bounds.{ROOM, TEXT};
+ghost use mathlib.Core.Bool.{true};
+ghost use Rattle.text.specs.Lexicon.{END, token-at};
 ghost use Rattle.text.specs.Table.{TABLE};
 ghost use Rattle.script_command.specs.Carrying.{in-hand, Maintained};
 ghost use Rattle.program.specs.Handing.{status, Ends, Played, Answered, Runs};
@@ -148,6 +150,25 @@ fn play(s: &[u8]) -> u32
     )
 }
 
+// Whether no command stands in the text: it has nothing but white space and comments.
+fn is_bare(s: &[u8]) -> bool
+    ensures { λ r. ⌜ (r ≡ true → token-at (now (s .entry)) 0 .kind ≡ END) ⌝ }
+{
+    let tab = text::TABLE;
+    let first = text::token(s, &tab, 0);
+    first.kind == text::END
+}
+
+// The script on fresh tables, which are made only where it has a command.
+fn play_any(s: &[u8]) -> u32
+    ensures { λ r. ⌜ Played (now (s .entry)) r ⌝ }
+{
+    if is_bare(s) {
+        return ENDED;
+    }
+    play(s)
+}
+
 // A script that is too long: its only answer is the refusal.
 fn refuse(s: &[u8]) -> u32
     requires { ⌜ TEXT < length (now s) ⌝ }
@@ -167,7 +188,7 @@ fn answer_text(s: &[u8]) -> u32
     ensures { λ r. ⌜ Answered (now (s .entry)) r ⌝ }
 {
     if s.len() <= meaning::TEXT {
-        return play(s);
+        return play_any(s);
     }
     refuse(s)
 }
