@@ -11,7 +11,7 @@ use Rattle.meaning.specs.Bounds.{STEPS}
 use Rattle.meaning.specs.Tables.{at}
 use Rattle.shortest.specs.Walks.{Open}
 use Rattle.shortest.specs.Layers.{Deep, Layer, Begun}
-use Rattle.shortest.specs.Contracts.{rules, spares, from, Kept, Copied, FollowedBy, Advanced, Seekable, Fewest, Within}
+use Rattle.shortest.specs.Contracts.{rules, spares, from, Kept, Copied, FollowedBy, Raised, Advanced, Seekable, Fewest, Within}
 use Rattle.shortest.proofs.Layers.{way-wider, layer-none, layer-same, layer-next}
 use Rattle.shortest.proofs.Cells.{from-first}
 
@@ -20,6 +20,12 @@ module _ (n : ℕ) (H : ℕ → Type 0) (xs ys : List ℕ) (cs : List ℤ) (days
   -- f is layer h of the ways to x.
   abbrev To : ℕ → ℕ → (ℕ → ℕ) → Type 0
   To x h f = Layer n (rules xs ys cs) H (spares xs ys cs days) (at depths) g x t h f
+
+  -- Layer 0 is made.
+  pub begun-layer : (x : ℕ) (cells : List ℕ) → Begun n x t (at cells) → To x 0 (from 0 cells)
+  begun-layer x cells begun =
+      layer-same (rules xs ys cs) H (spares xs ys cs days) x n t (kept .in-steps) (at depths) g 0 (at cells) (from 0 cells) (λ v v-in. sym (from-first cells v))
+      (layer-none (rules xs ys cs) H (spares xs ys cs days) x n t (kept .in-steps) (at depths) g (at cells) begun)
 
   -- A layer is copied.
   copied-layer : (x h a b : ℕ) (before cells : List ℕ) → Copied n a b before cells → To x h (from a before) → To x h (from b cells)
@@ -37,28 +43,24 @@ module _ (n : ℕ) (H : ℕ → Type 0) (xs ys : List ℕ) (cs : List ℤ) (days
 
   -- ---- some number further
 
-  -- From layer lo, which stood in the cells from place b on, layer h stands there; the cells before those are as before.
-  pub record Further (lo h b : ℕ) (before cells : List ℕ) : Type 0 where
-    pub layer : (x : ℕ) → To x lo (from b before) → To x h (from b cells)
-    pub before-kept : (j : ℕ) → j < b → at cells j ≡ at before j
+  pub raised-none : (lo a : ℕ) (cells : List ℕ) → Raised n H xs ys cs days depths g t lo lo a cells cells
+  raised-none lo a cells = record { layer = λ x layer. layer; before-kept = λ j before-it. refl }
 
-  pub further-none : (lo b : ℕ) (cells : List ℕ) → Further lo lo b cells cells
-  further-none lo b cells = record { layer = λ x layer. layer; before-kept = λ j before-it. refl }
-
-  pub further-more :
-      (lo h b : ℕ) (before cells cells′ after : List ℕ) → Further lo h b before cells → FollowedBy n H xs ys cs days depths (g - (h + 1)) t b (b + STEPS) cells cells′ →
-      Copied n (b + STEPS) b cells′ after → Further lo (h + 1) b before after
-  further-more lo h b before cells cells′ after further followed copied = record {
-    layer = λ x layer. followed-layer x h b (b + STEPS) cells cells′ after followed copied (further .layer x layer);
-    before-kept = λ j before-it. copied .others j (inl before-it) ∙ followed .others j (inl (omega arith)) ∙ further .before-kept j before-it;
+  pub raised-more :
+      (lo h a : ℕ) (before cells cells′ after : List ℕ) → Raised n H xs ys cs days depths g t lo h a before cells →
+      FollowedBy n H xs ys cs days depths (g - (h + 1)) t a (a + STEPS) cells cells′ → Copied n (a + STEPS) a cells′ after → Raised n H xs ys cs days depths g t lo (h + 1) a before after
+  raised-more lo h a before cells cells′ after raised followed copied = record {
+    layer = λ x layer. followed-layer x h a (a + STEPS) cells cells′ after followed copied (raised .layer x layer);
+    before-kept = λ j before-it. copied .others j (inl before-it) ∙ followed .others j (inl (omega arith)) ∙ raised .before-kept j before-it;
   }
 
   -- So far from the layer that was copied there.
   pub advanced :
-      (lo hi a : ℕ) (before cells after : List ℕ) → Copied n a (a + STEPS) before cells → Further lo hi (a + STEPS) cells after → Advanced n H xs ys cs days depths g t lo hi a before after
-  advanced lo hi a before cells after copied further = record {
-    layer = λ x layer. further .layer x (copied-layer x lo a (a + STEPS) before cells copied layer);
-    before-kept = λ j before-it. further .before-kept j before-it ∙ copied .others j (inl before-it);
+      (lo hi a : ℕ) (before cells after : List ℕ) → Copied n a (a + STEPS) before cells → Raised n H xs ys cs days depths g t lo hi (a + STEPS) cells after →
+      Advanced n H xs ys cs days depths g t lo hi a before after
+  advanced lo hi a before cells after copied raised = record {
+    layer = λ x layer. raised .layer x (copied-layer x lo a (a + STEPS) before cells copied layer);
+    before-kept = λ j before-it. raised .before-kept j before-it ∙ copied .others j (inl before-it);
   }
 
   -- ---- the first that has less than t for y
@@ -69,11 +71,7 @@ module _ (n : ℕ) (H : ℕ → Type 0) (xs ys : List ℕ) (cs : List ℤ) (days
     pub none : (k : ℕ) → Open (rules xs ys cs) H (spares xs ys cs days) x y k t → h ≤ k
 
   pub sought-none : (x y : ℕ) (cells : List ℕ) → Begun n x t (at cells) → Sought x y 0 cells
-  sought-none x y cells begun = record {
-    layer = layer-same (rules xs ys cs) H (spares xs ys cs days) x n t (kept .in-steps) (at depths) g 0 (at cells) (from 0 cells) (λ v v-in. sym (from-first cells v))
-        (layer-none (rules xs ys cs) H (spares xs ys cs days) x n t (kept .in-steps) (at depths) g (at cells) begun);
-    none = λ k way. omega arith;
-  }
+  sought-none x y cells begun = record { layer = begun-layer x cells begun; none = λ k way. omega arith }
 
   -- Where it has none below t for y, from which all depths begin, a way has more rules.
   sought-past :

@@ -4,7 +4,7 @@ use native.Mathlib.Omega.{arith}
 use mathlib.Core.Path.{_≡_, refl, sym, _∙_, subst}
 use mathlib.Core.List.{_∷_}
 use Rattle.meaning.specs.Rules.{Rule, InSteps}
-use Rattle.shortest.specs.Walks.{Least, part}
+use Rattle.shortest.specs.Walks.{Least, Open, part}
 use Rattle.shortest.specs.Layers.{Deep, Layer, Lowest}
 use Rattle.shortest.specs.Contracts.{Joins}
 use Rattle.shortest.proofs.Picking.{goes-on, least-more, least-none}
@@ -42,6 +42,14 @@ joins-both R H w x lo mid hi v bound place place′ list list′ v′ bound′ v
   where
     whole : place + (hi - lo) ≡ place′ + (mid - lo)
     whole = omega arith
+
+-- No rule: it goes on where it begins.
+pub joins-none :
+    (R : ℕ → Rule) (H : ℕ → Type 0) (w : ℕ → ℕ) (x h v bound place : ℕ) (list : ℕ → ℕ) → Open R H w x v h bound → Joins R H w x h h v bound place list v bound
+joins-none R H w x h v bound place list way = record { way = way; least = λ g same least. subst (λ (p : ℕ). Least R H w x v h bound (part g p h)) none least }
+  where
+    none : place + (h - h) ≡ place
+    none = omega arith
 
 -- All of it: where it goes on there is no rule left.
 pub joins-all :

@@ -1,4 +1,4 @@
--- A way is found in parts: a span of one rule by the lowest that fits, any other by its upper part and then the rest.
+-- A way is found in parts: a span of one rule by the lowest that fits, any other by its upper part and then what is left of it.
 use Prim.Native.Nat.{ℕ, zero, suc, _+_, _*_, _^_, _-_, _≤_, _<_}
 use native.Mathlib.Omega.{arith}
 use native.Mathlib.Nat.{pow-suc}
@@ -23,6 +23,18 @@ share-fits cap part zero some is share = absurd (omega arith)
 share-fits cap part (suc zero) some is share = (0, refl, omega (arith, share .no-more), λ more. absurd (omega arith))
 share-fits cap part (suc (suc before)) some is share =
     (suc before, refl, omega (arith, pow-suc SHARE before, share .no-more, share .enough), λ more. omega (arith, pow-suc SHARE before, share .no-more, share .enough))
+
+module _ (n : ℕ) (H : ℕ → Type 0) (xs ys : List ℕ) (cs : List ℤ) (days depths : List ℕ) (g t lo hi v bound place a cap : ℕ) (cells list : List ℕ) where
+  -- What is left of a span, the rules lo to top, can be looked for, and once it is found so is the whole.
+  pub record Rest (top step left to : ℕ) (cells′ list′ : List ℕ) : Type 0 where
+    pub rest : Descendable n H xs ys cs days depths g t lo top step left to a cap cells′ list′
+    pub whole :
+        (cells″ list″ : List ℕ) (v′ bound′ : ℕ) → Descended n H xs ys cs days depths g t lo top step left to a cells′ list′ cells″ list″ v′ bound′ →
+        Descended n H xs ys cs days depths g t lo hi v bound place a cells list cells″ list″ v′ bound′
+
+  -- At first that is all of it.
+  pub rest-all : Descendable n H xs ys cs days depths g t lo hi v bound place a cap cells list → Rest hi v bound place cells list
+  rest-all here = record { rest = here; whole = λ cells″ list″ v′ bound′ found. found }
 
 module _ (n : ℕ) (H : ℕ → Type 0) (xs ys : List ℕ) (cs : List ℤ) (days depths : List ℕ) (g t : ℕ) (kept : Kept n H xs ys cs days)
     (deep : Deep (rules xs ys cs) H (spares xs ys cs days) t (at depths)) where
@@ -77,7 +89,7 @@ module _ (n : ℕ) (H : ℕ → Type 0) (xs ys : List ℕ) (cs : List ℤ) (days
   parted lo hi v bound place a cap cells list here more upper part above share =
       let (before, is, part-is, some-part) = share-fits cap part (here .depth) (here .some-cap more) (here .cap-is) share in record {
         some-upper = above .some;
-        some-lower = omega (arith, here .some, above .not-all);
+        some-lower = omega (arith, here .some, more, above .half);
         depth = before;
         cap-is = part-is;
         some-cap = λ several. some-part (omega (arith, above .capped));
@@ -122,7 +134,7 @@ module _ (n : ℕ) (H : ℕ → Type 0) (xs ys : List ℕ) (cs : List ℤ) (days
           (λ u u-in. as-before (a + u) (omega (arith, kept .steps-in)))
 
       -- So the lower part can be looked for, from where the upper part ended.
-      pub lower-descendable : Descendable n H xs ys cs days depths g t lo (hi - upper) v′ bound′ (place + upper) a cap cells₂ list₂
+      lower-descendable : Descendable n H xs ys cs days depths g t lo (hi - upper) v′ bound′ (place + upper) a cap cells₂ list₂
       lower-descendable = record {
         some = parts .some-lower;
         step-in = above .step-in;
@@ -140,7 +152,7 @@ module _ (n : ℕ) (H : ℕ → Type 0) (xs ys : List ℕ) (cs : List ℤ) (days
       }
 
       -- Both parts are the whole.
-      pub both-descended :
+      both-descended :
           (cells₃ list₃ : List ℕ) (v″ bound″ : ℕ) → Descended n H xs ys cs days depths g t lo (hi - upper) v′ bound′ (place + upper) a cells₂ list₂ cells₃ list₃ v″ bound″ →
           Descended n H xs ys cs days depths g t lo hi v bound place a cells list cells₃ list₃ v″ bound″
       both-descended cells₃ list₃ v″ bound″ below = record {
@@ -159,3 +171,12 @@ module _ (n : ℕ) (H : ℕ → Type 0) (xs ys : List ℕ) (cs : List ℤ) (days
           others : (j : ℕ) → (j < place) ⊎ (place + (hi - lo) ≤ j) → at list₃ j ≡ at list j
           others j (inl low) = below .others j (inl (omega arith)) ∙ above .others j (inl low)
           others j (inr high) = below .others j (inr (omega (arith, parts .some-lower))) ∙ above .others j (inr (omega (arith, parts .some-lower)))
+
+      -- The lower part is what is left then.
+      pub rest-lower :
+          (hi₀ v₀ bound₀ place₀ : ℕ) (cells₀ list₀ : List ℕ) → Rest n H xs ys cs days depths g t lo hi₀ v₀ bound₀ place₀ a cap cells₀ list₀ hi v bound place cells list →
+          Rest n H xs ys cs days depths g t lo hi₀ v₀ bound₀ place₀ a cap cells₀ list₀ (hi - upper) v′ bound′ (place + upper) cells₂ list₂
+      rest-lower hi₀ v₀ bound₀ place₀ cells₀ list₀ so-far = record {
+        rest = lower-descendable;
+        whole = λ cells₃ list₃ v″ bound″ below. so-far .whole cells₃ list₃ v″ bound″ (both-descended cells₃ list₃ v″ bound″ below);
+      }

@@ -7,6 +7,7 @@ pub mod Deepening
 pub mod Advancing
 pub mod Descending
 pub mod Finishing
+pub mod Tracing
 pub mod Reasons
 pub mod Writing
 pub mod Cells

@@ -4,7 +4,7 @@ use native.Mathlib.Omega.{arith}
 use mathlib.Core.Path.{_≡_, refl, sym, _∙_, ap, subst}
 use mathlib.Core.List.{List, [], _∷_}
 use mathlib.Core.Logic.{inl, inr}
-use lib.ListN.{length, set, length-set, take}
+use lib.ListN.{length, set, take}
 use lib.Seq.{getD-set-same, getD-set-other}
 use lib.IntN.{ℤ}
 use Rattle.meaning.specs.Bounds.{STEPS}
@@ -15,12 +15,7 @@ use Rattle.lent.specs.Lent.{Biased, BIAS}
 use Rattle.chains.specs.Chains.{ChainsOf, number, linked, ChainsNow, Turnable}
 use Rattle.chains.proofs.Held.{refutes-same, filled-same}
 use Rattle.shortest.specs.Walks.{Open, Least, part}
-use Rattle.shortest.specs.Layers.{Begun}
-use Rattle.shortest.specs.Contracts.{LAYERS, cap-of, rules, spares, from, Leading, Chained, Deepened, Descendable, Descended, Seekable, Fewest, Refuted, ReasonIn}
-use Rattle.shortest.proofs.Cells.{from-first}
-use Rattle.shortest.proofs.Layers.{layer-none, layer-same}
-use Rattle.shortest.proofs.Picking.{least-none}
-use Rattle.shortest.proofs.Descending.{joins-all}
+use Rattle.shortest.specs.Contracts.{LAYERS, rules, spares, Leading, Chained, Deepened, Traceable, Traced, Seekable, Fewest, Refuted, ReasonIn}
 use Rattle.shortest.proofs.Reasons.{some-way, least-reason}
 
 -- The first numbers of a list, by their places.
@@ -71,24 +66,17 @@ module _ (n : ℕ) (H : ℕ → Type 0) (k : ℕ) (xs ys : List ℕ) (cs : List 
       let (j, below, way) = some in
       omega (arith, below, few .fewest j (subst (Open (rules xs ys cs) H (spares xs ys cs days) x y j) (sym is) way))
 
-  -- With layer 0 in the first cells, its rules can be looked for.
-  pub all-descendable :
-      (t h : ℕ) (depths cells list′ : List ℕ) → t ≡ short → at depths y ≡ 0 → Fewest (rules xs ys cs) H (spares xs ys cs days) t x y h → 0 < h → LAYERS * STEPS ≤ length cells → length list′ ≡ length list →
-      Begun n x t (at cells) → Descendable n H xs ys cs days depths h t 0 h y t 1 0 (cap-of (LAYERS - 2)) cells list′
-  all-descendable t h depths cells list′ is begins few some-rules room long begun = record {
-    some = some-rules;
-    step-in = refuted .second-in;
-    bound-in = omega arith;
+  -- It can be written.
+  pub traceable :
+      (t h : ℕ) (depths cells list′ : List ℕ) → t ≡ short → at depths y ≡ 0 → Fewest (rules xs ys cs) H (spares xs ys cs days) t x y h → LAYERS * STEPS ≤ length cells → length list′ ≡ length list →
+      Traceable n H xs ys cs days depths t h x y cells list′
+  traceable t h depths cells list′ is begins few room long = record {
+    begins = begins;
+    first-in = refuted .first-in;
+    second-in = refuted .second-in;
     narrow = omega (arith, is, refuted .small);
     list-room = omega (arith, few-rules t h is few, long, refuted .list-room);
-    depth = LAYERS - 2;
-    cap-is = refl;
-    some-cap = λ more. omega arith;
-    cells-room = omega (arith, room);
-    goal = x;
-    layer = layer-same (rules xs ys cs) H (spares xs ys cs days) x n t (refuted .kept .in-steps) (at depths) h 0 (at cells) (from 0 cells) (λ v v-in. sym (from-first cells v))
-        (layer-none (rules xs ys cs) H (spares xs ys cs days) x n t (refuted .kept .in-steps) (at depths) h (at cells) begun);
-    near = omega (arith, begins);
+    cells-room = room;
     way = few .way;
   }
 
@@ -113,29 +101,14 @@ module _ (n : ℕ) (H : ℕ → Type 0) (k : ℕ) (xs ys : List ℕ) (cs : List 
           ap (λ (j : ℕ). take j list′) counted ∙ take-part (suc h) list′ (omega (arith, few-rules t h is few, long, refuted .list-room))
           ∙ ap (λ (j : ℕ). j ∷ part (at list′) 1 h) named
 
-  -- Where no rule leads from y to x since they are one step, the number alone is.
-  pub written-alone : (t h : ℕ) → t ≡ short → Fewest (rules xs ys cs) H (spares xs ys cs days) t x y h → h ≡ 0 → ReasonIn H k xs ys cs x y c 1 list (set list 0 k)
-  written-alone t h is few none =
-      written t 0 (set list 0 k) is few′ (least-none (rules xs ys cs) H (spares xs ys cs days) x y t (few′ .way)) (length-set list 0 k)
-      (getD-set-same list 0 k 0 (omega (arith, refuted .first-in, refuted .list-room)))
-      (λ i past. getD-set-other list 0 i k 0 (λ e. omega arith))
-    where
-      few′ : Fewest (rules xs ys cs) H (spares xs ys cs days) t x y 0
-      few′ = subst (Fewest (rules xs ys cs) H (spares xs ys cs days) t x y) none few
-
-  -- Where rules do, they stand behind it.
+  -- So they are once the way is written.
   pub written-all :
-      (t h : ℕ) (depths cells cells′ list′ : List ℕ) (v′ bound′ : ℕ) → t ≡ short → Fewest (rules xs ys cs) H (spares xs ys cs days) t x y h → Begun n x t (at cells) →
-      length list′ ≡ length list → Descended n H xs ys cs days depths h t 0 h y t 1 0 cells (set list 0 k) cells′ list′ v′ bound′ → ReasonIn H k xs ys cs x y c (h + 1) list list′
-  written-all t h depths cells cells′ list′ v′ bound′ is few begun long descended =
-      written t h list′ is few
-      (joins-all (rules xs ys cs) H (spares xs ys cs days) x h y t 1 (at list′) v′ bound′
-      (descended .joins x
-      (layer-same (rules xs ys cs) H (spares xs ys cs days) x n t (refuted .kept .in-steps) (at depths) h 0 (at cells) (from 0 cells) (λ v v-in. sym (from-first cells v))
-      (layer-none (rules xs ys cs) H (spares xs ys cs days) x n t (refuted .kept .in-steps) (at depths) h (at cells) begun))))
-      long
-      (descended .others 0 (inl (omega arith)) ∙ getD-set-same list 0 k 0 (omega (arith, refuted .first-in, refuted .list-room)))
-      (λ i past. descended .others i (inr (omega arith)) ∙ getD-set-other list 0 i k 0 (λ e. omega arith))
+      (t h : ℕ) (list′ : List ℕ) → t ≡ short → Fewest (rules xs ys cs) H (spares xs ys cs days) t x y h → length list′ ≡ length list →
+      Traced (rules xs ys cs) H (spares xs ys cs days) t h x y (set list 0 k) list′ → ReasonIn H k xs ys cs x y c (h + 1) list list′
+  written-all t h list′ is few long traced =
+      written t h list′ is few (traced .least) long
+      (traced .others 0 (inl (omega arith)) ∙ getD-set-same list 0 k 0 (omega (arith, refuted .first-in, refuted .list-room)))
+      (λ i past. traced .others i (inr past) ∙ getD-set-other list 0 i k 0 (λ e. omega arith))
 
 -- ---- the chains
 

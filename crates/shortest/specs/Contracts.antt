@@ -17,7 +17,7 @@ use Rattle.shortest.specs.Layers.{Deep, Layer, Follows, Next, Fitting}
 
 -- So many layers are kept at once.
 abbrev pub LAYERS : ℕ
-LAYERS = 6
+LAYERS = 5
 
 -- Within the upper part of a span the cap is this share of what it is for the whole.
 abbrev pub SHARE : ℕ
@@ -130,6 +130,13 @@ pub record Passed (n : ℕ) (H : ℕ → Type 0) (xs ys : List ℕ) (cs : List �
       Follows (λ i. (at ys i < u + 1) × (at depths (at xs i) ≤ limit)) n (rules xs ys cs) H (spares xs ys cs days) t (from a before) (from b after)
   pub others : Between b (b + n) before after
 
+-- Where layer lo stood, in the cells from place a on, layer hi stands; the cells before those are as before.
+pub record Raised (n : ℕ) (H : ℕ → Type 0) (xs ys : List ℕ) (cs : List ℤ) (days depths : List ℕ) (g t lo hi a : ℕ) (before after : List ℕ) : Type 0 where
+  pub layer :
+      (x : ℕ) → Layer n (rules xs ys cs) H (spares xs ys cs days) (at depths) g x t lo (from a before) →
+      Layer n (rules xs ys cs) H (spares xs ys cs days) (at depths) g x t hi (from a after)
+  pub before-kept : (j : ℕ) → j < a → at after j ≡ at before j
+
 -- From layer lo in the cells from place a on, layer hi stands in the cells from place a + STEPS on; the cells before those are as before.
 pub record Advanced (n : ℕ) (H : ℕ → Type 0) (xs ys : List ℕ) (cs : List ℤ) (days depths : List ℕ) (g t lo hi a : ℕ) (before after : List ℕ) : Type 0 where
   pub layer :
@@ -147,10 +154,10 @@ pub record Pickable (n : ℕ) (H : ℕ → Type 0) (xs ys : List ℕ) (cs : List
   pub cells-room : a + n ≤ length cells
   pub some : (i : ℕ) × Fitting (rules xs ys cs) H (spares xs ys cs days) (from a cells) v bound i
 
--- r rules are some of the span, not all of it, and no more than the cap.
+-- r rules are some of the span, no more than half of it, rounded up, and no more than the cap.
 pub record UpperPart (span cap r : ℕ) : Type 0 where
   pub some : 0 < r
-  pub not-all : r < span
+  pub half : 2 * r ≤ span + 1
   pub capped : r ≤ cap
 
 -- r is the share of the cap, rounded down.
@@ -196,6 +203,21 @@ pub record Descended
       Joins (rules xs ys cs) H (spares xs ys cs days) x lo hi v bound place (at list′) v′ bound′
   pub others : Between place (place + (hi - lo)) list list′
   pub before-kept : (j : ℕ) → j < a + STEPS → at cells′ j ≡ at cells j
+
+-- The least way of h rules from y, where the depths begin, to x is to be written from place 1 on: there is one of h rules, and there is room for it and for the layers.
+pub record Traceable (n : ℕ) (H : ℕ → Type 0) (xs ys : List ℕ) (cs : List ℤ) (days depths : List ℕ) (t h x y : ℕ) (cells list : List ℕ) : Type 0 where
+  pub begins : at depths y ≡ 0
+  pub first-in : x < n
+  pub second-in : y < n
+  pub narrow : t < 4294967296
+  pub list-room : h + 1 ≤ length list
+  pub cells-room : LAYERS * STEPS ≤ length cells
+  pub way : Open (rules xs ys cs) H (spares xs ys cs days) x y h t
+
+-- It was written; the rest of the list is as before.
+pub record Traced (R : ℕ → Rule) (H : ℕ → Type 0) (w : ℕ → ℕ) (t h x y : ℕ) (list list′ : List ℕ) : Type 0 where
+  pub least : Least R H w x y h t (part (at list′) 1 h)
+  pub others : Between 1 (h + 1) list list′
 
 -- A way from y, where the depths begin, to x is to be looked for: there is one of fewer rules than there are steps, and there is room for two layers.
 pub record Seekable (n : ℕ) (H : ℕ → Type 0) (xs ys : List ℕ) (cs : List ℤ) (days depths : List ℕ) (t x y : ℕ) (cells : List ℕ) : Type 0 where

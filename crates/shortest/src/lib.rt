@@ -15,10 +15,10 @@ ghost use Rattle.lent.specs.Decides.{Decides};
 ghost use Rattle.lent.specs.Lent.{Dated, KeptAt};
 ghost use Rattle.chains.specs.Chains.{ChainsOf, number, linked};
 ghost use Rattle.shortest.specs.Layers.{Begun, Fitting, Lowest};
-ghost use Rattle.shortest.specs.Contracts.{rules, spares, from, FAR, Kept, Leading, Chained, GROUP, NoneBelow, NoneIs, Skipped, AllSet, Copied, Copyable, Lowered, LoweredNear, FollowedBy, SpareIs, Passed, Advanced, FitsHere, Pickable, UpperPart, Share, Descendable, Descended, Seekable, Fewest, Within, Entered, Spread, Widened, Levelled, Settled, Deepened, Refuted, ReasonIn};
+ghost use Rattle.shortest.specs.Contracts.{rules, spares, from, FAR, Kept, Leading, Chained, GROUP, NoneBelow, NoneIs, Skipped, AllSet, Copied, Copyable, Lowered, LoweredNear, FollowedBy, SpareIs, Passed, Raised, Advanced, FitsHere, Pickable, UpperPart, Share, Descendable, Descended, Traceable, Traced, Seekable, Fewest, Within, Entered, Spread, Widened, Levelled, Settled, Deepened, Refuted, ReasonIn};
 
-// So many layers are kept at once: the first, the one that is worked in, and as many more as `CAP` is a power of `SHARE`, and one.
-const LAYERS: usize = 6;
+// So many layers are kept at once: the one that is worked in, and as many more as `CAP` is a power of `SHARE`, and one.
+const LAYERS: usize = 5;
 
 // The upper part of a span has no more rules than the cap, and within it the cap is this share of it: so much less as a layer is kept for it.
 const SHARE: usize = 6;
@@ -276,7 +276,50 @@ fn next(
     }
 }
 
-// Makes layer hi of layer lo, which stands in the cells from place a on, from place a + STEPS on, for ways of g rules, with the cells behind to work in.
+// Makes layer hi of layer lo, which stands in the cells from place a on, in its place, for ways of g rules, with the cells behind to work in.
+fn raise(
+    n: usize,
+    xs: &[u16],
+    ys: &[u16],
+    cs: &[i32],
+    days: &[u32],
+    heads: &[u16],
+    nexts: &[u16],
+    depths: &[u16],
+    t: u64,
+    g: usize,
+    lo: usize,
+    hi: usize,
+    a: usize,
+    cells: &mut [u32],
+)
+    requires { ⌜ Chained n (linked (now nexts)) number (now xs) (now ys) (now cs) (now days) (now heads) (now nexts) (now depths) t ⌝ }
+    requires { ⌜ t < 4294967296 ⌝ }
+    requires { ⌜ lo ≤ hi ⌝ }
+    requires { ⌜ hi ≤ g ⌝ }
+    requires { ⌜ a + 2 * STEPS ≤ length (now cells) ⌝ }
+    ensures { λ _. ⌜ Raised n (linked (now (nexts .entry))) (now (xs .entry)) (now (ys .entry)) (now (cs .entry)) (now (days .entry)) (now (depths .entry)) g t lo hi a (now (cells .entry)) (now (cells .exit)) ⌝ }
+{
+    for h in lo..hi {
+        next(
+            n,
+            xs,
+            ys,
+            cs,
+            days,
+            heads,
+            nexts,
+            depths,
+            t,
+            g - (h + 1),
+            a,
+            cells,
+        );
+        copy(n, a + meaning::STEPS, a, cells);
+    }
+}
+
+// The same from place a + STEPS on, where layer lo is copied to.
 fn advance(
     n: usize,
     xs: &[u16],
@@ -302,23 +345,22 @@ fn advance(
 {
     let b = a + meaning::STEPS;
     copy(n, a, b, cells);
-    for h in lo..hi {
-        next(
-            n,
-            xs,
-            ys,
-            cs,
-            days,
-            heads,
-            nexts,
-            depths,
-            t,
-            g - (h + 1),
-            b,
-            cells,
-        );
-        copy(n, b + meaning::STEPS, b, cells);
-    }
+    raise(
+        n,
+        xs,
+        ys,
+        cs,
+        days,
+        heads,
+        nexts,
+        depths,
+        t,
+        g,
+        lo,
+        hi,
+        b,
+        cells,
+    );
 }
 
 // Whether rule i leads from step v and stays, with what the layer from place a on has for its second step, below the bound.
@@ -397,7 +439,7 @@ fn pick(
 
 // How many rules the upper part of a span has: half of them, rounded up, where the cap is no less, and else as many as the cap.
 fn upper_part(span: usize, cap: usize) -> usize
-    requires { ⌜ 1 < span ⌝ }
+    requires { ⌜ 0 < span ⌝ }
     requires { ⌜ 0 < cap ⌝ }
     ensures { λ r. ⌜ UpperPart span cap r ⌝ }
 {
@@ -422,8 +464,8 @@ struct Stand {
 }
 
 // Writes the numbers of the rules lo to hi of the least way from v below the bound from the place on, the first one first, where layer lo stands in the cells
-// from place a on. Says where the way goes on. Where there is more than one rule, those of an upper part, no more than the cap, are found by a layer that is kept
-// for them, then the others as before.
+// from place a on. Says where the way goes on. While more than one rule is left, those of an upper part, no more than the cap, are found by a layer that is kept
+// for them; the last one by layer lo.
 fn descend(
     n: usize,
     xs: &[u16],
@@ -451,77 +493,136 @@ fn descend(
         Descended n (linked (now (nexts .entry))) (now (xs .entry)) (now (ys .entry)) (now (cs .entry)) (now (days .entry)) (now (depths .entry)) g t lo hi v bound place a
         (now (cells .entry)) (now (list .entry)) (now (cells .exit)) (now (list .exit)) (r .step) (r .bound) ⌝ }
 {
-    if hi == lo + 1 {
-        let i = pick(n, xs, ys, cs, days, nexts, v, bound, a, cells);
-        list[place] = i as u32;
-        let after = lent::number_at(ys, i);
-        let left = bound - spare(xs, ys, cs, days, i);
-        return Stand {
-            step: after,
-            bound: left,
-        };
-    }
     let part = share(cap);
-    let upper = upper_part(hi - lo, cap);
-    let mid = hi - upper;
-    advance(
-        n,
-        xs,
-        ys,
-        cs,
-        days,
-        heads,
-        nexts,
-        depths,
-        t,
-        g,
-        lo,
-        mid,
-        a,
-        cells,
-    );
-    let stand = descend(
-        n,
-        xs,
-        ys,
-        cs,
-        days,
-        heads,
-        nexts,
-        depths,
-        t,
-        g,
-        mid,
-        hi,
-        v,
-        bound,
-        place,
-        a + meaning::STEPS,
-        part,
-        cells,
-        list,
-    );
-    descend(
-        n,
-        xs,
-        ys,
-        cs,
-        days,
-        heads,
-        nexts,
-        depths,
-        t,
-        g,
-        lo,
-        mid,
-        stand.step,
-        stand.bound,
-        place + upper,
-        a,
-        cap,
-        cells,
-        list,
-    )
+    let mut top = hi;
+    let mut step = v;
+    let mut left = bound;
+    let mut to = place;
+    while 1 < top - lo {
+        let upper = upper_part(top - lo, cap);
+        let mid = top - upper;
+        advance(
+            n,
+            xs,
+            ys,
+            cs,
+            days,
+            heads,
+            nexts,
+            depths,
+            t,
+            g,
+            lo,
+            mid,
+            a,
+            cells,
+        );
+        let stand = descend(
+            n,
+            xs,
+            ys,
+            cs,
+            days,
+            heads,
+            nexts,
+            depths,
+            t,
+            g,
+            mid,
+            top,
+            step,
+            left,
+            to,
+            a + meaning::STEPS,
+            part,
+            cells,
+            list,
+        );
+        top = mid;
+        step = stand.step;
+        left = stand.bound;
+        to += upper;
+    }
+    let i = pick(n, xs, ys, cs, days, nexts, step, left, a, cells);
+    list[to] = i as u32;
+    let after = lent::number_at(ys, i);
+    let rest = left - spare(xs, ys, cs, days, i);
+    Stand {
+        step: after,
+        bound: rest,
+    }
+}
+
+// Writes the numbers of the h rules of the least way from y to x below t from place 1 on. While rules are left, those of an upper part, no more than `CAP`, are found
+// by a layer that is made for them of layer 0.
+fn trace(
+    n: usize,
+    xs: &[u16],
+    ys: &[u16],
+    cs: &[i32],
+    days: &[u32],
+    heads: &[u16],
+    nexts: &[u16],
+    depths: &[u16],
+    t: u64,
+    h: usize,
+    x: usize,
+    y: usize,
+    cells: &mut [u32],
+    list: &mut [u32],
+)
+    requires { ⌜ Chained n (linked (now nexts)) number (now xs) (now ys) (now cs) (now days) (now heads) (now nexts) (now depths) t ⌝ }
+    requires { ⌜ Traceable n (linked (now nexts)) (now xs) (now ys) (now cs) (now days) (now depths) t h x y (now cells) (now list) ⌝ }
+    ensures { λ _. ⌜ Traced (rules (now (xs .entry)) (now (ys .entry)) (now (cs .entry))) (linked (now (nexts .entry))) (spares (now (xs .entry)) (now (ys .entry)) (now (cs .entry)) (now (days .entry))) t h x y (now (list .entry)) (now (list .exit)) ⌝ }
+{
+    let part = share(CAP);
+    let mut top = h;
+    let mut step = y;
+    let mut left = t;
+    while 0 < top {
+        let mid = top - upper_part(top, CAP);
+        begin(n, x, t, cells);
+        raise(
+            n,
+            xs,
+            ys,
+            cs,
+            days,
+            heads,
+            nexts,
+            depths,
+            t,
+            h,
+            0,
+            mid,
+            0,
+            cells,
+        );
+        let stand = descend(
+            n,
+            xs,
+            ys,
+            cs,
+            days,
+            heads,
+            nexts,
+            depths,
+            t,
+            h,
+            mid,
+            top,
+            step,
+            left,
+            1 + (h - top),
+            0,
+            part,
+            cells,
+            list,
+        );
+        top = mid;
+        step = stand.step;
+        left = stand.bound;
+    }
 }
 
 // How many rules the shortest way from y to x has that stays below t, where that is no more than g; else one more than g.
@@ -796,11 +897,7 @@ pub fn reason(
         &mut cells,
     );
     list[0] = m as u32;
-    if h == 0 {
-        return 1;
-    }
-    begin(n, x, t, &mut cells);
-    descend(
+    trace(
         n,
         xs,
         ys,
@@ -811,13 +908,8 @@ pub fn reason(
         &depths,
         t,
         h,
-        0,
-        h,
+        x,
         y,
-        t,
-        1,
-        0,
-        CAP,
         &mut cells,
         list,
     );

@@ -10,7 +10,7 @@ use Rattle.meaning.specs.Bounds.{STEPS}
 use Rattle.lent.specs.Lent.{BIAS}
 use Rattle.chains.specs.Chains.{number, linked}
 use Rattle.shortest.specs.Contracts.{LAYERS, FAR, Chained, Refuted, ReasonIn}
-use Rattle.shortest.proofs.Writing.{short, short-is, seekable, few-rules, all-descendable, written-alone, written-all, leading, turnable, refuted-still, turned, reason-before}
+use Rattle.shortest.proofs.Writing.{short, short-is, seekable, few-rules, traceable, written-all, leading, turnable, refuted-still, turned, reason-before}
 use native.Mathlib.Omega.{arith}
 use borrow.Author.Needs.{needs}
 use Rattle.shortest.proofs.reason.Statement.{statement}
@@ -39,7 +39,7 @@ abbrev start-before-biased : tie.After-biased → tie.Start
 start-before-biased c = c .before .before .before .before .before .before .before .before .before
 
 abbrev fewest-before-slice-known6 : tie.After-slice-known6 → tie.After-fewest
-fewest-before-slice-known6 c = c .before .before .before .before .before .before .before .before .before .before .before .before .before .before
+fewest-before-slice-known6 c = c .before .before .before .before .before .before .before .before .before .before
 
 abbrev start-before-turn-arg2 : tie.After-turn-arg2 → tie.Start
 start-before-turn-arg2 c = start-before-biased (c .before .before .before .before .before .before .before)
@@ -153,57 +153,22 @@ slice-write-list c =
     let start = start-before-fewest (c .before) in
     omega (arith, start .pre .0 .list-room, start .pre .0 .first-in)
 
-same-length : tie.Need-same-length
-same-length c =
-    let turn = turn-before-cells (c .before .before .before) .turn in
-    turn .kept .1 .1 .0
+slice-aggregate-trace : tie.Need-slice-aggregate-trace
+slice-aggregate-trace c = search needs
 
-same-length-2 : tie.Need-same-length-2
-same-length-2 c =
-    let turn = turn-before-cells (c .before .before .before) .turn in
-    turn .kept .1 .1 .1 .0
+slice-aggregate-trace-2 : tie.Need-slice-aggregate-trace-2
+slice-aggregate-trace-2 c = search needs
 
-same-length-3 : tie.Need-same-length-3
-same-length-3 c =
-    let start = start-before-fewest (c .before .before) in
-    length-set (start .args .list .now) 0 (start .args .m)
-
-returns : tie.Need-returns
-returns c =
-    let start = start-before-fewest (c .before .before) in
-    let a = start .args in
-    let at-turn = turn-before-cells (c .before .before .before) in
-    lent-reason at-turn _ _
-    (written-alone (a .n) (linked (nexts-now at-turn)) (a .m) (a .xs .now) (a .ys .now) (a .cs .now) (a .days .now) (heads-now at-turn) (nexts-now at-turn) (a .x) (a .y) (a .c) (a .list .now) (still at-turn) _ _ (lack (biased-before-cells (c .before .before .before)) .1) (c .before .before .fewest .ensures) (c .if1 .taken))
-
-slice-aggregate-begin : tie.Need-slice-aggregate-begin
-slice-aggregate-begin c = search needs
-
-begin-requires : tie.Need-begin-requires
-begin-requires c κs =
-    let start = start-before-fewest (c .before .before .before) in
-    let a = start .args in
-    (omega (arith, start .pre .0 .kept .steps-in, c .before .before .before .fewest .kept .1 .1 .1 .1 .1 .1 .1 .1 .1 .1 .1 .0, length-replicate {A = ℕ} (LAYERS * STEPS) 0), (start .pre .0 .first-in, omega (arith, lack (biased-before-cells (c .before .before .before .before)) .1, start .pre .0 .small)))
-
-slice-aggregate-descend : tie.Need-slice-aggregate-descend
-slice-aggregate-descend c = search needs
-
-slice-aggregate-descend-2 : tie.Need-slice-aggregate-descend-2
-slice-aggregate-descend-2 c = search needs
-
-descend-requires : tie.Need-descend-requires
-descend-requires c κs =
-    let at-begin = c .before .before .before .before .before .before in
-    let else1 = at-begin .before .before in
-    let at-fewest = else1 .before .before in
-    let at-cells-there = at-fewest .before in
-    let deepen = turn-before-cells (at-fewest .before) .before .before .before .before .deepen in
+trace-requires : tie.Need-trace-requires
+trace-requires c κs =
+    let at-fewest = c .before .before .before .before .before .before in
+    let at-cells = at-fewest .before in
+    let at-turn = turn-before-cells at-cells in
+    let deepen = at-turn .before .before .before .before .deepen in
     let start = start-before-fewest at-fewest in
-    let a = start .args in
-    let at-cells = at-cells-there in
-    let at-turn = turn-before-cells at-cells in (
+    let a = start .args in (
       chains at-turn,
-      all-descendable (a .n) (linked (nexts-now at-turn)) (a .m) (a .xs .now) (a .ys .now) (a .cs .now) (a .days .now) (heads-now at-turn) (nexts-now at-turn) (a .x) (a .y) (a .c) (a .list .now) (still at-turn) _ _ _ _ _ (lack (biased-before-cells at-cells) .1) (deepen .ensures .begins) (at-fewest .fewest .ensures) (omega (arith, else1 .if1 .left)) (omega (arith, at-begin .begin .kept .1 .1 .1 .0, at-fewest .fewest .kept .1 .1 .1 .1 .1 .1 .1 .1 .1 .1 .1 .0, length-replicate {A = ℕ} (LAYERS * STEPS) 0)) (length-set (a .list .now) 0 (a .m)) (at-begin .begin .ensures),
+      traceable (a .n) (linked (nexts-now at-turn)) (a .m) (a .xs .now) (a .ys .now) (a .cs .now) (a .days .now) (heads-now at-turn) (nexts-now at-turn) (a .x) (a .y) (a .c) (a .list .now) (still at-turn) _ _ _ _ _ (lack (biased-before-cells at-cells) .1) (deepen .ensures .begins) (at-fewest .fewest .ensures) (omega (arith, at-fewest .fewest .kept .1 .1 .1 .1 .1 .1 .1 .1 .1 .1 .1 .0, length-replicate {A = ℕ} (LAYERS * STEPS) 0)) (length-set (a .list .now) 0 (a .m)),
     )
 
 add-result : tie.Need-add-result
@@ -215,32 +180,31 @@ add-result c =
     let at-turn = turn-before-cells at-cells in
     omega (arith, few-rules (a .n) (linked (nexts-now at-turn)) (a .m) (a .xs .now) (a .ys .now) (a .cs .now) (a .days .now) (heads-now at-turn) (nexts-now at-turn) (a .x) (a .y) (a .c) (a .list .now) (still at-turn) _ _ (lack (biased-before-cells at-cells) .1) (at-fewest .fewest .ensures), start .pre .0 .kept .steps-in)
 
-same-length-4 : tie.Need-same-length-4
-same-length-4 c =
+same-length : tie.Need-same-length
+same-length c =
     let turn = turn-before-cells (fewest-before-slice-known6 c .before) .turn in
     turn .kept .1 .1 .0
 
-same-length-5 : tie.Need-same-length-5
-same-length-5 c =
+same-length-2 : tie.Need-same-length-2
+same-length-2 c =
     let turn = turn-before-cells (fewest-before-slice-known6 c .before) .turn in
     turn .kept .1 .1 .1 .0
 
-same-length-6 : tie.Need-same-length-6
-same-length-6 c =
+same-length-3 : tie.Need-same-length-3
+same-length-3 c =
     let start = start-before-fewest (fewest-before-slice-known6 c) in
-    c .before .before .before .descend .kept .1 .1 .1 .1 .1 .1 .1 .1 .1 .1 .1 .1 .1 .1 .1 .1 .1 .1 .0 ∙ length-set (start .args .list .now) 0 (start .args .m)
+    c .before .before .before .trace .kept .1 .1 .1 .1 .1 .1 .1 .1 .1 .1 .1 .1 .1 .0 ∙ length-set (start .args .list .now) 0 (start .args .m)
 
-returns-2 : tie.Need-returns-2
-returns-2 c =
-    let at-descend = c .before .before .before in
-    let begin = at-descend .before .before .before .before .before .before .before .begin in
+returns : tie.Need-returns
+returns c =
+    let trace = c .before .before .before .trace in
     let at-fewest = fewest-before-slice-known6 c in
     let at-cells = at-fewest .before in
     let start = start-before-fewest at-fewest in
     let a = start .args in
     let at-turn = turn-before-cells at-cells in
     lent-reason at-turn _ _
-    (written-all (a .n) (linked (nexts-now at-turn)) (a .m) (a .xs .now) (a .ys .now) (a .cs .now) (a .days .now) (heads-now at-turn) (nexts-now at-turn) (a .x) (a .y) (a .c) (a .list .now) (still at-turn) _ _ _ _ _ _ _ _ (lack (biased-before-cells at-cells) .1) (at-fewest .fewest .ensures) (begin .ensures) (at-descend .descend .kept .1 .1 .1 .1 .1 .1 .1 .1 .1 .1 .1 .1 .1 .1 .1 .1 .1 .1 .0 ∙ length-set (a .list .now) 0 (a .m)) (at-descend .descend .ensures))
+    (written-all (a .n) (linked (nexts-now at-turn)) (a .m) (a .xs .now) (a .ys .now) (a .cs .now) (a .days .now) (heads-now at-turn) (nexts-now at-turn) (a .x) (a .y) (a .c) (a .list .now) (still at-turn) _ _ _ (lack (biased-before-cells at-cells) .1) (at-fewest .fewest .ensures) (trace .kept .1 .1 .1 .1 .1 .1 .1 .1 .1 .1 .1 .1 .1 .0 ∙ length-set (a .list .now) 0 (a .m)) (trace .ensures))
 
 pub reason-spec : {M : Type 1} → statement M
 reason-spec =
@@ -260,17 +224,11 @@ reason-spec =
     fewest-requires
     cast-list
     slice-write-list
+    slice-aggregate-trace
+    slice-aggregate-trace-2
+    trace-requires
+    add-result
     same-length
     same-length-2
     same-length-3
-    returns
-    slice-aggregate-begin
-    begin-requires
-    slice-aggregate-descend
-    slice-aggregate-descend-2
-    descend-requires
-    add-result
-    same-length-4
-    same-length-5
-    same-length-6
-    returns-2)
+    returns)
