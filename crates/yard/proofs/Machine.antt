@@ -17,7 +17,7 @@ use Rattle.meaning.specs.Reckoning.{up, dn}
 use Rattle.meaning.proofs.Whole.{le→, lt→, →eq, up-neg, dn-neg, add-is, minus-is}
 use Rattle.lent.proofs.Amounts.{wide}
 use Rattle.gaps.specs.Slacks.{NONE, NEAR, Near}
-use Rattle.yard.specs.Cells.{limit, Tellable, SizeOf}
+use Rattle.yard.specs.Cells.{limit}
 
 -- ---- fits
 
@@ -141,54 +141,6 @@ less-read z a is is-too e = test-less _ _ ((λ i. ltZ (sym is i) (sym is-too i))
 
 pub not-less-read : (z a : ℤ) {z′ a′ : ℤ} → z ≡ z′ → a ≡ a′ → ltZ z a ≡ false → a′ ≤ℤ z′
 not-less-read z a is is-too e = test-not-less _ _ ((λ i. ltZ (sym is i) (sym is-too i)) ∙ e)
-
--- ---- a limit as it is told
-
--- What can be told and has a limit.
-tellable-sides : (z : ℤ) → (z ≡ pos NO-LIMIT → ⊥) → Tellable z → (up z < 4294967296) × (dn z < 4294967296)
-tellable-sides z d (inl e) = absurd (d e)
-tellable-sides z d (inr sides) = sides
-
-below-zero : (z : ℤ) → z <ℤ pos 0 → up z ≡ 0
-below-zero (pos n) h = absurd (omega (arith, lt→ (pos n) (pos 0) h))
-below-zero (negsuc n) h = refl
-
-not-below-zero : (z : ℤ) → pos 0 ≤ℤ z → z ≡ pos (up z)
-not-below-zero (pos n) h = refl
-not-below-zero (negsuc n) h = absurd (omega (arith, le→ (pos 0) (negsuc n) h))
-
-module _ (z : ℤ) (fits : SFits w64 z) (limited : z ≡ pos NO-LIMIT → ⊥) (tellable : Tellable z) where
-  module _ (below : z <ℤ pos 0) where
-    opposite : (pos 0 -ℤ z) ≡ pos (dn z)
-    opposite = →eq (pos 0 -ℤ z) (pos (dn z)) (omega (arith, minus-is (pos 0) z, below-zero z below))
-
-    opposite-plain : SFits w64 (pos 0 -ℤ z)
-    opposite-plain = rw opposite (record { sfits = omega (arith, tellable-sides z limited tellable .1) })
-
-    pub opposite-fits : SFits w64 (pos 0 -ℤ toZ w64 (ofZ w64 z))
-    opposite-fits = rw (toZ-ofZ w64 z fits) opposite-plain
-
-    opposite-read : toZ w64 (ofZ w64 (pos 0 -ℤ toZ w64 (ofZ w64 z))) ≡ pos (dn z)
-    opposite-read = ap (λ (y : ℤ). toZ w64 (ofZ w64 (pos 0 -ℤ y))) (toZ-ofZ w64 z fits) ∙ toZ-ofZ w64 (pos 0 -ℤ z) opposite-plain ∙ opposite
-
-    pub opposite-unsigned :
-        T (nonNeg (toZ w64 (ofZ w64 (pos 0 -ℤ toZ w64 (ofZ w64 z))))) × Fits w32 (natAbs (toZ w64 (ofZ w64 (pos 0 -ℤ toZ w64 (ofZ w64 z)))))
-    opposite-unsigned = rw opposite-read (tt, record { fits = omega (arith, tellable-sides z limited tellable .1) })
-
-    pub below-size : SizeOf z (natAbs (toZ w64 (ofZ w64 (pos 0 -ℤ toZ w64 (ofZ w64 z)))))
-    below-size = rw opposite-read (inr (limited, inr (below, →eq z (negℤ (pos (dn z))) (omega (arith, up-neg (pos (dn z)), dn-neg (pos (dn z)), below-zero z below)))))
-
-  module _ (not-below : pos 0 ≤ℤ z) where
-    read : toZ w64 (ofZ w64 z) ≡ pos (up z)
-    read = toZ-ofZ w64 z fits ∙ not-below-zero z not-below
-
-    pub unsigned : T (nonNeg (toZ w64 (ofZ w64 z))) × Fits w32 (natAbs (toZ w64 (ofZ w64 z)))
-    unsigned = rw read (tt, record { fits = omega (arith, tellable-sides z limited tellable .0) })
-
-    pub size-is : SizeOf z (natAbs (toZ w64 (ofZ w64 z)))
-    size-is = rw read (inr (limited, inl (not-below, not-below-zero z not-below)))
-
--- ---- an amount as an i64
 
 pub widened-read : (c : ℤ) → SFits w32 c → toZ w64 (ofZ w64 (toZ w32 (ofZ w32 c))) ≡ c
 widened-read c f = toZ-ofZ w64 (toZ w32 (ofZ w32 c)) (wide c f) ∙ toZ-ofZ w32 c f

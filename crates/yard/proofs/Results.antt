@@ -2,7 +2,7 @@
 use Prim.Native.Nat.{ℕ, _≤_, _<_}
 use native.Mathlib.Omega.{arith}
 use native.Mathlib.Decide.{decLt}
-use mathlib.Core.Path.{_≡_, refl, sym, _∙_, ap}
+use mathlib.Core.Path.{_≡_, refl, sym, _∙_, ap, subst}
 use mathlib.Core.Bool.{Bool, true}
 use mathlib.Core.List.{List, []}
 use lib.ListN.{length, getD}
@@ -10,15 +10,36 @@ use lib.IntN.{ℤ, pos}
 use Rattle.meaning.specs.declared.Counts.{Counts}
 use Rattle.meaning.specs.Bounds.{YARD-STEPS}
 use Rattle.meaning.specs.Rules.{Rule}
-use Rattle.meaning.specs.Tables.{at}
-use Rattle.lent.specs.Decides.{decides-yes, decides-same}
+use Rattle.meaning.specs.Tables.{Tables, at, Sound}
+use Rattle.meaning.specs.Calls.{rules-of, held-in}
+use Rattle.lent.specs.Decides.{Decides, decides-yes, decides-same}
 use Rattle.lent.specs.Idle.{unwatched}
 use Rattle.lent.specs.Promises.{Border}
-use Rattle.gaps.specs.Gaps.{Gaps, cell, InYard}
-use Rattle.gaps.specs.Slacks.{stages, cell-of, SmallerOf, Raised}
+use Rattle.gaps.specs.Gaps.{Gaps, cell, Says, InYard, Right, Remade}
+use Rattle.gaps.specs.Slacks.{Slacks, stages, cell-of, SmallerOf, Raised}
+use Rattle.gaps.proofs.Stages.{slacks-say}
+use Rattle.gaps.proofs.Limits.{says-unique}
+use Rattle.gaps.proofs.Right.{sound-days}
 use Rattle.yard.specs.Cells.{limit}
 use Rattle.yard.specs.Squares.{way, Closed}
-use Rattle.yard.specs.Tables.{TableMade, Slackable, Single, Fresh, Written, Compared, Agrees}
+use Rattle.yard.specs.Tables.{TableMade, Slackable, Single, Fresh, Agrees}
+
+-- ---- the gap table by slacks
+
+-- The gap table made afresh: of n steps, where these are of one yard, each cell that is kept is that of the slack of its pair; all others are as before.
+pub record Written (n : ℕ) (R : ℕ → Rule) (H : ℕ → Type 0) (p : ℕ → ℕ) (before after : Gaps) : Type 0 where
+  pub singles : ℕ → ℕ → ℕ
+  pub slacks : n ≤ YARD-STEPS → Slacks n R H p singles
+  pub cells : (x y : ℕ) → InYard n x y → cell after x y ≡ cell-of p x y (stages n singles x y)
+  pub others : (x y : ℕ) → (InYard n x y → ⊥) → cell after x y ≡ cell before x y
+  pub as-many : length after ≡ length before
+  pub as-long : (x : ℕ) → length (getD after x []) ≡ length (getD before x [])
+
+-- r tells whether every cell of the gap table that is kept is that of the slack of its pair.
+pub record Compared (n : ℕ) (R : ℕ → Rule) (H : ℕ → Type 0) (p : ℕ → ℕ) (gaps : Gaps) (r : Bool) : Type 0 where
+  pub singles : ℕ → ℕ → ℕ
+  pub slacks : n ≤ YARD-STEPS → Slacks n R H p singles
+  pub tells : Decides r ((x y : ℕ) → InYard n x y → cell gaps x y ≡ cell-of p x y (stages n singles x y))
 
 -- ---- what is needed
 
@@ -146,3 +167,34 @@ raised-all few m = record {
   as-many = m .long;
   as-long = table-long m;
 }
+
+-- ---- what is so
+
+-- Beside sound tables of one yard the cell of a pair's slack says what is so.
+module _ (t : Tables) (sound : Sound t) (W : ℕ → ℕ → ℕ) (slacks : Slacks (t .counts .steps) (rules-of t) (held-in t) (at (t .days)) W) (few : t .counts .steps ≤ YARD-STEPS) where
+  slack-says : (x y : ℕ) → InYard (t .counts .steps) x y → Says (rules-of t) (held-in t) x y (cell-of (at (t .days)) x y (stages (t .counts .steps) W x y))
+  slack-says x y in-yard =
+      slacks-say (t .counts .steps) (rules-of t) (held-in t) (at (t .days)) W slacks (sound .rules-good) few (sound-days t sound) (sound .days-earliest .plan) x y (in-yard .row-in) (in-yard .column-in)
+
+-- So what is written is right, and what is compared tells whether it is.
+pub written-remade :
+    (t : Tables) → Sound t → (before after : Gaps) → Written (t .counts .steps) (rules-of t) (held-in t) (at (t .days)) before after → Remade t before after
+written-remade t sound before after w = record {
+  right =
+      λ x y in-yard.
+      subst (Says (rules-of t) (held-in t) x y) (sym (w .cells x y in-yard)) (slack-says t sound (w .singles) (w .slacks (in-yard .one-yard)) (in-yard .one-yard) x y in-yard);
+  others = w .others;
+  as-many = w .as-many;
+  as-long = w .as-long;
+}
+
+pub compared-right :
+    (t : Tables) → Sound t → (gaps : Gaps) (r : Bool) → Compared (t .counts .steps) (rules-of t) (held-in t) (at (t .days)) gaps r → Decides r (Right t gaps)
+compared-right t sound gaps r w =
+    decides-same
+    (λ cells x y in-yard. subst (Says (rules-of t) (held-in t) x y) (sym (cells x y in-yard)) (says x y in-yard))
+    (λ right x y in-yard. says-unique {R = rules-of t} {H = held-in t} {x = x} {y = y} (right x y in-yard) (says x y in-yard))
+    (w .tells)
+  where
+    says : (x y : ℕ) → InYard (t .counts .steps) x y → Says (rules-of t) (held-in t) x y (cell-of (at (t .days)) x y (stages (t .counts .steps) (w .singles) x y))
+    says x y in-yard = slack-says t sound (w .singles) (w .slacks (in-yard .one-yard)) (in-yard .one-yard) x y in-yard

@@ -56,21 +56,6 @@ pub record Fresh (n : ℕ) (R : ℕ → Rule) (H : ℕ → Type 0) (p : ℕ → 
   pub slacks : Slacks n R H p singles
   pub ways : (x y : ℕ) → x < n → y < n → way square x y ≡ stages n singles x y
 
--- The gap table made afresh: of n steps, where these are of one yard, each cell that is kept is that of the slack of its pair; all others are as before.
-pub record Written (n : ℕ) (R : ℕ → Rule) (H : ℕ → Type 0) (p : ℕ → ℕ) (before after : Gaps) : Type 0 where
-  pub singles : ℕ → ℕ → ℕ
-  pub slacks : n ≤ YARD-STEPS → Slacks n R H p singles
-  pub cells : (x y : ℕ) → InYard n x y → cell after x y ≡ cell-of p x y (stages n singles x y)
-  pub others : (x y : ℕ) → (InYard n x y → ⊥) → cell after x y ≡ cell before x y
-  pub as-many : length after ≡ length before
-  pub as-long : (x : ℕ) → length (getD after x []) ≡ length (getD before x [])
-
--- r tells whether every cell of the gap table that is kept is that of the slack of its pair.
-pub record Compared (n : ℕ) (R : ℕ → Rule) (H : ℕ → Type 0) (p : ℕ → ℕ) (gaps : Gaps) (r : Bool) : Type 0 where
-  pub singles : ℕ → ℕ → ℕ
-  pub slacks : n ≤ YARD-STEPS → Slacks n R H p singles
-  pub tells : Decides r ((x y : ℕ) → InYard n x y → cell gaps x y ≡ cell-of p x y (stages n singles x y))
-
 -- r tells whether every cell of the first n rows and columns is that of its slack in the square.
 abbrev pub Agrees : ℕ → List ℕ → List (List ℕ) → Gaps → Bool → Type 0
 Agrees n days square gaps r = Decides r ((x y : ℕ) → x < n → y < n → cell gaps x y ≡ limit (way square x y) (at days x) (at days y))

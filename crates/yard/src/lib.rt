@@ -9,11 +9,12 @@ ghost use Rattle.meaning.specs.Tables.{rule-at, at};
 ghost use Rattle.lent.specs.Lent.{columns, held-by};
 ghost use Rattle.lent.specs.Idle.{unwatched};
 ghost use Rattle.lent.specs.Promises.{Border};
-ghost use Rattle.gaps.specs.Gaps.{cell, InYard};
+ghost use Rattle.lent.specs.Decides.{Decides};
+ghost use Rattle.gaps.specs.Gaps.{cell, InYard, Right, Remade};
 ghost use Rattle.gaps.specs.Slacks.{NONE, Near, SmallerOf, Raised};
-ghost use Rattle.yard.specs.Cells.{limit, Tellable, KindOf, SizeOf};
+ghost use Rattle.yard.specs.Cells.{limit};
 ghost use Rattle.yard.specs.Squares.{way, RowBounded, Bounded, RowStaged, Closed};
-ghost use Rattle.yard.specs.Tables.{Made, TableMade, Blank, Slackable, Single, Fresh, Written, Compared, Agrees, SameRow};
+ghost use Rattle.yard.specs.Tables.{Made, TableMade, Blank, Slackable, Single, Fresh, Agrees, SameRow};
 use gaps::Gaps;
 use meaning::Counts;
 
@@ -209,9 +210,7 @@ pub fn remake(
     gaps: &mut Gaps,
 )
     requires { ⌜ Border (unwatched counts (now xs) (now ys) (now cs) (now days) (now levels)) ⌝ }
-    ensures { λ _. ⌜
-        Written (counts .steps) (rule-at (columns (now (xs .entry)) (now (ys .entry)) (now (cs .entry)))) (held-by (now (levels .entry))) (at (now (days .entry)))
-        (now (gaps .entry)) (now (gaps .exit)) ⌝ }
+    ensures { λ _. ⌜ Remade (unwatched counts (now (xs .entry)) (now (ys .entry)) (now (cs .entry)) (now (days .entry)) (now (levels .entry))) (now (gaps .entry)) (now (gaps .exit)) ⌝ }
 {
     let n = counts.steps as usize;
     if meaning::YARD_STEPS < n {
@@ -234,9 +233,7 @@ pub fn is_right(
     gaps: &Gaps,
 ) -> bool
     requires { ⌜ Border (unwatched counts (now xs) (now ys) (now cs) (now days) (now levels)) ⌝ }
-    ensures { λ r. ⌜
-        Compared (counts .steps) (rule-at (columns (now (xs .entry)) (now (ys .entry)) (now (cs .entry)))) (held-by (now (levels .entry))) (at (now (days .entry)))
-        (now (gaps .entry)) r ⌝ }
+    ensures { λ r. ⌜ Decides r (Right (unwatched counts (now (xs .entry)) (now (ys .entry)) (now (cs .entry)) (now (days .entry)) (now (levels .entry))) (now (gaps .entry))) ⌝ }
 {
     let n = counts.steps as usize;
     if meaning::YARD_STEPS < n {
@@ -324,31 +321,4 @@ pub fn cell_at(gaps: &Gaps, x: usize, y: usize) -> i64
     ensures { λ r. ⌜ r ≡ cell (now (gaps .entry)) x y ⌝ }
 {
     gaps[x][y]
-}
-
-// Of what kind the cell is: 0 where it has no limit, 1 where the limit is not below 0, and 2 where it is.
-pub fn kind(z: i64) -> u32
-    ensures { λ r. ⌜ KindOf z r ⌝ }
-{
-    if z == meaning::NO_LIMIT {
-        return 0;
-    }
-    if z < 0 {
-        return 2;
-    }
-    1
-}
-
-// How far the cell is from 0, and 0 where it has no limit.
-pub fn size(z: i64) -> u32
-    requires { ⌜ Tellable z ⌝ }
-    ensures { λ r. ⌜ SizeOf z r ⌝ }
-{
-    if z == meaning::NO_LIMIT {
-        return 0;
-    }
-    if z < 0 {
-        return (-z) as u32;
-    }
-    z as u32
 }
