@@ -54,8 +54,10 @@ array-copy-out-row c = search needs
 
 stage-row-requires : tie.Need-stage-row-requires Inv-loop2 μ-loop2 Inv-loop μ-loop
 stage-row-requires c κs =
-    let loop = c .before .before .before .before .before .before .before .loop in
-    let below : loop .k < YARD-STEPS = omega (arith, c .before .before .before .before .before .before .loop-test .taken, c .before .before .before .before .before .before .before .before .pre .0) in
+    let in-loop = c .before .before .before .before .before .before in
+    let loop = in-loop .before .loop in
+    let start = in-loop .before .before in
+    let below : loop .k < YARD-STEPS = omega (arith, in-loop .loop-test .taken, start .pre .0) in
     (omega (arith, c .before .if1 .taken), λ y h. loop .inv .1 .bounded (loop .k) y below h)
 
 mul-new : tie.Need-mul-new Inv-loop2 μ-loop2 Inv-loop μ-loop
@@ -73,8 +75,9 @@ loop2-less c = search needs
 loop2-again : tie.Need-loop2-again Inv-loop2 μ-loop2 Inv-loop μ-loop
 loop2-again c =
     let turn = c .before .before .before .loop2 in
-    let loop = c .before .before .before .before .before .before .loop in
-    let start = c .before .before .before .before .before .before .before in
+    let at-loop = c .before .before .before .before .before .before in
+    let loop = at-loop .loop in
+    let start = at-loop .before in
     let more : turn .x + 1 ≤ start .args .n = omega (arith, c .before .before .loop2-test .taken) in
     let inside : turn .x < YARD-STEPS = omega (arith, more, start .pre .0) in
     ⊎-elim
@@ -89,7 +92,9 @@ loop-less : tie.Need-loop-less Inv-loop2 μ-loop2 Inv-loop μ-loop
 loop-less c = search needs
 
 loop-again : tie.Need-loop-again Inv-loop2 μ-loop2 Inv-loop μ-loop
-loop-again c = (omega arith, stages-more (c .before .before .before .before .before .pre .0) (c .before .before .before .loop-test .taken) (c .before .before .before .before .loop .inv .1) (c .before .loop2 .x) (c .loop2-test .left) (c .before .loop2 .inv .1))
+loop-again c =
+    let start = c .before .before .before .before .before in
+    (omega arith, stages-more (start .pre .0) (c .before .before .before .loop-test .taken) (c .before .before .before .before .loop .inv .1) (c .before .loop2 .x) (c .loop2-test .left) (c .before .loop2 .inv .1))
 
 returns : tie.Need-returns Inv-loop2 μ-loop2 Inv-loop μ-loop
 returns c =
