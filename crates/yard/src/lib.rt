@@ -57,9 +57,9 @@ fn closed(n: usize, square: Square) -> Square
     for k in 0..n {
         let via = new[k];
         for x in 0..n {
-            let row = new[x];
-            let base = row[k];
+            let base = new[x][k];
             if base < NONE {
+                let row = new[x];
                 let staged = stage_row(base, via, row);
                 new[x] = staged;
             }

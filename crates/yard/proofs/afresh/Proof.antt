@@ -11,7 +11,9 @@ closed-requires : tie.Need-closed-requires
 closed-requires c κs = search needs
 
 returns : tie.Need-returns
-returns c = fresh (c .before .before .before .before .before .before .pre .0) (c .before .slacks .ensures) (c .closed .ensures)
+returns c =
+    let start = c .before .before .before .before .before .before in
+    fresh (start .pre .0) (c .before .slacks .ensures) (c .closed .ensures)
 
 pub afresh-spec : {M : Type 1} → statement M
 afresh-spec = tie.close (tie.spec slacks-requires closed-requires returns)

@@ -40,23 +40,25 @@ day-at-requires c κs = search needs
 
 limits-requires : tie.Need-limits-requires Inv-loop μ-loop
 limits-requires c κs =
-    let start = c .before .before .before .before .before .before in
     let loop = c .before .before .before .before .loop in
-    (start .pre .0, (start .pre .1, omega (arith, c .day-at .ensures, c .before .before .before .before .before .shared-slice-known .given (loop .x))))
+    let at-shared-slice-known = c .before .before .before .before .before in
+    let start = at-shared-slice-known .before in
+    (start .pre .0, (start .pre .1, omega (arith, c .day-at .ensures, at-shared-slice-known .shared-slice-known .given (loop .x))))
 
 same-row-requires : tie.Need-same-row-requires Inv-loop μ-loop
 same-row-requires c κs = search needs
 
 returns : tie.Need-returns Inv-loop μ-loop
 returns c =
-    let start = c .before .before .before .before .before .before .before .before .before in
-    let loop = c .before .before .before .before .before .before .before .loop in
+    let in-loop = c .before .before .before .before .before .before in
+    let loop = in-loop .before .loop in
+    let start = in-loop .before .before .before in
     let square = start .args .t3 in
     let days = start .args .days .now in
     let row =
     made-same (λ y z e. e ∙ ap (λ (d : ℕ). limit (way square (loop .x) y) d (at days y)) (c .before .before .before .day-at .ensures)) refl
     (c .before .before .limits .ensures) in
-    decides-no refl (λ all. row-wrong (start .pre .0) row (c .before .same-row .ensures) (not-true _ (c .if1 .taken)) (λ y h. all (loop .x) y (c .before .before .before .before .before .before .loop-test .taken) h))
+    decides-no refl (λ all. row-wrong (start .pre .0) row (c .before .same-row .ensures) (not-true _ (c .if1 .taken)) (λ y h. all (loop .x) y (in-loop .loop-test .taken) h))
 
 add-x : tie.Need-add-x Inv-loop μ-loop
 add-x c = search needs
@@ -66,8 +68,8 @@ loop-less c = search needs
 
 loop-again : tie.Need-loop-again Inv-loop μ-loop
 loop-again c =
-    let start = c .before .before .before .before .before .before .before .before .before in
     let loop = c .before .before .before .before .before .before .before .loop in
+    let start = c .before .before .before .before .before .before .before .before .before in
     let square = start .args .t3 in
     let days = start .args .days .now in
     let row =

@@ -47,7 +47,10 @@ loop-less : tie.Need-loop-less Inv-loop μ-loop
 loop-less c = search needs
 
 loop-again : tie.Need-loop-again Inv-loop μ-loop
-loop-again c = (omega arith, made-more (c .before .before .before .loop .inv .1) (omega (arith, c .before .before .before .before .before .pre .0, c .before .before .before .before .before .good .1 .1 .1 .1 .0 .1 .0 .1)) _ (toZ-ofZ w64 (c .limit-of .result) (record { sfits = c .limit-of .ok }) ∙ c .limit-of .ensures ∙ ap (limit (at (c .before .before .before .before .before .args .t4) (c .before .before .before .loop .y)) (c .before .before .before .before .before .args .dx)) (c .before .day-at .ensures)))
+loop-again c =
+    let loop = c .before .before .before .loop in
+    let start = c .before .before .before .before .before in
+    (omega arith, made-more (loop .inv .1) (omega (arith, start .pre .0, start .good .1 .1 .1 .1 .0 .1 .0 .1)) _ (toZ-ofZ w64 (c .limit-of .result) (record { sfits = c .limit-of .ok }) ∙ c .limit-of .ensures ∙ ap (limit (at (start .args .t4) (loop .y)) (start .args .dx)) (c .before .day-at .ensures)))
 
 returns : tie.Need-returns Inv-loop μ-loop
 returns c =

@@ -14,7 +14,9 @@ returns c =
     raised-none (args .n) (args .x) (args .y) (args .c) (args .gaps .now) (c .if1 .taken)
 
 cast-raised : tie.Need-cast-raised
-cast-raised c = wide (c .before .before .args .c) (c .before .before .fits .c)
+cast-raised c =
+    let start = c .before .before in
+    wide (start .args .c) (start .fits .c)
 
 raised-requires : tie.Need-raised-requires
 raised-requires c κs =

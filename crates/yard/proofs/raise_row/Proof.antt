@@ -60,8 +60,8 @@ loop-less c = search needs
 
 loop-again : tie.Need-loop-again Inv-loop μ-loop
 loop-again c =
-    let start = c .before .before .before .before .before in
     let loop = c .before .before .before .before .loop in
+    let start = c .before .before .before .before .before in
     let step =
     rw (
       toZ-ofZ w64 (getD (start .args .t5) (loop .j) (pos 0)) (record { sfits = c .before .before .smaller-arg .given }),
@@ -73,9 +73,10 @@ loop-again c =
 
 returns : tie.Need-returns Inv-loop μ-loop
 returns c =
-    let all : c .before .loop .j ≡ c .before .before .args .n = omega (arith, c .before .loop .inv .0, c .loop-test .left) in
-    let args = c .before .before .args in
-    let fits = c .before .before .fits in
+    let start = c .before .before in
+    let all : c .before .loop .j ≡ start .args .n = omega (arith, c .before .loop .inv .0, c .loop-test .left) in
+    let args = start .args in
+    let fits = start .fits in
     rw (all, toZ-ofZ w64 (args .p) (fits .p), toZ-ofZ w64 (args .c) (fits .c)) at (c .before .loop .inv .1)
 
 pub raise-row-spec : {M : Type 1} → statement M

@@ -45,8 +45,8 @@ array-copy-out-raise-row c = search needs
 
 raise-row-requires : tie.Need-raise-row-requires Inv-loop μ-loop
 raise-row-requires c κs =
-    let start = c .before .before .before .before .before in
     let loop = c .before .before .before .loop in
+    let start = c .before .before .before .before .before in
     let args = start .args in
     let near = start .pre .1 .1 .1 .1 in
     let read = toZ-ofZ w64 (cell (loop .new) (loop .i) (args .x)) (record { sfits = c .raise-row-arg .given }) in
@@ -75,8 +75,8 @@ loop-less c = search needs
 
 loop-again : tie.Need-loop-again Inv-loop μ-loop
 loop-again c =
-    let start = c .before .before .before .before .before .before in
     let loop = c .before .before .before .before .loop in
+    let start = c .before .before .before .before .before .before in
     let args = start .args in
     let old = args .t5 in
     let way = toZ w64 (ofZ w64 (args .c)) in
@@ -92,8 +92,9 @@ loop-again c =
 
 returns : tie.Need-returns Inv-loop μ-loop
 returns c =
-    let all : c .before .loop .i ≡ c .before .before .before .args .n = omega (arith, c .before .loop .inv .0, c .loop-test .left) in
-    rw (all, toZ-ofZ w64 (c .before .before .before .args .c) (c .before .before .before .fits .c)) at (c .before .loop .inv .1)
+    let start = c .before .before .before in
+    let all : c .before .loop .i ≡ start .args .n = omega (arith, c .before .loop .inv .0, c .loop-test .left) in
+    rw (all, toZ-ofZ w64 (start .args .c) (start .fits .c)) at (c .before .loop .inv .1)
 
 pub raised-spec : {M : Type 1} → statement M
 raised-spec =

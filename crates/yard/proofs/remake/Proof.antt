@@ -22,11 +22,15 @@ cast-afresh c = search needs
 
 afresh-requires : tie.Need-afresh-requires
 afresh-requires c κs =
-    let a = c .before .before .before .before .before .before .before .args in
-    (omega (arith, c .before .if1 .left), slackable (a .counts) (a .xs .now) (a .ys .now) (a .cs .now) (a .days .now) (a .levels .now) (c .before .before .before .before .before .before .before .pre) (omega (arith, c .before .if1 .left)))
+    let start = c .before .before .before .before .before .before .before in
+    let a = start .args in
+    (omega (arith, c .before .if1 .left), slackable (a .counts) (a .xs .now) (a .ys .now) (a .cs .now) (a .days .now) (a .levels .now) (start .pre) (omega (arith, c .before .if1 .left)))
 
 written-requires : tie.Need-written-requires
-written-requires c κs = (omega (arith, c .before .before .before .if1 .left), omega (arith, c .before .before .before .if1 .left, c .before .before .before .before .before .before .before .before .before .pre .room .days-room))
+written-requires c κs =
+    let else1 = c .before .before .before in
+    let start = else1 .before .before .before .before .before .before in
+    (omega (arith, else1 .if1 .left), omega (arith, else1 .if1 .left, start .pre .room .days-room))
 
 returns-2 : tie.Need-returns-2
 returns-2 c =

@@ -21,16 +21,27 @@ abbrev μ-loop : tie.MeasureT-loop
 blank-requires : tie.Need-blank-requires Inv-loop μ-loop
 blank-requires c κs = search needs
 
-loop-holds : tie.Need-loop-holds Inv-loop μ-loop
-loop-holds c = passing-none (rule-at (columns (c .before .before .before .before .before .args .xs .now) (c .before .before .before .before .before .args .ys .now) (c .before .before .before .before .before .args .cs .now))) (c .before .before .before .before .before .args .levels .now) (at (c .before .before .before .before .before .args .days .now)) (c .blank .ensures)
+-- Places of the code, seen from later ones.
+abbrev in-loop-before-slack : tie.After-slack Inv-loop μ-loop → tie.In-loop Inv-loop μ-loop
+in-loop-before-slack c = c .before .before .before .before .before
 
--- In the loop a place is left.
-inside : (c : tie.In-loop Inv-loop μ-loop) → c .before .loop .i < RULES
-inside c = place-left (c .before .loop .inv) (omega (arith, c .loop-test .taken, c .before .before .before .before .before .before .before .pre .counted))
+abbrev then1-before-then2 : tie.Then2 Inv-loop μ-loop → tie.Then1 Inv-loop μ-loop
+then1-before-then2 c = c .before .before .before .before .before
+
+loop-holds : tie.Need-loop-holds Inv-loop μ-loop
+loop-holds c =
+    let start = c .before .before .before .before .before in
+    passing-none (rule-at (columns (start .args .xs .now) (start .args .ys .now) (start .args .cs .now))) (start .args .levels .now) (at (start .args .days .now)) (c .blank .ensures)
 
 -- The entry of the function, seen from the loop's test.
 abbrev entry : tie.In-loop Inv-loop μ-loop → tie.Start Inv-loop μ-loop
 entry c = c .before .before .before .before .before .before .before
+
+-- In the loop a place is left.
+inside : (c : tie.In-loop Inv-loop μ-loop) → c .before .loop .i < RULES
+inside c =
+    let start = entry c in
+    place-left (c .before .loop .inv) (omega (arith, c .loop-test .taken, start .pre .counted))
 
 -- The rule in a place that is held is between steps of one yard.
 between :
@@ -39,20 +50,27 @@ between :
 between c some = entry c .pre .steps-in (c .before .loop .i) (inside c, omega (arith, some))
 
 shared-slice-read-if1 : tie.Need-shared-slice-read-if1 Inv-loop μ-loop
-shared-slice-read-if1 c = omega (arith, inside (c .before), c .before .before .before .before .before .before .before .before .pre .levels-room)
+shared-slice-read-if1 c =
+    let start = entry (c .before) in
+    omega (arith, inside (c .before), start .pre .levels-room)
 
 number-at-requires : tie.Need-number-at-requires Inv-loop μ-loop
-number-at-requires c κs = omega (arith, inside (c .before .before), c .before .before .before .before .before .before .before .before .before .pre .firsts-room)
+number-at-requires c κs =
+    let start = entry (c .before .before) in
+    omega (arith, inside (c .before .before), start .pre .firsts-room)
 
 number-at-requires-2 : tie.Need-number-at-requires-2 Inv-loop μ-loop
-number-at-requires-2 c κs = omega (arith, inside (c .before .before .before), c .before .before .before .before .before .before .before .before .before .before .pre .seconds-room)
+number-at-requires-2 c κs =
+    let start = entry (c .before .before .before) in
+    omega (arith, inside (c .before .before .before), start .pre .seconds-room)
 
 slack-requires : tie.Need-slack-requires Inv-loop μ-loop
 slack-requires c κs =
+    let if1 = c .before .before .if1 in
     let turn = c .before .before .before .before in
     let start = entry turn in
     let i = turn .before .loop .i in
-    let steps = between turn (c .before .before .if1 .taken) in (
+    let steps = between turn (if1 .taken) in (
       record {
         placed = record {
           first-place = omega (arith, inside turn, start .pre .firsts-room);
@@ -62,32 +80,52 @@ slack-requires c κs =
         first-day = omega (arith, steps .first-in, start .pre .days-room);
         second-day = omega (arith, steps .second-in, start .pre .days-room);
       },
-      start .pre .kept i (inside turn, omega (arith, c .before .before .if1 .taken)),
+      start .pre .kept i (inside turn, omega (arith, if1 .taken)),
     )
 
 mul-if2 : tie.Need-mul-if2 Inv-loop μ-loop
-mul-if2 c = omega (arith, c .before .before .number-at .ensures, between (c .before .before .before .before .before) (c .before .before .before .if1 .taken) .first-in)
+mul-if2 c =
+    let in-loop = in-loop-before-slack c in
+    omega (arith, c .before .before .number-at .ensures, between in-loop (c .before .before .before .if1 .taken) .first-in)
 
 mul-if2-2 : tie.Need-mul-if2-2 Inv-loop μ-loop
-mul-if2-2 c = omega (arith, c .before .number-at2 .ensures, between (c .before .before .before .before .before) (c .before .before .before .if1 .taken) .second-in)
+mul-if2-2 c =
+    let in-loop = in-loop-before-slack c in
+    omega (arith, c .before .number-at2 .ensures, between in-loop (c .before .before .before .if1 .taken) .second-in)
 
 index-1-if2 : tie.Need-index-1-if2 Inv-loop μ-loop
-index-1-if2 c = omega (arith, c .before .before .number-at .ensures, between (c .before .before .before .before .before) (c .before .before .before .if1 .taken) .first-in)
+index-1-if2 c =
+    let in-loop = in-loop-before-slack c in
+    omega (arith, c .before .before .number-at .ensures, between in-loop (c .before .before .before .if1 .taken) .first-in)
 
 index-2-if2 : tie.Need-index-2-if2 Inv-loop μ-loop
-index-2-if2 c = omega (arith, c .before .number-at2 .ensures, between (c .before .before .before .before .before) (c .before .before .before .if1 .taken) .second-in)
+index-2-if2 c =
+    let in-loop = in-loop-before-slack c in
+    omega (arith, c .before .number-at2 .ensures, between in-loop (c .before .before .before .if1 .taken) .second-in)
 
 mul-square : tie.Need-mul-square Inv-loop μ-loop
-mul-square c = omega (arith, c .before .before .before .before .number-at .ensures, between (c .before .before .before .before .before .before .before) (c .before .before .before .before .before .if1 .taken) .first-in)
+mul-square c =
+    let then1 = then1-before-then2 c in
+    let in-loop = then1 .before .before in
+    omega (arith, c .before .before .before .before .number-at .ensures, between in-loop (then1 .if1 .taken) .first-in)
 
 mul-square-2 : tie.Need-mul-square-2 Inv-loop μ-loop
-mul-square-2 c = omega (arith, c .before .before .before .number-at2 .ensures, between (c .before .before .before .before .before .before .before) (c .before .before .before .before .before .if1 .taken) .second-in)
+mul-square-2 c =
+    let then1 = then1-before-then2 c in
+    let in-loop = then1 .before .before in
+    omega (arith, c .before .before .before .number-at2 .ensures, between in-loop (then1 .if1 .taken) .second-in)
 
 index-1-square : tie.Need-index-1-square Inv-loop μ-loop
-index-1-square c = omega (arith, c .before .before .before .before .number-at .ensures, between (c .before .before .before .before .before .before .before) (c .before .before .before .before .before .if1 .taken) .first-in)
+index-1-square c =
+    let then1 = then1-before-then2 c in
+    let in-loop = then1 .before .before in
+    omega (arith, c .before .before .before .before .number-at .ensures, between in-loop (then1 .if1 .taken) .first-in)
 
 index-2-square : tie.Need-index-2-square Inv-loop μ-loop
-index-2-square c = omega (arith, c .before .before .before .number-at2 .ensures, between (c .before .before .before .before .before .before .before) (c .before .before .before .before .before .if1 .taken) .second-in)
+index-2-square c =
+    let then1 = then1-before-then2 c in
+    let in-loop = then1 .before .before in
+    omega (arith, c .before .before .before .number-at2 .ensures, between in-loop (then1 .if1 .taken) .second-in)
 
 add-seen : tie.Need-add-seen Inv-loop μ-loop
 add-seen c = search needs
@@ -113,7 +151,9 @@ loop-again c =
     (c .if1 .came)
 
 returns : tie.Need-returns Inv-loop μ-loop
-returns c = passing-all (c .before .loop .inv) (omega (arith, c .loop-test .left, c .before .before .before .before .before .before .before .pre .counted))
+returns c =
+    let start = c .before .before .before .before .before .before .before in
+    passing-all (c .before .loop .inv) (omega (arith, c .loop-test .left, start .pre .counted))
 
 pub slacks-spec : {M : Type 1} → statement M
 slacks-spec =

@@ -51,12 +51,13 @@ loop-less c = search needs
 loop-again : tie.Need-loop-again Inv-loop μ-loop
 loop-again c =
     let loop = c .before .before .loop in
-    let args = c .before .before .before .args in
+    let start = c .before .before .before in
+    let args = start .args in
     let step = ⊎-elim
     (λ w. smaller-is (at (args .t3) (loop .y)) (args .base + at (args .t2) (loop .y)) (c .if1 .cell) (inl (w .0 .taken, w .1)))
     (λ w. smaller-is (at (args .t3) (loop .y)) (args .base + at (args .t2) (loop .y)) (c .if1 .cell) (inr (w .0 .left, w .1)))
     (c .if1 .came) in
-    (omega arith, made-more (loop .inv .1) (omega (arith, c .before .before .before .good .1 .1 .0 .1 .0 .1)) (c .if1 .cell) step)
+    (omega arith, made-more (loop .inv .1) (omega (arith, start .good .1 .1 .0 .1 .0 .1)) (c .if1 .cell) step)
 
 returns : tie.Need-returns Inv-loop μ-loop
 returns c =

@@ -40,9 +40,10 @@ day-at-requires c κs = search needs
 
 limits-requires : tie.Need-limits-requires Inv-loop μ-loop
 limits-requires c κs =
-    let start = c .before .before .before .before .before .before in
     let loop = c .before .before .before .before .loop in
-    (start .pre .0, (start .pre .1, omega (arith, c .day-at .ensures, c .before .before .before .before .before .shared-slice-known .given (loop .x))))
+    let at-shared-slice-known = c .before .before .before .before .before in
+    let start = at-shared-slice-known .before in
+    (start .pre .0, (start .pre .1, omega (arith, c .day-at .ensures, at-shared-slice-known .shared-slice-known .given (loop .x))))
 
 mul-new : tie.Need-mul-new Inv-loop μ-loop
 mul-new c = search needs
@@ -58,8 +59,8 @@ loop-less c = search needs
 
 loop-again : tie.Need-loop-again Inv-loop μ-loop
 loop-again c =
-    let start = c .before .before .before .before .before .before .before in
     let loop = c .before .before .before .before .before .loop in
+    let start = c .before .before .before .before .before .before .before in
     let square = start .args .t3 in
     let days = start .args .days .now in
     let row =
