@@ -58,6 +58,12 @@ pair-met n x y k (inl f) is = absurd (omega (arith, f .0, is))
 pair-met n x y k (inr (few, inl f)) is = absurd (omega (arith, f .0, is))
 pair-met n x y k (inr (few, inr (there, f))) is = record { one-yard = few; row-in = there .0; column-in = there .1 }
 
+up-alone : (n : ℕ) → n ≡ n + 0
+up-alone n = omega arith
+
+dn-alone : (n : ℕ) → suc n ≡ 0 + suc n
+dn-alone n = omega arith
+
 -- A cell that says what is so is told.
 pub told-none : (x y : ℕ) (t : Tables) (z : ℤ) → z ≡ pos NO-LIMIT → Says (rules-of t) (held-in t) x y z → GapTold x y t 0 0 t
 told-none x y t z e (inl (is, none)) = record { told = inl (refl, refl, none); all-stays = refl }
@@ -65,6 +71,6 @@ told-none x y t z e (inr (is, limit)) = absurd (is e)
 
 pub told-limit : (x y : ℕ) (t : Tables) (z : ℤ) → (z ≡ pos NO-LIMIT → ⊥) → Says (rules-of t) (held-in t) x y z → GapTold x y t (kind-of z) (size-of z) t
 told-limit x y t z limited (inl (is, none)) = absurd (limited is)
-told-limit x y t (pos n) limited (inr (is, limit)) =
-    record { told = inr (inl (refl, subst (λ (k : ℕ). Limit (rules-of t) (held-in t) x y (pos k)) (omega arith) limit)); all-stays = refl }
-told-limit x y t (negsuc n) limited (inr (is, limit)) = record { told = inr (inr (refl, omega arith, limit)); all-stays = refl }
+told-limit x y t (pos n) limited (inr (is, limit)) = record { told = inr (inl (refl, subst (λ (k : ℕ). Limit (rules-of t) (held-in t) x y (pos k)) (up-alone n) limit)); all-stays = refl }
+told-limit x y t (negsuc n) limited (inr (is, limit)) =
+    record { told = inr (inr (refl, omega arith, subst (λ (k : ℕ). Limit (rules-of t) (held-in t) x y (negℤ (pos k))) (dn-alone n) limit)); all-stays = refl }

@@ -88,7 +88,7 @@ gaps-raised-requires c κs done =
     let start = c .before .before .before .before .before .before .before .before .before .before .before .before .before .before .before .before .before .before .before .before .before .before .before .before .before .before .before .before .before .before .before .before .before .before .before .before .before .before .before .before .before .before .before .before in
     let at-verdict = c .before .before .before .before .before .before .before .before .before .before .before .before .before .before .before .before .before .before .before .before .before .before .before .before .before .before .verdict in
     let made = ((rw (toZ-ofZ w32 (start .args .c) (start .fits .c)) at (c .before .before .before .before .before .before .before .before .before .before .before .before .before .before .add .ensures))
-        (start .args .wxs .now) (start .args .wys .now) (start .args .wcs .now) (entered _ _ _ _ _ _ (at-verdict .ensures) (omega (arith, c .before .before .before .before .before .before .before .before .before .before .before .before .before .before .before .before .before .before .before .before .before .before .before .if1 .left)))) in
+    (start .args .wxs .now) (start .args .wys .now) (start .args .wcs .now) (entered _ _ _ _ _ _ (at-verdict .ensures) (omega (arith, c .before .before .before .before .before .before .before .before .before .before .before .before .before .before .before .before .before .before .before .before .before .before .before .if1 .left)))) in
     rw (toZ-ofZ w32 (start .args .c) (start .fits .c))
     (add-raisable (rule (start .args .x) (start .args .y) (start .args .c)) (lent-at start) _ (start .args .list .now) _ _ (start .args .gaps .now) (start .args .gaps .now) made (right-entered _ _ _ _ _ _ (c .before .before .before .before .before .before .before .before .before .before .before .before .before .before .before .before .before .before .before .before .before .before .before .before .before .before .verdict .ensures) (omega (arith, c .before .before .before .before .before .before .before .before .before .before .before .before .before .before .before .before .before .before .before .before .before .before .before .if1 .left))) done)
 
@@ -117,7 +117,7 @@ returns-2 c =
     let r = rule (start .args .x) (start .args .y) (start .args .c) in
     let lent = with-list (lent-at start) (start .args .list .now) in
     let made = ((rw (toZ-ofZ w32 (start .args .c) (start .fits .c)) at (c .before .before .before .before .before .before .before .before .before .before .before .before .before .before .before .add .ensures))
-        (start .args .wxs .now) (start .args .wys .now) (start .args .wcs .now) (entered _ _ _ _ _ _ (at-verdict .ensures) (omega (arith, c .before .before .before .before .before .before .before .before .before .before .before .before .before .before .before .before .before .before .before .before .before .before .before .before .if1 .left)))) in
+    (start .args .wxs .now) (start .args .wys .now) (start .args .wcs .now) (entered _ _ _ _ _ _ (at-verdict .ensures) (omega (arith, c .before .before .before .before .before .before .before .before .before .before .before .before .before .before .before .before .before .before .before .before .before .before .before .before .if1 .left)))) in
     let right = right-entered _ _ _ _ _ _ (c .before .before .before .before .before .before .before .before .before .before .before .before .before .before .before .before .before .before .before .before .before .before .before .before .before .before .before .verdict .ensures) (omega (arith, c .before .before .before .before .before .before .before .before .before .before .before .before .before .before .before .before .before .before .before .before .before .before .before .before .if1 .left)) in
     let gaps-raised = rw (toZ-ofZ w32 (start .args .c) (start .fits .c)) at (c .gaps-raised .ensures) in
     lift-remaking (add-meaning r lent) (lent-at start) (start .args .gaps .now) right lent _ _ (λ w. w .tables) _ made

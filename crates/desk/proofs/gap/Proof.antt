@@ -51,7 +51,7 @@ returns c =
     (record { obeys = refused-alone _ _ _ _ _ _ (c .before .before .before .before .verdict .ensures) _ _ (omega (arith, c .before .if1 .taken)) refl (λ f. f); flag = omega arith })
 
 pair-verdict-requires : tie.Need-pair-verdict-requires
-pair-verdict-requires c κs = (omega (arith, length-replicate {A = ℕ} STEPS 0), omega (arith, length-replicate {A = ℕ} RULES 0))
+pair-verdict-requires c κs = search needs
 
 gap-reply-requires-2 : tie.Need-gap-reply-requires-2
 gap-reply-requires-2 c κs = search needs
@@ -88,7 +88,7 @@ returns-3 c =
     let says = subst (Says (rules-of (lent-at start)) (held-in (lent-at start)) (start .args .x) (start .args .y)) (sym (at-cell .ensures)) (right (start .args .x) (start .args .y) there) in
     rw (c .gap-reply3 .ensures)
     (record {
-      obeys = obeys-done _ _ 0 0 _ (border .room, (border .sound, (right, (there .one-yard, ((there .row-in, there .column-in), tt))))) (told-none (start .args .x) (start .args .y) (lent-at start) (at-cell .result) (is-no-limit (at-cell .result) (at-cell .fits) (c .before .if3 .taken)) says, refl);
+      obeys = obeys-done _ _ 0 0 _ (border .room, (border .sound, (right, (there .one-yard, ((there .row-in, there .column-in), tt))))) (told-none (start .args .x) (start .args .y) (lent-at start) (at-cell .result) (is-no-limit (at-cell .result) (record { sfits = at-cell .ok }) (c .before .if3 .taken)) says, refl);
       flag = omega arith;
     })
 
@@ -103,7 +103,7 @@ returns-4 c =
     let border = entered _ _ _ _ _ _ (c .before .before .before .before .before .before .before .before .verdict .ensures) (omega (arith, c .before .before .before .before .before .if1 .left)) in
     let right = right-entered _ _ _ _ _ _ (c .before .before .before .before .before .before .before .before .verdict .ensures) (omega (arith, c .before .before .before .before .before .if1 .left)) in
     let says = subst (Says (rules-of (lent-at start)) (held-in (lent-at start)) (start .args .x) (start .args .y)) (sym (at-cell .ensures)) (right (start .args .x) (start .args .y) there) in
-    rw (c .gap-reply4 .ensures, toZ-ofZ w64 (at-cell .result) (at-cell .fits))
+    rw (c .gap-reply4 .ensures, toZ-ofZ w64 (at-cell .result) (record { sfits = at-cell .ok }))
     (record {
       obeys = obeys-done _ _ (kind-of (at-cell .result)) (size-of (at-cell .result)) _ (border .room, (border .sound, (right, (there .one-yard, ((there .row-in, there .column-in), tt))))) (told-limit (start .args .x) (start .args .y) (lent-at start) (at-cell .result) (not-no-limit (at-cell .result) (c .before .if3 .left)) says, refl);
       flag = omega arith;

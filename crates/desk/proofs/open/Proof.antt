@@ -112,8 +112,7 @@ remake-requires c κs =
     let room = c .before .before .before .before .before .before .before .before .before .before .before .before .before .before .before .has-room .ensures (start .args .counts) .so (not-false _ (c .before .before .before .before .before .before .before .before .before .before .before .before .before .before .if1 .left)) in
     let clear-days = c .before .before .before .before .before .before .before .before .before .before .clear-days in
     let free-all = c .before .before .before .before .before .before .free-all in
-    let zeros = λ (v : ℕ) (h : v < start .args .steps). clear-days .ensures .day-0 v (omega (arith, h, c .before .before .before .before .before .before .before .before .before .before .before .before .if3 .left)) in
-    let opened = opened-record (start .args .steps) (lent-at start) _ _ zeros (clear-days .ensures .past) (free-all .ensures .all-free) (free-all .ensures .past-levels) in
+    let opened = opened-record (start .args .steps) (lent-at start) _ _ (λ v h. clear-days .ensures .day-0 v (omega (arith, h, c .before .before .before .before .before .before .before .before .before .before .before .before .if3 .left))) (clear-days .ensures .past) (free-all .ensures .all-free) (free-all .ensures .past-levels) in
     let kept = opened-kept (start .args .steps) (lent-at start) _ 0 0 room (omega (arith, c .before .before .before .before .before .before .before .before .before .before .before .before .before .if2 .left)) (omega (arith, c .before .before .before .before .before .before .before .before .before .before .before .before .if3 .left)) opened in
     rw (c .before .before .before .steps-alone .ensures) (idle-border (record { room = kept .room; sound = kept .sound }))
 
@@ -132,8 +131,7 @@ returns-4 c =
     let room = c .before .before .before .before .before .before .before .before .before .before .before .before .before .before .before .before .before .has-room .ensures (start .args .counts) .so (not-false _ (c .before .before .before .before .before .before .before .before .before .before .before .before .before .before .before .before .if1 .left)) in
     let clear-days = c .before .before .before .before .before .before .before .before .before .before .before .before .clear-days in
     let free-all = c .before .before .before .before .before .before .before .before .free-all in
-    let zeros = λ (v : ℕ) (h : v < start .args .steps). clear-days .ensures .day-0 v (omega (arith, h, c .before .before .before .before .before .before .before .before .before .before .before .before .before .before .if3 .left)) in
-    let opened = opened-record (start .args .steps) (lent-at start) _ _ zeros (clear-days .ensures .past) (free-all .ensures .all-free) (free-all .ensures .past-levels) in
+    let opened = opened-record (start .args .steps) (lent-at start) _ _ (λ v h. clear-days .ensures .day-0 v (omega (arith, h, c .before .before .before .before .before .before .before .before .before .before .before .before .before .before .if3 .left))) (clear-days .ensures .past) (free-all .ensures .all-free) (free-all .ensures .past-levels) in
     let steps-alone = c .before .before .before .before .before .steps-alone in
     let remade = rw (steps-alone .ensures) at (c .before .remake .ensures) in
     rw (c .done .ensures, steps-alone .ensures)
