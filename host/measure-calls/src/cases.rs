@@ -5,6 +5,7 @@ use crate::agree::both;
 use crate::byhand::{CONFLICT, DONE, FULL};
 use crate::office::{Call, Office, BY_HAND, LIBRARY};
 use crate::shapes::{clashing, crowded, moving, office, rule, sparing, still, tight, Shape, Size};
+use planner::bounds::YARD_STEPS;
 use planner::calls::Rule;
 
 pub struct Case {
@@ -30,6 +31,7 @@ pub const RING: &str = "Ring check, as many as steps";
 pub const SPLIT_SOME: &str = "Consequences, 64 steps watched";
 pub const SPLIT_ALL: &str = "Consequences, all steps watched";
 pub const LAST_DAY: &str = "Last day";
+pub const GAP: &str = "Gap";
 
 /// The cases of one shape and size; Consequences with so many watched rules, the other calls with a fourth of the rules.
 pub fn cases(shape: Shape, steps: usize, rules: usize, watched: usize) -> Vec<Case> {
@@ -64,6 +66,23 @@ pub fn cases(shape: Shape, steps: usize, rules: usize, watched: usize) -> Vec<Ca
     cases
 }
 
+/// The cases of one yard, of as many steps as it may have and so many rules: the calls that look at the gap table alone, and those that bring it up to date.
+pub fn yard_cases(shape: Shape, rules: usize) -> Vec<Case> {
+    let size = Size { steps: YARD_STEPS, rules, watched: rules / 4, over: YARD_STEPS, marks: 63 };
+    let held = office(shape, size);
+    let before_add = office(shape, Size { rules: rules - 1, ..size });
+    let moving = moving(shape, &before_add);
+    vec![
+        case(MARK, Call::Mark, DONE, held.clone()),
+        case(GAP, Call::Gap(0, YARD_STEPS as u32 - 2), DONE, held.clone()),
+        case(ADD_STILL, Call::Add(still(&before_add)), DONE, before_add.clone()),
+        case(ADD_MOVING, Call::Add(moving), DONE, before_add.clone()),
+        case(WITHDRAW_SPARING, Call::Withdraw(sparing(&held)), DONE, held.clone()),
+        case(WITHDRAW_MOVING, Call::Withdraw(before_add.counts.rules), DONE, both(&before_add, Call::Add(moving)).0),
+        case(BACK, Call::Back, DONE, held),
+    ]
+}
+
 /// A case of which both engines say the same, with the number wanted.
 fn case(name: &'static str, call: Call, wanted: u32, office: Office) -> Case {
     let (after, given) = both(&office, call);
@@ -77,6 +96,7 @@ fn case(name: &'static str, call: Call, wanted: u32, office: Office) -> Case {
         ADD_CROWDED => assert!(ring == LONG, "a ring of {} rules", ring),
         ADD_LONGEST => assert!(ring == steps, "a ring of {} rules and {} steps", ring, steps),
         RING => assert!(ring == 1, "no ring of {:?}", call),
+        GAP => assert!(given.values[0] == 1, "no limit of {:?}", call),
         _ => {}
     }
     Case { name, call, office, conflict: wanted == CONFLICT }
