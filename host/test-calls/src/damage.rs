@@ -1,6 +1,6 @@
 //! Damaged and short tables: from sound states every count and every cell that matters is changed in turn, some free places and cells past the counts too, which must
-//! not matter, those of the gap table that are not kept among them, and free places are made to count; every table and list is lent short, empty and longer than needed. After each change all calls are made. The
-//! independent engine says by the definition whether what is lent is still sound.
+//! not matter, those of the gap table that are not kept among them, and free places are made to count; every table and list is lent short, empty and longer than
+//! needed. After each change all calls are made. The independent engine says by the definition whether what is lent is still sound.
 
 use crate::Options;
 use crate::acts::Act;

@@ -2,11 +2,11 @@
 
 use crate::acts::Act;
 use crate::compare::Both;
-use crate::engine::{CONFLICT, DAMAGED, STEP, YARD as MORE_STEPS};
+use crate::engine::{ABSENT, CONFLICT, DAMAGED, STEP, YARD as MORE_STEPS};
 use crate::office::{Field, Place, NO_LIMIT, STEPS, YARD};
 use crate::sequences::rule;
 use crate::tests::Tally;
-use reader::{DONE, NOMARK, SHORT};
+use reader::{DONE, FULL, NOMARK, RULES, SHORT};
 
 /// No limit.
 const N: i64 = NO_LIMIT;
@@ -59,6 +59,7 @@ pub fn all(tally: &mut Tally) {
         ("ties, self rules and rules of one pair", ties()),
         ("the bounds of one yard", bounds()),
         ("as many days as there can be", farthest()),
+        ("every place held", every_place()),
         ("refusals in their order", in_order()),
         ("every cell that is kept", every_cell()),
         ("cells that are not kept", other_cells()),
@@ -143,7 +144,7 @@ fn what_leaves_it() -> Vec<Line> {
         (Act::Gap(0, 1), DONE),
         (Act::Mark, DONE),
         (Act::Open(0), STEP),
-        (Act::Withdraw(3), 12),
+        (Act::Withdraw(3), ABSENT),
         (Act::Back, DONE),
         (Act::Back, NOMARK),
         // It says no more than the others do.
@@ -214,6 +215,32 @@ fn farthest() -> Vec<Line> {
     lines.extend([gap(0, 15, Some(-15_000_000)), gap(15, 0, Some(15_000_000)), line(Act::Mark, DONE, Last(of_last))]);
     lines.extend([done(Act::Withdraw(0)), gap(0, 15, None), gap(15, 0, Some(15_000_000)), gap(1, 15, Some(-14_000_000))]);
     lines
+}
+
+/// 4,096 rules of one pair: the smallest amount counts, wherever it stands, until it is withdrawn.
+fn every_place() -> Vec<Line> {
+    let full = |act: Act| line(act, FULL, Nothing);
+    vec![
+        done(Act::Open(YARD as u32)),
+        done(Act::Hold(rule(0, 15, 9), RULES - 2)),
+        gap(0, 15, Some(9)),
+        done(add(0, 15, 3)),
+        done(add(15, 0, -3)),
+        gap(0, 15, Some(3)),
+        gap(15, 0, Some(-3)),
+        full(add(0, 15, 2)),
+        full(Act::Trial(rule(0, 15, 2))),
+        done(Act::Withdraw(7)),
+        gap(0, 15, Some(3)),
+        line(add(0, 15, 2), CONFLICT, Nothing),
+        gap(0, 15, Some(3)),
+        done(Act::Withdraw(4_094)),
+        gap(0, 15, Some(9)),
+        done(add(0, 15, 4)),
+        gap(0, 15, Some(4)),
+        done(Act::Withdraw(4_095)),
+        gap(15, 0, None),
+    ]
 }
 
 /// SHORT, then DAMAGED, then YARD, then STEP.

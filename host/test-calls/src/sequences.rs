@@ -86,7 +86,7 @@ impl Writer {
             Kind::Ways => 3 + random.below(14),
             Kind::Mixed | Kind::Chain | Kind::Brim => STEPS,
             // Every other one over all steps.
-            Kind::Full => [STEPS, 3, STEPS, 17, STEPS, 40, STEPS, STEPS_BEFORE][(seed / 1_000 % 8) as usize],
+            Kind::Full => [STEPS, 3, STEPS, YARD, STEPS, 40, STEPS, STEPS_BEFORE][(seed / 1_000 % 8) as usize],
         };
         let span = random.pick(&[5, 300, 900_000]);
         let hidden = (0..steps).map(|_| random.between(0, span)).collect();
