@@ -321,6 +321,9 @@ static void gap_tables(void)
     t.gaps[0][2] = -4;
     count(gap_refused(0, 2, DATES_DAMAGED) && dates_t_last_day(&t, &value) == DATES_DAMAGED && dates_t_watch(&t, 0, 1, 0) == DATES_DAMAGED, "a cell that is one too large");
     t.gaps[0][2] = -5;
+    t.gaps[3][3] = -1;
+    count(gap_refused(0, 2, DATES_DAMAGED) && dates_t_mark(&t) == DATES_DAMAGED, "a step that is not 0 days from itself");
+    t.gaps[3][3] = 0;
     t.gaps[4][4] = -1;
     count(gaps_are(two) && dates_t_mark(&t) == DATES_DONE && t.gaps[4][4] == -1, "and right again, whatever stands past the steps");
 
