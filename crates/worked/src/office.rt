@@ -195,6 +195,7 @@ pub fn put(ask: Ask, o: Office) -> Office {
 pub fn put_gap(ask: Ask, gaps: &mut Gaps) {
     let x = ask.first as usize;
     let y = ask.second as usize;
+    let limit = ask.limit;
     if ask.list != words::GAPS {
         return;
     }
@@ -204,5 +205,5 @@ pub fn put_gap(ask: Ask, gaps: &mut Gaps) {
     if YARD <= y {
         return;
     }
-    gaps[x][y] = ask.limit;
+    gaps[x][y] = limit;
 }
