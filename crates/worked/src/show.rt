@@ -323,13 +323,12 @@ fn level(levels: &[u8], i: u32) {
     }
 }
 
-// Writes the first n cells of the row of the gap table.
+// Writes the first n cells of the row of the gap table, and no more than it has.
 fn row(cells: [i64; meaning::YARD_STEPS], n: usize) {
+    let e = words::within(n, meaning::YARD_STEPS);
     let mut y: usize = 0;
-    while y < n {
-        if y < meaning::YARD_STEPS {
-            limit(cells[y]);
-        }
+    while y < e {
+        limit(cells[y]);
         y += 1;
     }
 }
