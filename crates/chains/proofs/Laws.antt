@@ -10,7 +10,8 @@ use lib.Seq.{getD-set-same, getD-set-other}
 use Rattle.meaning.specs.Bounds.{RULES}
 use Rattle.meaning.specs.Rules.{plus}
 use Rattle.meaning.specs.Tables.{at}
-use Rattle.lent.specs.Lent.{first}
+use Rattle.lent.specs.Lent.{first, held-by, AllHeld, FreeFrom}
+use Rattle.lent.proofs.Cells.{only-first}
 use Rattle.chains.specs.Chains.{top, ChainsOf, number, Chained, OFF, linked, LentChains, Empty, Pushed, Dropped, OffFrom}
 
 -- Where every chain is empty, they are the chains of no rules.
@@ -334,6 +335,18 @@ pub lent-off :
 lent-off n m xs heads nexts nexts′ in-rules heads-room nexts-room same-length off ch =
     lent-first n m xs heads nexts′ in-rules heads-room (omega (arith, nexts-room, same-length)) (λ k h l. off .off k h (omega (arith, l, nexts-room)))
     (chains-nexts n (first m) number xs heads nexts nexts′ (off .before) ch)
+
+-- Where the first m places are held and no others, the chains of the first m rules are those of the rules held.
+module _ (n m : ℕ) (levels xs heads nexts : List ℕ) (few : m ≤ RULES) (held : AllHeld m levels) (free : FreeFrom m levels) where
+  first-held : (k : ℕ) → first m k → held-by levels k
+  first-held k h = (omega (arith, h, few), held k h)
+
+  pub lent-held : LentChains n (first m) xs heads nexts → LentChains n (held-by levels) xs heads nexts
+  lent-held = lent-agree n (first m) (held-by levels) xs xs heads nexts first-held (only-first m levels free) (λ k h. refl)
+
+  -- And back.
+  pub held-lent : LentChains n (held-by levels) xs heads nexts → LentChains n (first m) xs heads nexts
+  held-lent = lent-agree n (held-by levels) (first m) xs xs heads nexts (only-first m levels free) first-held (λ k h. refl)
 
 -- Every rule that H holds of is older than rule m.
 module _ (n : ℕ) (H : ℕ → Type 0) (m : ℕ) (xs : List ℕ) (first-in : at xs m < n) (older : (k : ℕ) → H k → k < m) (heads nexts heads′ nexts′ : List ℕ) where

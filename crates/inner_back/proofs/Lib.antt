@@ -6,3 +6,4 @@ pub mod Sifting
 pub mod Loosening
 pub mod Dropping
 pub mod Unlinking
+pub mod Newest

@@ -1,4 +1,4 @@
--- What freeing every place above a level needs, and what it does to one place that is held.
+-- What freeing every place above a level needs; where the rules that go are the newest; and what is done to one place that is held.
 use Prim.Native.Nat.{ℕ, _+_, _≤_, _<_}
 use mathlib.Core.Path.{_≡_}
 use mathlib.Core.List.{List}
@@ -16,6 +16,19 @@ pub record Freeable (n k m : ℕ) (xs levels : List ℕ) : Type 0 where
   pub counted : m ≡ taken RULES levels
   pub firsts-in : (i : ℕ) → held-by levels i → at xs i < n
   pub marks-in : k ≤ MARKS
+
+-- Of the first m places those from number c on have levels above k, and the one before them has not.
+pub record CutAt (m k : ℕ) (levels : List ℕ) (c : ℕ) : Type 0 where
+  pub within : c ≤ m
+  pub high : (i : ℕ) → c ≤ i → i < m → k + 1 < at levels i
+  pub stops : (i : ℕ) → c ≡ i + 1 → at levels i ≤ k + 1
+
+-- The places from c up to m were freed; all others are as before.
+pub record FreedFrom (c m : ℕ) (levels levels′ : List ℕ) : Type 0 where
+  pub same-length : length levels′ ≡ length levels
+  pub freed : (i : ℕ) → c ≤ i → i < m → at levels′ i ≡ 0
+  pub below : (i : ℕ) → i < c → at levels′ i ≡ at levels i
+  pub above : (i : ℕ) → m ≤ i → at levels′ i ≡ at levels i
 
 -- Place i, of a level that is not above k, was put on its chain; it counts 1.
 pub record Stays (k i : ℕ) (xs levels heads nexts levels′ heads′ nexts′ : List ℕ) (r : ℕ) : Type 0 where

@@ -15,7 +15,7 @@ ghost use Rattle.lent.specs.Promises.{Border, GoesBack, Withdraws};
 ghost use Rattle.chains.specs.Chains.{linked, LentChains, Linkable};
 ghost use Rattle.spread.specs.Ground.{rules};
 ghost use Rattle.inner_back.specs.Replan.{Plannable, PlanRoom, Reachable, Reaches, Bringable, Brought};
-ghost use Rattle.inner_back.specs.Freeing.{Freeable, Sifted};
+ghost use Rattle.inner_back.specs.Freeing.{Freeable, CutAt, FreedFrom, Sifted};
 use meaning::Counts;
 use meaning::Reply;
 
@@ -118,9 +118,74 @@ pub fn withdraw(
     )
 }
 
+// Frees every place of a level above k, of m rules held over n steps, and leaves the chains of the rules that stay. Gives back how many these are. Where those that go
+// are the newest, they alone are looked at one by one.
+pub fn free_above(
+    n: usize,
+    k: usize,
+    m: usize,
+    xs: &[u16],
+    levels: &mut [u8],
+    heads: &mut [u16],
+    nexts: &mut [u16],
+) -> usize
+    requires { ⌜ Freeable n k m (now xs) (now levels) ⌝ }
+    requires { ⌜ LentChains n (held-by (now levels)) (now xs) (now heads) (now nexts) ⌝ }
+    ensures { λ _. ⌜ now (levels .exit) ≡ freed-above RULES k (now (levels .entry)) ⌝ }
+    ensures { λ r. ⌜ r ≡ taken RULES (now (levels .exit)) ⌝ }
+    ensures { λ _. ⌜ LentChains n (held-by (now (levels .exit))) (now (xs .entry)) (now (heads .exit)) (now (nexts .exit)) ⌝ }
+{
+    if lent::all_held(levels, m) {
+        let left = cut(k, m, levels);
+        if lent::none_above(levels, left, k) {
+            drop_newest(left, m, n, xs, levels, heads, nexts);
+            return left;
+        }
+    }
+    sift_all(n, k, m, xs, levels, heads, nexts)
+}
+
+// Of the first m places, the number from which on all have levels above k, looked for from the top down; m where the last has no such level.
+pub fn cut(k: usize, m: usize, levels: &[u8]) -> usize
+    requires { ⌜ m ≤ length (now levels) ⌝ }
+    requires { ⌜ k ≤ MARKS ⌝ }
+    ensures { λ r. ⌜ CutAt m k (now (levels .entry)) r ⌝ }
+{
+    let mut i = m;
+    while 0 < i {
+        if levels[i - 1] as usize <= k + 1 {
+            return i;
+        }
+        i -= 1;
+    }
+    0
+}
+
+// Takes the rules from number c up to m off their chains and frees their places.
+pub fn drop_newest(
+    c: usize,
+    m: usize,
+    n: usize,
+    xs: &[u16],
+    levels: &mut [u8],
+    heads: &mut [u16],
+    nexts: &mut [u16],
+)
+    requires { ⌜ c ≤ m ⌝ }
+    requires { ⌜ LentChains n (first m) (now xs) (now heads) (now nexts) ⌝ }
+    requires { ⌜ ((i : ℕ) → i < m → at (now xs) i < n) ⌝ }
+    requires { ⌜ m ≤ length (now xs) ⌝ }
+    requires { ⌜ m ≤ length (now levels) ⌝ }
+    ensures { λ _. ⌜ FreedFrom c m (now (levels .entry)) (now (levels .exit)) ⌝ }
+    ensures { λ _. ⌜ LentChains n (first c) (now (xs .entry)) (now (heads .exit)) (now (nexts .exit)) ⌝ }
+{
+    drop_rules(c, m, n, xs, heads, nexts);
+    free_from(c, m, levels);
+}
+
 // Frees every place of a level above k, of m rules held over n steps, and makes the chains of the rules that stay. Gives back how many these are. Places are read
 // until all m rules have been seen.
-pub fn free_above(
+fn sift_all(
     n: usize,
     k: usize,
     m: usize,
@@ -175,7 +240,7 @@ fn sift(
 }
 
 // Takes the rules from number k up to m off their chains, newest first.
-pub fn drop_rules(k: usize, m: usize, n: usize, xs: &[u16], heads: &mut [u16], nexts: &mut [u16])
+fn drop_rules(k: usize, m: usize, n: usize, xs: &[u16], heads: &mut [u16], nexts: &mut [u16])
     requires { ⌜ k ≤ m ⌝ }
     requires { ⌜ LentChains n (first m) (now xs) (now heads) (now nexts) ⌝ }
     requires { ⌜ ((i : ℕ) → i < m → at (now xs) i < n) ⌝ }
@@ -186,6 +251,17 @@ pub fn drop_rules(k: usize, m: usize, n: usize, xs: &[u16], heads: &mut [u16], n
     while k < i {
         i -= 1;
         chains::drop_last(xs, heads, nexts, i);
+    }
+}
+
+// Frees the places from c up to m.
+fn free_from(c: usize, m: usize, levels: &mut [u8])
+    requires { ⌜ c ≤ m ⌝ }
+    requires { ⌜ m ≤ length (now levels) ⌝ }
+    ensures { λ _. ⌜ FreedFrom c m (now (levels .entry)) (now (levels .exit)) ⌝ }
+{
+    for i in c..m {
+        levels[i] = 0;
     }
 }
 

@@ -1,15 +1,34 @@
--- The cells of the levels as they are passed: the least of them, the largest, and how many are held.
+-- The cells of a column as they are passed: whether all are as asked; of the levels the least, the largest, and how many are held.
 use Prim.Native.Nat.{ℕ, zero, suc, _+_, _≤_, _<_}
 use native.Mathlib.Omega.{arith}
 use native.Mathlib.Decide.{ℕ-discrete, decLt}
 use native.Mathlib.Numerals.{add-one}
-use mathlib.Core.Path.{_≡_, refl, sym, ap, subst}
+use mathlib.Core.Path.{_≡_, refl, sym, _∙_, ap, subst}
+use mathlib.Core.Bool.{Bool, true, false}
 use mathlib.Core.List.{List}
 use mathlib.Core.Logic.{_⊎_, inl, inr}
+use borrow.Author.Count.{below-none, below-more}
 use Rattle.meaning.specs.Bounds.{RULES}
 use Rattle.meaning.specs.Tables.{at, taken, lowest-free}
 use Rattle.meaning.proofs.Places.{taken-free, taken-held, free-or-held, taken-all-held, lowest-only, lowest-free-there, lowest-below-held}
-use Rattle.lent.specs.Lent.{AllHeld, FreeFrom}
+use Rattle.lent.specs.Decides.{Decides, decides-yes, decides-no}
+use Rattle.lent.specs.Lent.{first, held-by, AllHeld, FreeFrom}
+
+-- ---- an answer over the cells passed
+
+module _ (P : ℕ → Type 0) where
+  -- Before the first cell it is yes.
+  pub decides-none : Decides true ((j : ℕ) → j < 0 → P j)
+  decides-none = decides-yes refl (below-none P)
+
+  -- A cell that fails makes it no, and one that does not leaves it.
+  pub decides-next :
+      (i : ℕ) (all all′ : Bool) → ((P i → ⊥) × (all′ ≡ false)) ⊎ (P i × (all′ ≡ all)) → Decides all ((j : ℕ) → j < i → P j) → Decides all′ ((j : ℕ) → j < i + 1 → P j)
+  decides-next i all all′ (inl (fails, is)) d = decides-no is (λ h. fails (h i (omega arith)))
+  decides-next i all all′ (inr (holds, is)) d = record {
+    so = λ e. below-more P i (d .so (sym is ∙ e)) holds;
+    not-so = λ e h. d .not-so (sym is ∙ e) (λ j below. h j (omega arith));
+  }
 
 -- ---- the least cell
 
@@ -115,6 +134,16 @@ taken-rest-free n (suc k) l h free = tell (ℕ-discrete n (suc k)) (λ lower. ta
 -- With a place from n on held, more are held than among the first n.
 pub taken-past : (n k i : ℕ) (l : List ℕ) → n ≤ i → i < k → 0 < at l i → taken n l < taken k l
 taken-past n k i l h below some = omega (arith, taken-no-fewer n i l h, taken-held i l some, taken-no-fewer (i + 1) k l (omega arith))
+
+-- ---- the first places
+
+-- Where the places from m on are free, what is held is among the first m.
+pub only-first : (m : ℕ) (levels : List ℕ) → FreeFrom m levels → (j : ℕ) → held-by levels j → first m j
+only-first m levels free j h = by-place (decLt j m)
+  where
+    by-place : Dec (j < m) → first m j
+    by-place (yes l) = l
+    by-place (no past) = absurd (omega (arith, h .1, free j (omega (arith, past)) (h .0)))
 
 -- ---- the lowest free place
 

@@ -36,6 +36,10 @@ held-by levels i = (i < RULES) × (0 < at levels i)
 abbrev pub AllHeld : ℕ → List ℕ → Type 0
 AllHeld m levels = (i : ℕ) → i < m → 0 < at levels i
 
+-- No place below m has a level above k.
+abbrev pub NoneAbove : ℕ → ℕ → List ℕ → Type 0
+NoneAbove m k levels = (i : ℕ) → i < m → at levels i ≤ k + 1
+
 -- Every place from number m on is free.
 abbrev pub FreeFrom : ℕ → List ℕ → Type 0
 FreeFrom m levels = (i : ℕ) → m ≤ i → i < RULES → at levels i ≡ 0

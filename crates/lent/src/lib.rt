@@ -5,10 +5,10 @@ ghost use Prim.Native.Nat.{_≤_, _<_};
 ghost use lib.ListN.{length, getD};
 ghost use lib.IntN.{pos};
 ghost use Rattle.meaning.specs.Rules.{InAmount, InBounds, largest};
-ghost use Rattle.meaning.specs.Bounds.{RULES};
+ghost use Rattle.meaning.specs.Bounds.{RULES, MARKS};
 ghost use Rattle.meaning.specs.Tables.{rule-at, at, taken, lowest-free};
 ghost use Rattle.lent.specs.Decides.{Decides};
-ghost use Rattle.lent.specs.Lent.{columns, AllHeld, FreeFrom, Biased, KeptAt, Placed, Limited, Dated, Limit, Spare};
+ghost use Rattle.lent.specs.Lent.{columns, AllHeld, NoneAbove, FreeFrom, Biased, KeptAt, Placed, Limited, Dated, Limit, Spare};
 
 // An amount is counted from so far below 0; no i32 is lower.
 pub const BIAS: u64 = 2147483648;
@@ -52,6 +52,22 @@ pub fn all_held(levels: &[u8], m: usize) -> bool
         }
     }
     least != 0
+}
+
+// Whether no place below m has a level above k. Every cell is looked at, so that many are at a time.
+pub fn none_above(levels: &[u8], m: usize, k: usize) -> bool
+    requires { ⌜ m ≤ length (now levels) ⌝ }
+    requires { ⌜ k ≤ MARKS ⌝ }
+    ensures { λ r. ⌜ Decides r (NoneAbove m k (now (levels .entry))) ⌝ }
+{
+    let highest = (k + 1) as u8;
+    let mut all = true;
+    for i in 0..m {
+        if highest < levels[i] {
+            all = false;
+        }
+    }
+    all
 }
 
 // Whether every place from number m on is free: their largest cell is 0. Every cell is looked at, so that many are at a time.

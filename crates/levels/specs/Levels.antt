@@ -4,12 +4,12 @@ use mathlib.Core.Path.{_≡_}
 use mathlib.Core.List.{List}
 use lib.ListN.{length}
 use Rattle.meaning.specs.declared.Counts.{Counts}
-use Rattle.meaning.specs.Bounds.{STEPS, RULES}
+use Rattle.meaning.specs.Bounds.{STEPS}
 use Rattle.meaning.specs.Rules.{Rule, Earliest, largest}
 use Rattle.meaning.specs.Tables.{Columns, Tables, rule-at, at, Sound, down-to, with-days, marks-now}
 use Rattle.meaning.specs.Promise.{Planned}
 use Rattle.meaning.specs.Calls.{rules-of, held-in}
-use Rattle.lent.specs.Lent.{held-by}
+use Rattle.lent.specs.Lent.{held-by, AllHeld, FreeFrom}
 
 -- The counts with n more marks open.
 abbrev pub more-marks : ℕ → Counts → Counts
@@ -32,22 +32,9 @@ pub record Popped (n : ℕ) (before after : Tables) : Type 0 where
 
 -- Rules that were added one after the other, and none withdrawn but by dropping marks: the first m places are held and no other, and no rule has a lower level than one before it.
 pub record InOrder (m : ℕ) (levels : List ℕ) : Type 0 where
-  pub all-held : (i : ℕ) → i < m → 0 < at levels i
-  pub no-other : (i : ℕ) → m ≤ i → i < RULES → at levels i ≡ 0
+  pub all-held : AllHeld m levels
+  pub no-other : FreeFrom m levels
   pub never-fall : (i j : ℕ) → i ≤ j → j < m → at levels i ≤ at levels j
-
--- Of m rules those from number c on have levels above k, and no other has.
-pub record CutAt (m k : ℕ) (levels : List ℕ) (c : ℕ) : Type 0 where
-  pub within : c ≤ m
-  pub low : (i : ℕ) → i < c → at levels i ≤ k + 1
-  pub high : (i : ℕ) → c ≤ i → i < m → k + 1 < at levels i
-
--- The places from c up to m were freed; all others are as before.
-pub record FreedFrom (c m : ℕ) (levels levels′ : List ℕ) : Type 0 where
-  pub same-length : length levels′ ≡ length levels
-  pub freed : (i : ℕ) → c ≤ i → i < m → at levels′ i ≡ 0
-  pub below : (i : ℕ) → i < c → at levels′ i ≡ at levels i
-  pub above : (i : ℕ) → m ≤ i → at levels′ i ≡ at levels i
 
 -- Kept days stand in so many rows, which the marks use in turn.
 abbrev pub ROWS : ℕ

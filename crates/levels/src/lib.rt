@@ -16,7 +16,7 @@ ghost use Rattle.spread.specs.Ground.{rules};
 ghost use Rattle.chains.specs.Chains.{linked, LentChains};
 ghost use Rattle.inner_back.specs.Replan.{Plannable};
 ghost use Rattle.inner_back.specs.Freeing.{Freeable};
-ghost use Rattle.levels.specs.Levels.{more-marks, row-of, LAST, Popped, InOrder, CutAt, FreedFrom, HasRow, RowNamed, KeptFor, KeptDays, KeepsDays, Copied, Filed};
+ghost use Rattle.levels.specs.Levels.{more-marks, row-of, LAST, Popped, InOrder, HasRow, RowNamed, KeptFor, KeptDays, KeepsDays, Copied, Filed};
 use meaning::Counts;
 
 // So many rows of kept days are used in turn.
@@ -168,60 +168,11 @@ fn free(
     ensures { λ _. ⌜ LentChains n (held-by (now (levels .exit))) (now (xs .entry)) (now (heads .exit)) (now (nexts .exit)) ⌝ }
 {
     if in_order {
-        return free_newest(n, k, m, xs, levels, heads, nexts);
+        let left = inner_back::cut(k, m, levels);
+        inner_back::drop_newest(left, m, n, xs, levels, heads, nexts);
+        return left;
     }
     inner_back::free_above(n, k, m, xs, levels, heads, nexts)
-}
-
-// The same, where the rules are in order: those that go are the newest.
-fn free_newest(
-    n: usize,
-    k: usize,
-    m: usize,
-    xs: &[u16],
-    levels: &mut [u8],
-    heads: &mut [u16],
-    nexts: &mut [u16],
-) -> usize
-    requires { ⌜ Freeable n k m (now xs) (now levels) ⌝ }
-    requires { ⌜ LentChains n (held-by (now levels)) (now xs) (now heads) (now nexts) ⌝ }
-    requires { ⌜ InOrder m (now levels) ⌝ }
-    ensures { λ _. ⌜ now (levels .exit) ≡ freed-above RULES k (now (levels .entry)) ⌝ }
-    ensures { λ r. ⌜ r ≡ taken RULES (now (levels .exit)) ⌝ }
-    ensures { λ _. ⌜ LentChains n (held-by (now (levels .exit))) (now (xs .entry)) (now (heads .exit)) (now (nexts .exit)) ⌝ }
-{
-    let left = cut(k, m, levels);
-    inner_back::drop_rules(left, m, n, xs, heads, nexts);
-    free_from(left, m, levels);
-    left
-}
-
-// Of m rules in order, the number of the first whose level is above k; m where none is.
-fn cut(k: usize, m: usize, levels: &[u8]) -> usize
-    requires { ⌜ InOrder m (now levels) ⌝ }
-    requires { ⌜ m ≤ length (now levels) ⌝ }
-    requires { ⌜ k ≤ MARKS ⌝ }
-    ensures { λ r. ⌜ CutAt m k (now (levels .entry)) r ⌝ }
-{
-    let mut i = m;
-    while 0 < i {
-        if levels[i - 1] as usize <= k + 1 {
-            return i;
-        }
-        i -= 1;
-    }
-    0
-}
-
-// Frees the places from c up to m.
-fn free_from(c: usize, m: usize, levels: &mut [u8])
-    requires { ⌜ c ≤ m ⌝ }
-    requires { ⌜ m ≤ length (now levels) ⌝ }
-    ensures { λ _. ⌜ FreedFrom c m (now (levels .entry)) (now (levels .exit)) ⌝ }
-{
-    for i in c..m {
-        levels[i] = 0;
-    }
 }
 
 // Brings the days of n steps, which keep every rule on the chains, those added before mark k was set, and have that last day, to the earliest plan of these rules. Gives

@@ -3,5 +3,6 @@ pub mod Counted
 pub mod Entering
 pub mod Grounding
 pub mod Settling
+pub mod Columns
 pub mod Answers
 pub mod Opened

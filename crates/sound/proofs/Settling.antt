@@ -15,7 +15,7 @@ use Rattle.meaning.specs.Tables.{at, taken}
 use Rattle.meaning.proofs.Places.{taken-of-none, taken-free, taken-held, free-or-held}
 use Rattle.lent.specs.Decides.{decides-yes, decides-no}
 use Rattle.lent.specs.Lent.{held-by, FreeFrom}
-use Rattle.lent.proofs.Cells.{taken-rest-free, taken-past}
+use Rattle.lent.proofs.Cells.{taken-rest-free, taken-past, only-first}
 use Rattle.chains.specs.Chains.{ChainsOf, number, OFF, linked, Empty, OffFrom}
 use Rattle.chains.proofs.Laws.{chained-none, chains-agree, chains-nexts, chains-more, next-lower, lent-chains}
 use Rattle.sound.specs.Parts.{Good, FreeThere, GoodThere, Settled, HeldIn, RulesTested}
@@ -123,27 +123,23 @@ module _ (n marks : ℕ) (xs ys : List ℕ) (cs : List ℤ) (levels : List ℕ) 
     settled-bad i r heads nexts heads′ nexts′ below high (inr (inr b)) all =
         b .bad (record { in-bounds = all .rules-good i (below, b .held); level-open = all .levels-open i (below, b .held) })
 
+    -- and so does a rule behind the m-th,
+    pub too-many : (i : ℕ) → taken i levels ≡ m → (FreeFrom i levels → ⊥) → HeldIn n m marks xs ys cs levels → ⊥
+    too-many i is-m some all = some (λ j h below. free j h below (free-or-held levels j))
+      where
+        free : (j : ℕ) → i ≤ j → j < RULES → (at levels j ≡ 0) ⊎ (0 < at levels j) → at levels j ≡ 0
+        free j h below (inl e) = e
+        free j h below (inr held) = absurd (omega (arith, all .rules-counted, is-m, taken-past i RULES j levels h below held))
+
     module _ (i seen : ℕ) (heads nexts : List ℕ) (p : Passed n marks xs ys cs levels i seen heads nexts) where
-      -- and so do fewer rules than m in all places,
+      -- and so do fewer rules than m in all places.
       pub too-few : i ≡ RULES → seen < m → HeldIn n m marks xs ys cs levels → ⊥
       too-few all-seen fewer all = omega (arith, fewer, all .rules-counted, p .counted, ap (λ (k : ℕ). taken k levels) all-seen)
 
-      -- and a rule behind the m-th.
-      pub too-many : seen ≡ m → (FreeFrom i levels → ⊥) → HeldIn n m marks xs ys cs levels → ⊥
-      too-many is-m some all = some (λ j h below. free j h below (free-or-held levels j))
-        where
-          free : (j : ℕ) → i ≤ j → j < RULES → (at levels j ≡ 0) ⊎ (0 < at levels j) → at levels j ≡ 0
-          free j h below (inl e) = e
-          free j h below (inr held) = absurd (omega (arith, all .rules-counted, p .counted, is-m, taken-past i RULES j levels h below held))
-
-      -- Where there is none, the answer is yes, and the chains are those of the rules held.
+      -- Where there is none of these, the answer is yes, and the chains are those of the rules held.
       module _ (within : i ≤ RULES) (is-m : seen ≡ m) (free : FreeFrom i levels) where
         held-passed : (j : ℕ) → held-by levels j → passed levels i j
-        held-passed j h = by-place (decLt j i)
-          where
-            by-place : Dec (j < i) → passed levels i j
-            by-place (yes l) = (l, h .1)
-            by-place (no past) = absurd (omega (arith, h .1, free j (omega (arith, past)) (h .0)))
+        held-passed j h = (only-first i levels free j h, h .1)
 
         all-in : HeldIn n m marks xs ys cs levels
         all-in = record {

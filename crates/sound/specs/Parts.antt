@@ -4,14 +4,22 @@ use mathlib.Core.Path.{_≡_}
 use mathlib.Core.Bool.{Bool, true}
 use mathlib.Core.List.{List}
 use mathlib.Core.Logic.{_⊎_}
-use lib.ListN.{length, set}
-use lib.IntN.{ℤ}
+use lib.ListN.{length, getD, set}
+use lib.IntN.{ℤ, pos}
 use Rattle.meaning.specs.Bounds.{STEPS, RULES, MARKS}
-use Rattle.meaning.specs.Rules.{InBounds, Earliest, largest}
+use Rattle.meaning.specs.Rules.{InAmount, InBounds, Earliest, largest}
 use Rattle.meaning.specs.Tables.{Tables, ColumnsRoom, rule-at, at, taken, Room, Sound}
 use Rattle.lent.specs.Decides.{Decides}
 use Rattle.lent.specs.Lent.{columns, held-by}
 use Rattle.chains.specs.Chains.{OFF, LentChains, Pushed}
+
+-- Every number of the list below place m is below n.
+abbrev pub AllBelow : ℕ → ℕ → List ℕ → Type 0
+AllBelow n m list = (i : ℕ) → i < m → at list i < n
+
+-- Every amount of the list below place m is within its bound.
+abbrev pub AmountsIn : ℕ → List ℤ → Type 0
+AmountsIn m list = (i : ℕ) → i < m → InAmount (getD list i (pos 0))
 
 -- Every rule of the columns below number m is within bounds, over n steps.
 abbrev pub AllIn : ℕ → ℕ → List ℕ → List ℕ → List ℤ → Type 0

@@ -9,9 +9,9 @@ ghost use Rattle.meaning.specs.Bounds.{STEPS, RULES};
 ghost use Rattle.meaning.specs.Rules.{Earliest};
 ghost use Rattle.meaning.specs.Tables.{ColumnsRoom, InCounts, Room, rule-at, at};
 ghost use Rattle.lent.specs.Decides.{Decides};
-ghost use Rattle.lent.specs.Lent.{columns, tables};
+ghost use Rattle.lent.specs.Lent.{columns, tables, AllHeld};
 ghost use Rattle.chains.specs.Chains.{number, linked};
-ghost use Rattle.sound.specs.Parts.{AllIn, DaysIn, ChainsRoom, Settled, RulesTested, Testable, Tested};
+ghost use Rattle.sound.specs.Parts.{AllBelow, AmountsIn, AllIn, DaysIn, ChainsRoom, Settled, RulesTested, Testable, Tested};
 ghost use Rattle.sound.specs.Ground.{Worklist, Enterable, Stays, Comes, ListsRoom, Seeded, Groundable, Underway, AfterStep};
 use meaning::Counts;
 
@@ -72,17 +72,46 @@ fn counts_in(counts: Counts) -> bool
     counts.watched as usize <= meaning::WATCHED
 }
 
+// Whether every number of the list below place m is below n. Here and in the next every cell is looked at, so that many are at a time.
+fn steps_in(n: usize, m: usize, list: &[u16]) -> bool
+    requires { ⌜ m ≤ length (now list) ⌝ }
+    ensures { λ r. ⌜ Decides r (AllBelow n m (now (list .entry))) ⌝ }
+{
+    let mut all = true;
+    for i in 0..m {
+        if n <= lent::number_at(list, i) {
+            all = false;
+        }
+    }
+    all
+}
+
+// Whether every amount of the list below place m is within its bound.
+fn amounts_in(m: usize, list: &[i32]) -> bool
+    requires { ⌜ m ≤ length (now list) ⌝ }
+    ensures { λ r. ⌜ Decides r (AmountsIn m (now (list .entry))) ⌝ }
+{
+    let mut all = true;
+    for i in 0..m {
+        if !lent::amount_in(list, i) {
+            all = false;
+        }
+    }
+    all
+}
+
 // Whether every rule below number m is within bounds, over n steps.
 fn all_in(n: usize, m: usize, xs: &[u16], ys: &[u16], cs: &[i32]) -> bool
     requires { ⌜ ColumnsRoom m (columns (now xs) (now ys) (now cs)) ⌝ }
     ensures { λ r. ⌜ Decides r (AllIn n m (now (xs .entry)) (now (ys .entry)) (now (cs .entry))) ⌝ }
 {
-    for i in 0..m {
-        if !lent::rule_in(n, xs, ys, cs, i) {
-            return false;
-        }
+    if !steps_in(n, m, xs) {
+        return false;
     }
-    true
+    if !steps_in(n, m, ys) {
+        return false;
+    }
+    amounts_in(m, cs)
 }
 
 // Looks at place i, where so many marks are open: 0 where it is free, and no chain has it then; 1 where the rule held there is within bounds, over n steps, and its
@@ -119,7 +148,7 @@ fn settle(
 
 // Whether every rule held is within bounds, over n steps, and of a level that is open with so many marks, and m rules are held; where it is so, heads and nexts are
 // left with their chains, and no other rule is on one. The places behind the last rule are looked at together.
-fn rules_in(
+fn places_in(
     n: usize,
     m: usize,
     marks: usize,
@@ -152,6 +181,59 @@ fn rules_in(
     }
     chains::off_from(i, nexts);
     true
+}
+
+// The same, where the first m places are held.
+fn first_in(
+    n: usize,
+    m: usize,
+    marks: usize,
+    xs: &[u16],
+    ys: &[u16],
+    cs: &[i32],
+    levels: &[u8],
+    heads: &mut [u16],
+    nexts: &mut [u16],
+) -> bool
+    requires { ⌜ ChainsRoom n marks (now xs) (now ys) (now cs) (now levels) (now heads) (now nexts) ⌝ }
+    requires { ⌜ m ≤ RULES ⌝ }
+    requires { ⌜ AllHeld m (now levels) ⌝ }
+    ensures { λ r. ⌜ RulesTested n m marks (now (xs .entry)) (now (ys .entry)) (now (cs .entry)) (now (levels .entry)) r (now (heads .exit)) (now (nexts .exit)) ⌝ }
+{
+    if !lent::none_above(levels, m, marks) {
+        return false;
+    }
+    if !all_in(n, m, xs, ys, cs) {
+        return false;
+    }
+    if !lent::free_from(m, levels) {
+        return false;
+    }
+    chains::build(n, m, xs, heads, nexts);
+    chains::off_from(m, nexts);
+    true
+}
+
+// The same: in most tables the rules held are the first, and those are tested column by column.
+fn rules_in(
+    n: usize,
+    m: usize,
+    marks: usize,
+    xs: &[u16],
+    ys: &[u16],
+    cs: &[i32],
+    levels: &[u8],
+    heads: &mut [u16],
+    nexts: &mut [u16],
+) -> bool
+    requires { ⌜ ChainsRoom n marks (now xs) (now ys) (now cs) (now levels) (now heads) (now nexts) ⌝ }
+    requires { ⌜ m ≤ RULES ⌝ }
+    ensures { λ r. ⌜ RulesTested n m marks (now (xs .entry)) (now (ys .entry)) (now (cs .entry)) (now (levels .entry)) r (now (heads .exit)) (now (nexts .exit)) ⌝ }
+{
+    if lent::all_held(levels, m) {
+        return first_in(n, m, marks, xs, ys, cs, levels, heads, nexts);
+    }
+    places_in(n, m, marks, xs, ys, cs, levels, heads, nexts)
 }
 
 // Enters step v as the k-th, unless it is entered; returns how many steps are now entered.

@@ -3,7 +3,11 @@ use Prim.Native.Nat.{ℕ}
 use mathlib.Core.Path.{_≡_, refl}
 use lib.ListN.{length-replicate}
 use Rattle.meaning.specs.Bounds.{STEPS, RULES}
-use Rattle.desk.proofs.Entering.{entered, lists-entered, refused-with-two}
+use Rattle.desk.proofs.Entering.{entered, right-entered, lists-entered, refused-with-two}
+use Rattle.meaning.specs.Tables.{Tables}
+use Rattle.meaning.specs.Calls.{with-lists, consequences-meaning}
+use Rattle.lent.specs.Lent.{tables}
+use Rattle.gaps.proofs.Lifting.{lift-leaving}
 use native.Mathlib.Omega.{arith}
 use borrow.Author.Needs.{needs}
 use Rattle.desk.proofs.consequences.Statement.{statement}
@@ -14,6 +18,12 @@ use Rattle.desk.proofs.both_have.Reads as both-have-reads
 use Rattle.desk.proofs.verdict.Reads as verdict-reads
 use Rattle.meaning.proofs.refused.Reads as refused-reads
 use Rattle.inner_split.proofs.consequences.Reads as consequences-reads
+
+-- The tables as they were lent.
+abbrev lent-at : tie.Start → Tables
+lent-at s =
+    tables (s .args .counts) (s .args .xs .now) (s .args .ys .now) (s .args .cs .now) (s .args .days .now) (s .args .levels .now)
+    (s .args .wxs .now) (s .args .wys .now) (s .args .wcs .now)
 
 cast-both-have : tie.Need-cast-both-have
 cast-both-have c = search needs
@@ -65,7 +75,10 @@ same-length-4 : tie.Need-same-length-4
 same-length-4 c = search needs
 
 returns-2 : tie.Need-returns-2
-returns-2 c = search needs
+returns-2 c =
+    let start = c .before .before .before .before .before .before .before .before .before .before .before .before .before .before .before .before .before .before .before .before .before .before .before .before .before .before .before in
+    let lent = with-lists (lent-at start) (start .args .one .now) (start .args .two .now) in
+    lift-leaving (consequences-meaning lent) (lent-at start) (start .args .gaps .now) (right-entered _ _ _ _ _ _ (c .before .before .before .before .before .before .before .before .before .before .before .before .verdict .ensures) (omega (arith, c .before .before .before .before .before .before .before .before .before .if1 .left))) lent _ _ (c .before .before .before .before .consequences .ensures)
 
 pub consequences-spec : {M : Type 1} → statement M
 consequences-spec =

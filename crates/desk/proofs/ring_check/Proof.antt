@@ -16,7 +16,7 @@ use Rattle.meaning.proofs.Places.{next-free}
 use Rattle.lent.specs.Decides.{Decides}
 use Rattle.lent.specs.Lent.{tables}
 use Rattle.inner_watch.proofs.Verdict.{rule-steps, rule-amount, rule-refused, rule-no-conflict}
-use Rattle.desk.proofs.Entering.{entered, refused-alone}
+use Rattle.desk.proofs.Entering.{entered, right-entered, refused-alone}
 use native.Mathlib.Omega.{arith}
 use borrow.Author.Needs.{needs}
 use Rattle.desk.proofs.ring_check.Statement.{statement}
@@ -83,7 +83,7 @@ returns-2 c =
     let g = at-rule-verdict .rule-verdict .result in
     let f = rw (toZ-ofZ w32 (start .args .c) (start .fits .c)) at (at-rule-verdict .rule-verdict .ensures) in
     let border = entered _ _ _ _ _ _ (at-verdict .verdict .ensures) (omega (arith, c .before .before .before .if1 .left)) in
-    rw (c .refused2 .ensures) (obeys-refused _ _ g (λ e. omega (arith, c .before .if2 .taken)) (rule-no-conflict n r g f) (inr (border .room, inr (border .sound, rule-refused n r g f [] (omega (arith, c .before .if2 .taken))))))
+    rw (c .refused2 .ensures) (obeys-refused _ _ g (λ e. omega (arith, c .before .if2 .taken)) (rule-no-conflict n r g f) (inr (border .room, inr (border .sound, inr (right-entered _ _ _ _ _ _ (c .before .before .before .before .before .before .verdict .ensures) (omega (arith, c .before .before .before .if1 .left)), rule-refused n r g f [] (omega (arith, c .before .if2 .taken)))))))
 
 cast-next-free : tie.Need-cast-next-free
 cast-next-free c = search needs
@@ -147,8 +147,8 @@ returns-3 c =
     let border = entered _ _ _ _ _ _ (at-verdict .verdict .ensures) (omega (arith, else1 .if1 .left)) in
     let answer = over-next r (lent-at start) _ (next-free .ensures) (rw (toZ-ofZ w32 (start .args .c) (start .fits .c)) at (c .before .before .is-ring .ensures)) in
     rw (c .done .ensures)
-    (obeys-done _ _ 1 0 _ (border .room, (border .sound, (rule-steps n r _ f (omega (arith, else2 .if2 .left)), (rule-amount n r _ f (omega (arith, else2 .if2 .left)), tt))))
-    (record { verdict = inl (refl, answer .so (c .before .if3 .taken)); no-second = refl; all-stays = refl }))
+    (obeys-done _ _ 1 0 _ (border .room, (border .sound, (right-entered _ _ _ _ _ _ (c .before .before .before .before .before .before .before .before .before .before .before .verdict .ensures) (omega (arith, c .before .before .before .before .before .before .before .before .if1 .left)), (rule-steps n r _ f (omega (arith, else2 .if2 .left)), (rule-amount n r _ f (omega (arith, else2 .if2 .left)), tt)))))
+    (record { verdict = inl (refl, answer .so (c .before .if3 .taken)); no-second = refl; all-stays = refl }, refl))
 
 done-requires-2 : tie.Need-done-requires-2
 done-requires-2 c κs = search needs
@@ -167,8 +167,8 @@ returns-4 c =
     let border = entered _ _ _ _ _ _ (at-verdict .verdict .ensures) (omega (arith, else1 .if1 .left)) in
     let answer = over-next r (lent-at start) _ (next-free .ensures) (rw (toZ-ofZ w32 (start .args .c) (start .fits .c)) at (c .before .before .is-ring .ensures)) in
     rw (c .done2 .ensures)
-    (obeys-done _ _ 0 0 _ (border .room, (border .sound, (rule-steps n r _ f (omega (arith, else2 .if2 .left)), (rule-amount n r _ f (omega (arith, else2 .if2 .left)), tt))))
-    (record { verdict = inr (refl, answer .not-so (c .before .if3 .left)); no-second = refl; all-stays = refl }))
+    (obeys-done _ _ 0 0 _ (border .room, (border .sound, (right-entered _ _ _ _ _ _ (c .before .before .before .before .before .before .before .before .before .before .before .verdict .ensures) (omega (arith, c .before .before .before .before .before .before .before .before .if1 .left)), (rule-steps n r _ f (omega (arith, else2 .if2 .left)), (rule-amount n r _ f (omega (arith, else2 .if2 .left)), tt)))))
+    (record { verdict = inr (refl, answer .not-so (c .before .if3 .left)); no-second = refl; all-stays = refl }, refl))
 
 pub ring-check-spec : {M : Type 1} → statement M
 ring-check-spec =

@@ -1,16 +1,27 @@
--- `levels::free` meets its contract: each of the two ways does.
+-- `levels::free` meets its contract: of rules in order those above k are the newest, and dropping them leaves what freeing all above k does; other rules are freed as Back does.
+use Rattle.inner_back.proofs.Newest.{few, droppable, newest-freed}
+use Rattle.levels.proofs.Ordering.{in-order-low}
+use native.Mathlib.Omega.{arith}
 use borrow.Author.Needs.{needs}
 use Rattle.levels.proofs.free.Statement.{statement}
 use Rattle.levels.proofs.free.Tie as tie
 use Rattle.levels.proofs.free.Reads as reads
 use Rattle.levels.proofs.free.Lts as lts
+use Rattle.inner_back.proofs.cut.Reads as cut-reads
+use Rattle.inner_back.proofs.drop_newest.Reads as drop-newest-reads
 use Rattle.inner_back.proofs.free_above.Reads as free-above-reads
-use Rattle.levels.proofs.free_newest.Reads as free-newest-reads
 
-free-newest-requires : tie.Need-free-newest-requires
-free-newest-requires c κs =
-    let start = c .before .before .before .before .before .before .before .before in
-    (start .pre .0, (start .pre .1 .0, start .pre .1 .1 (c .before .before .before .if1 .taken)))
+cut-requires : tie.Need-cut-requires
+cut-requires c κs =
+    let start = c .before .before .before .before .before .before in
+    (omega (arith, few (start .pre .0), start .pre .0 .levels-room), start .pre .0 .marks-in)
+
+drop-newest-requires : tie.Need-drop-newest-requires
+drop-newest-requires c κs =
+    let then1 = c .before .before .before .before .before in
+    let start = then1 .before .before .before .before .before in
+    let order = start .pre .1 .1 (then1 .if1 .taken) in
+    (c .before .before .before .cut .ensures .within, droppable (start .pre .0) (order .all-held) (order .no-other) (start .pre .1 .0))
 
 same-length : tie.Need-same-length
 same-length c = search needs
@@ -22,7 +33,13 @@ same-length-3 : tie.Need-same-length-3
 same-length-3 c = search needs
 
 returns : tie.Need-returns
-returns c = search needs
+returns c =
+    let at-drop-newest = c .before .before .before .before .before .before in
+    let at-cut = at-drop-newest .before .before .before .before in
+    let then1 = at-cut .before .before in
+    let start = then1 .before .before .before .before .before in
+    let order = start .pre .1 .1 (then1 .if1 .taken) in
+    newest-freed (few (start .pre .0)) (order .all-held) (order .no-other) (at-cut .cut .ensures) (in-order-low order (at-cut .cut .ensures)) (at-drop-newest .drop-newest .ensures .0) (at-drop-newest .drop-newest .ensures .1)
 
 free-above-requires : tie.Need-free-above-requires
 free-above-requires c κs = search needs
@@ -43,7 +60,8 @@ pub free-spec : {M : Type 1} → statement M
 free-spec =
     tie.close
     (tie.spec
-    free-newest-requires
+    cut-requires
+    drop-newest-requires
     same-length
     same-length-2
     same-length-3

@@ -1,55 +1,49 @@
--- `sound::all_in` meets its contract. The loop's invariant: every rule passed is within bounds. The measure is what is left of the rules.
-use Prim.Native.Nat.{_≤_, _-_}
-use native.Mathlib.Omega.{arith}
+-- `sound::all_in` meets its contract: each column has its answer, and a rule is within bounds where all three cells are.
 use mathlib.Core.Path.{refl}
-use borrow.Author.Count.{below-none, below-more}
 use borrow.Author.Tests.{not-true, not-false}
+use Rattle.lent.specs.Decides.{decides-no}
+use native.Mathlib.Omega.{arith}
 use borrow.Author.Needs.{needs}
-use Rattle.lent.specs.Decides.{decides-yes, decides-no}
-use Rattle.sound.specs.Parts.{AllIn}
 use Rattle.sound.proofs.all_in.Statement.{statement}
 use Rattle.sound.proofs.all_in.Tie as tie
+use Rattle.sound.proofs.all_in.Reads as reads
+use Rattle.sound.proofs.all_in.Lts as lts
+use Rattle.sound.proofs.amounts_in.Reads as amounts-in-reads
+use Rattle.sound.proofs.steps_in.Reads as steps-in-reads
 
-abbrev Inv-loop : tie.InvT-loop
-Inv-loop n m xs ys cs i₀ i =
-    (i ≤ m) × AllIn n i xs ys cs
+steps-in-requires : tie.Need-steps-in-requires
+steps-in-requires c κs = search needs
 
-abbrev μ-loop : tie.MeasureT-loop
-μ-loop n m xs ys cs i₀ i = m - i
+returns : tie.Need-returns
+returns c = decides-no refl (λ h. c .before .steps-in .ensures .not-so (not-true (c .before .steps-in .result) (c .if1 .taken)) (λ i below. h i below .steps-in .first-in))
 
-loop-holds : tie.Need-loop-holds Inv-loop μ-loop
-loop-holds c = (omega arith, below-none _)
+steps-in-requires-2 : tie.Need-steps-in-requires-2
+steps-in-requires-2 c κs = search needs
 
-rule-in-requires : tie.Need-rule-in-requires Inv-loop μ-loop
-rule-in-requires c κs = search needs
+returns-2 : tie.Need-returns-2
+returns-2 c = decides-no refl (λ h. c .before .steps-in2 .ensures .not-so (not-true (c .before .steps-in2 .result) (c .if2 .taken)) (λ i below. h i below .steps-in .second-in))
 
-returns : tie.Need-returns Inv-loop μ-loop
-returns c = decides-no refl (λ h. c .before .rule-in .ensures .not-so (not-true (c .before .rule-in .result) (c .if1 .taken)) (h (c .before .before .before .loop .i) (c .before .before .loop-test .taken)))
+amounts-in-requires : tie.Need-amounts-in-requires
+amounts-in-requires c κs = search needs
 
-add-i : tie.Need-add-i Inv-loop μ-loop
-add-i c = search needs
-
-loop-less : tie.Need-loop-less Inv-loop μ-loop
-loop-less c = search needs
-
-loop-again : tie.Need-loop-again Inv-loop μ-loop
-loop-again c =
-    let head = c .before .before .before in
-    (omega (arith, c .before .before .loop-test .taken), below-more _ (head .loop .i) (head .loop .inv .1) (c .before .rule-in .ensures .so (not-false (c .before .rule-in .result) (c .if1 .left))))
-
-returns-2 : tie.Need-returns-2 Inv-loop μ-loop
-returns-2 c = decides-yes refl (λ i h. c .before .loop .inv .1 i (omega (arith, c .loop-test .left)))
+returns-3 : tie.Need-returns-3
+returns-3 c =
+    let at-steps-in2 = c .before .before in
+    let steps-in-there = at-steps-in2 .before .before .steps-in in
+    let xs-in = steps-in-there .ensures .so (not-false (steps-in-there .result) (c .before .before .before .if1 .left)) in
+    let ys-in = at-steps-in2 .steps-in2 .ensures .so (not-false (at-steps-in2 .steps-in2 .result) (c .before .if2 .left)) in
+    record {
+      so = λ e i below. record { steps-in = record { first-in = xs-in i below; second-in = ys-in i below }; amount-in = c .amounts-in .ensures .so e i below };
+      not-so = λ e h. c .amounts-in .ensures .not-so e (λ i below. h i below .amount-in);
+    }
 
 pub all-in-spec : {M : Type 1} → statement M
 all-in-spec =
     tie.close
     (tie.spec
-    Inv-loop
-    μ-loop
-    loop-holds
-    rule-in-requires
+    steps-in-requires
     returns
-    add-i
-    loop-less
-    loop-again
-    returns-2)
+    steps-in-requires-2
+    returns-2
+    amounts-in-requires
+    returns-3)

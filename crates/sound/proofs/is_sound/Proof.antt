@@ -77,7 +77,7 @@ rules-in-requires : tie.Need-rules-in-requires
 rules-in-requires c κs =
     let past = c .before .before .before .before .before in
     let start = entry past in
-    chains-room (lent start) (counts-good past) (start .args .heads .now) (start .args .nexts .now) (start .pre)
+    (chains-room (lent start) (counts-good past) (start .args .heads .now) (start .args .nexts .now) (start .pre), counts-good past .rules-in)
 
 same-length : tie.Need-same-length
 same-length c = heads-same (c .before)

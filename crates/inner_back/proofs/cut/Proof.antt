@@ -1,11 +1,11 @@
--- `levels::cut` meets its contract. The loop's invariant: every rule from number i on has a level above k. The measure is i.
+-- `inner_back::cut` meets its contract. The loop's invariant: every place from number i on has a level above k. The measure is i.
 use Prim.Native.Nat.{ℕ, _+_, _-_, _≤_, _<_}
 use Rattle.meaning.specs.Tables.{at}
-use Rattle.levels.proofs.Ordering.{cut-here, cut-all, high-more}
+use Rattle.inner_back.proofs.Newest.{cut-here, cut-all, high-more}
 use native.Mathlib.Omega.{arith}
 use borrow.Author.Needs.{needs}
-use Rattle.levels.proofs.cut.Statement.{statement}
-use Rattle.levels.proofs.cut.Tie as tie
+use Rattle.inner_back.proofs.cut.Statement.{statement}
+use Rattle.inner_back.proofs.cut.Tie as tie
 
 abbrev Inv-loop : tie.InvT-loop
 Inv-loop k m levels i₀ i = (i ≤ m) × ((j : ℕ) → i ≤ j → j < m → k + 1 < at levels j)
@@ -32,7 +32,7 @@ returns : tie.Need-returns Inv-loop μ-loop
 returns c =
     let loop = c .before .before .before .loop in
     let start = c .before .before .before .before in
-    cut-here (loop .i - 1) (start .pre .0) (omega (arith, c .before .before .loop-test .taken)) (loop .inv .0) (omega (arith, c .if1 .taken)) (loop .inv .1)
+    cut-here (loop .i - 1) (omega (arith, c .before .before .loop-test .taken)) (loop .inv .0) (omega (arith, c .if1 .taken)) (loop .inv .1)
 
 sub-i : tie.Need-sub-i Inv-loop μ-loop
 sub-i c = search needs

@@ -1,12 +1,12 @@
--- `levels::free_from` meets its contract. The loop's invariant: the places from c up to i are freed, and no others. The measure is the number of places left.
+-- `inner_back::free_from` meets its contract. The loop's invariant: the places from c up to i are freed, and no others. The measure is the number of places left.
 use Prim.Native.Nat.{_-_, _≤_}
 use mathlib.Core.Path.{_≡_}
-use Rattle.levels.specs.Levels.{FreedFrom}
-use Rattle.levels.proofs.Ordering.{freed-first, freed-more}
+use Rattle.inner_back.specs.Freeing.{FreedFrom}
+use Rattle.inner_back.proofs.Newest.{freed-first, freed-more}
 use native.Mathlib.Omega.{arith}
 use borrow.Author.Needs.{needs}
-use Rattle.levels.proofs.free_from.Statement.{statement}
-use Rattle.levels.proofs.free_from.Tie as tie
+use Rattle.inner_back.proofs.free_from.Statement.{statement}
+use Rattle.inner_back.proofs.free_from.Tie as tie
 
 abbrev Inv-loop : tie.InvT-loop
 Inv-loop c m levels₀ i₀ levels i = (c ≤ i) × (i ≤ m) × FreedFrom c i levels₀ levels
