@@ -11,7 +11,7 @@
 #include <sys/mman.h>
 #include <ucontext.h>
 
-enum { STACK = 98304, MOST = 60000, GUARD = 65536, HANDED = 64, PAINT = 0xA5, LAST = DATES_STEPS - 1, YARD_LAST = DATES_YARD_STEPS - 1 };
+enum { STACK = 98304, MOST = 46000, GUARD = 65536, HANDED = 80, PAINT = 0xA5, LAST = DATES_STEPS - 1, YARD_LAST = DATES_YARD_STEPS - 1 };
 
 static dates_tables t;
 static dates_tables script;

@@ -4,8 +4,6 @@ ghost use mathlib.Core.Path.{_≡_};
 ghost use Prim.Native.Nat.{_≤_, _<_};
 ghost use lib.ListN.{length};
 ghost use Rattle.meaning.specs.Bounds.{ROOM, TEXT};
-ghost use mathlib.Core.Bool.{true};
-ghost use Rattle.text.specs.Lexicon.{END, token-at};
 ghost use Rattle.text.specs.Table.{TABLE};
 ghost use Rattle.script_command.specs.Carrying.{in-hand, Maintained};
 ghost use Rattle.program.specs.Handing.{status, Ends, Played, Answered, Runs};
@@ -150,20 +148,11 @@ fn play(s: &[u8]) -> u32
     )
 }
 
-// Whether no command stands in the text: it has nothing but white space and comments.
-fn is_bare(s: &[u8]) -> bool
-    ensures { λ r. ⌜ (r ≡ true → token-at (now (s .entry)) 0 .kind ≡ END) ⌝ }
-{
-    let tab = text::TABLE;
-    let first = text::token(s, &tab, 0);
-    first.kind == text::END
-}
-
-// The script on fresh tables, which are made only where it has a command.
+// The script on fresh tables, which are made only where it has a byte.
 fn play_any(s: &[u8]) -> u32
     ensures { λ r. ⌜ Played (now (s .entry)) r ⌝ }
 {
-    if is_bare(s) {
+    if s.len() == 0 {
         return ENDED;
     }
     play(s)

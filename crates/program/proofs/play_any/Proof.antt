@@ -1,4 +1,4 @@
--- `program::play_any` meets its contract: a text without a command is at its end, and any other is played.
+-- `program::play_any` meets its contract: an empty text is at its end, and any other is played.
 use Rattle.program.proofs.Bare.{bare-played}
 use native.Mathlib.Omega.{arith}
 use borrow.Author.Needs.{needs}
@@ -6,14 +6,10 @@ use Rattle.program.proofs.play_any.Statement.{statement}
 use Rattle.program.proofs.play_any.Tie as tie
 use Rattle.program.proofs.play_any.Reads as reads
 use Rattle.program.proofs.play_any.Lts as lts
-use Rattle.program.proofs.is_bare.Reads as is-bare-reads
 use Rattle.program.proofs.play.Reads as play-reads
 
-is-bare-requires : tie.Need-is-bare-requires
-is-bare-requires c κs = search needs
-
 returns : tie.Need-returns
-returns c = bare-played _ (c .before .is-bare .ensures (c .if1 .taken))
+returns c = bare-played _ (c .if1 .taken)
 
 play-requires : tie.Need-play-requires
 play-requires c κs = search needs
@@ -22,4 +18,4 @@ returns-2 : tie.Need-returns-2
 returns-2 c = search needs
 
 pub play-any-spec : {M : Type 1} → statement M
-play-any-spec = tie.close (tie.spec is-bare-requires returns play-requires returns-2)
+play-any-spec = tie.close (tie.spec returns play-requires returns-2)
