@@ -1,6 +1,6 @@
 /*
- * A caller of the library over include/dates.h, valid as C99 and as C++: worked cases, shortest reasons, withdrawals, the refusals of short tables, and a script command by
- * command and as a whole.
+ * A caller of the library over include/dates.h, valid as C99 and as C++: worked cases, shortest reasons, withdrawals, the gap table, the refusals of short tables, and a script
+ * command by command and as a whole.
  * It checks all that it gets; the last line is `N passed, M failed`.
  */
 #include "dates.h"
@@ -22,6 +22,11 @@ LAYOUT(record_logic, offsetof(dates_record, logic) == 4);
 LAYOUT(record_broken, offsetof(dates_record, broken) == 8);
 LAYOUT(record_sat, offsetof(dates_record, sat) == 12);
 LAYOUT(lengths, sizeof(size_t) == 8);
+LAYOUT(gaps, sizeof(int64_t[DATES_YARD_STEPS][DATES_YARD_STEPS]) == 2048);
+LAYOUT(no_limit, DATES_NO_LIMIT == INT64_MAX);
+LAYOUT(tables_gaps, offsetof(dates_tables, gaps) == 0);
+LAYOUT(tables_counts, offsetof(dates_tables, counts) == 2048);
+LAYOUT(tables, sizeof(dates_tables) == 117800);
 
 static int passed = 0;
 static int failed = 0;
@@ -248,6 +253,87 @@ static void last_days(void)
     count(dates_t_open(&t, 4) == DATES_DONE && last_is(0), "Open sets it whatever it was");
 }
 
+/* No limit. */
+#define N DATES_NO_LIMIT
+
+/* Whether the gap table has these cells for four steps, and Gap says the same of each pair. */
+static int gaps_are(const int64_t wanted[4][4])
+{
+    uint32_t x, y;
+    for (x = 0; x < 4; x++) {
+        for (y = 0; y < 4; y++) {
+            uint32_t limited = 9;
+            int64_t limit = 9;
+            if (t.gaps[x][y] != wanted[x][y] || dates_t_gap(&t, x, y, &limited, &limit) != DATES_DONE)
+                return 0;
+            if (limited != (wanted[x][y] != N) || limit != (limited ? wanted[x][y] : 0))
+                return 0;
+        }
+    }
+    return 1;
+}
+
+/* Whether Gap refuses the pair with that number, and gives 0 and 0. */
+static int gap_refused(uint32_t x, uint32_t y, uint32_t number)
+{
+    uint32_t limited = 9;
+    int64_t limit = 9;
+    return dates_t_gap(&t, x, y, &limited, &limit) == number && limited == 0 && limit == 0;
+}
+
+/* The gap table through the cases, its bound, and cells that are not the limit, or not kept. */
+static void gap_tables(void)
+{
+    static const int64_t apart[4][4] = {{0, N, N, N}, {N, 0, N, N}, {N, N, 0, N}, {N, N, N, 0}};
+    static const int64_t two[4][4] = {{0, -2, -5, N}, {N, 0, -3, N}, {N, N, 0, N}, {N, N, N, 0}};
+    static const int64_t three[4][4] = {{0, -2, -5, N}, {6, 0, -3, N}, {9, 7, 0, N}, {N, N, N, 0}};
+    static const int64_t without[4][4] = {{0, N, N, N}, {6, 0, -3, N}, {9, N, 0, N}, {N, N, N, 0}};
+    uint32_t value = 9;
+    uint32_t x, y;
+    int good;
+
+    for (x = 0; x < DATES_YARD_STEPS; x++)
+        for (y = 0; y < DATES_YARD_STEPS; y++)
+            t.gaps[x][y] = 77;
+    dates_t_open(&t, 4);
+    count(gaps_are(apart), "the gap table that Open makes");
+    dates_t_add(&t, 0, 1, -2, &value);
+    dates_t_add(&t, 1, 2, -3, &value);
+    count(gaps_are(two), "the gap table of two rules");
+    dates_t_mark(&t);
+    count(dates_t_add(&t, 2, 0, 9, &value) == DATES_DONE && gaps_are(three), "the gap table with 2,0,9");
+    count(dates_t_add(&t, 2, 0, 4, &value) == DATES_CONFLICT && dates_t_trial(&t, 2, 0, 5, &value) == DATES_DONE && gaps_are(three), "a conflict and a Trial leave it");
+    count(dates_t_withdraw(&t, 0) == DATES_DONE && gaps_are(without), "the gap table after Withdraw 0");
+    count(dates_t_add(&t, 0, 1, -2, &value) == DATES_DONE && gaps_are(three), "and with the same rule again");
+    count(dates_t_back(&t) == DATES_DONE && t.gaps[0][1] == N && t.gaps[1][2] == -3 && t.gaps[2][0] == N, "Back drops the one, and the other with it");
+    good = 1;
+    for (x = 0; x < DATES_YARD_STEPS; x++)
+        for (y = 0; y < DATES_YARD_STEPS; y++)
+            good &= (x < 4 && y < 4) || t.gaps[x][y] == 77;
+    count(good, "no cell past the steps is written");
+
+    case_3();
+    count(gap_refused(4, 0, DATES_STEP) && gap_refused(0, 4, DATES_STEP) && gap_refused(65536u, 0, DATES_STEP) && gap_refused(0, 4294967295u, DATES_STEP), "Gap with a step not below the count");
+    t.gaps[2][1] = 7;
+    count(gap_refused(0, 1, DATES_DAMAGED) && gap_refused(4, 0, DATES_DAMAGED) && dates_t_mark(&t) == DATES_DAMAGED && dates_t_back(&t) == DATES_DAMAGED, "a cell with a limit that there is not");
+    count(dates_t_withdraw(&t, 0) == DATES_DAMAGED && dates_t_add(&t, 3, 3, 0, &value) == DATES_DAMAGED && t.gaps[2][1] == 7 && t.counts.rules == 2, "and nothing is changed");
+    t.gaps[2][1] = N;
+    t.gaps[0][2] = -4;
+    count(gap_refused(0, 2, DATES_DAMAGED) && dates_t_last_day(&t, &value) == DATES_DAMAGED && dates_t_watch(&t, 0, 1, 0) == DATES_DAMAGED, "a cell that is one too large");
+    t.gaps[0][2] = -5;
+    t.gaps[3][3] = -1;
+    count(gap_refused(0, 2, DATES_DAMAGED) && dates_t_mark(&t) == DATES_DAMAGED, "a step that is not 0 days from itself");
+    t.gaps[3][3] = 0;
+    t.gaps[4][4] = -1;
+    count(gaps_are(two) && dates_t_mark(&t) == DATES_DONE && t.gaps[4][4] == -1, "and right again, whatever stands past the steps");
+
+    dates_t_open(&t, DATES_YARD_STEPS);
+    count(dates_t_add(&t, 15, 0, -7, &value) == DATES_DONE && t.gaps[15][0] == -7 && t.gaps[0][15] == N && gap_refused(15, 16, DATES_STEP), "as many steps as one yard has");
+    dates_t_open(&t, DATES_YARD_STEPS + 1);
+    t.gaps[0][1] = 77;
+    count(dates_t_add(&t, 0, 1, -2, &value) == DATES_DONE && gap_refused(0, 1, DATES_YARD) && gap_refused(99, 0, DATES_YARD) && t.gaps[0][1] == 77, "a step more is DATES_YARD");
+}
+
 static void refusals(void)
 {
     uint32_t value = 9;
@@ -279,39 +365,51 @@ static void refusals(void)
     count(value == 1 && t.days[DATES_STEPS - 1] == DATES_LATEST && last_is(DATES_LATEST), "case 13: the last day of a chain");
 }
 
-enum short_call { OPEN, WITHDRAW, LAST_DAY };
+/* The gap table for a call that only reads it. */
+#define GAPS dates_t_gaps(&t)
 
-/* The call with one table a place short; which is 0 to 7 in the order in which they are lent, 8 for none. Open has seven steps, Withdraw the number 1. */
-static uint32_t with_short(int which, enum short_call call, uint32_t *day)
+enum short_call { OPEN, WITHDRAW, LAST_DAY, GAP };
+
+/* The call with one table a place short; which is 0 to 7 in the order in which they are lent, 8 for none. Open has seven steps, Withdraw the number 1, Gap the pair 0, 2. */
+static uint32_t with_short(int which, enum short_call call, uint32_t *day, int64_t *limit)
 {
     size_t len[8] = {DATES_RULES, DATES_RULES, DATES_RULES, DATES_STEPS, DATES_RULES, DATES_WATCHED, DATES_WATCHED, DATES_WATCHED};
     if (which < 8)
         len[which]--;
+#define LENT_SHORT t.xs, len[0], t.ys, len[1], t.cs, len[2], t.days, len[3], t.levels, len[4], t.wxs, len[5], t.wys, len[6], t.wcs, len[7]
     switch (call) {
+    case GAP:
+        return dates_gap(&t.counts, LENT_SHORT, GAPS, 0, 2, day, limit);
     case LAST_DAY:
-        return dates_last_day(&t.counts, t.xs, len[0], t.ys, len[1], t.cs, len[2], t.days, len[3], t.levels, len[4], t.wxs, len[5], t.wys, len[6], t.wcs, len[7], day);
+        return dates_last_day(&t.counts, LENT_SHORT, GAPS, day);
     case WITHDRAW:
-        return dates_withdraw(&t.counts, t.xs, len[0], t.ys, len[1], t.cs, len[2], t.days, len[3], t.levels, len[4], t.wxs, len[5], t.wys, len[6], t.wcs, len[7], 1);
+        return dates_withdraw(&t.counts, LENT_SHORT, t.gaps, 1);
     default:
-        return dates_open(&t.counts, t.xs, len[0], t.ys, len[1], t.cs, len[2], t.days, len[3], t.levels, len[4], t.wxs, len[5], t.wys, len[6], t.wcs, len[7], 7);
+        return dates_open(&t.counts, LENT_SHORT, t.gaps, 7);
     }
+#undef LENT_SHORT
 }
 
 static void short_tables(void)
 {
     int which;
     uint32_t day;
+    int64_t limit;
 
     case_3();
     for (which = 0; which < 8; which++) {
         day = 9;
-        count(with_short(which, LAST_DAY, &day) == DATES_SHORT && day == 0, "Last day with a table one place short");
-        count(with_short(which, WITHDRAW, &day) == DATES_SHORT && t.counts.rules == 2 && t.levels[1] == 1, "Withdraw with a table one place short");
-        count(with_short(which, OPEN, &day) == DATES_SHORT && days_are(0, 2, 5, 0), "Open with a table one place short");
+        limit = 9;
+        count(with_short(which, GAP, &day, &limit) == DATES_SHORT && day == 0 && limit == 0, "Gap with a table one place short");
+        day = 9;
+        count(with_short(which, LAST_DAY, &day, &limit) == DATES_SHORT && day == 0, "Last day with a table one place short");
+        count(with_short(which, WITHDRAW, &day, &limit) == DATES_SHORT && t.counts.rules == 2 && t.levels[1] == 1, "Withdraw with a table one place short");
+        count(with_short(which, OPEN, &day, &limit) == DATES_SHORT && days_are(0, 2, 5, 0), "Open with a table one place short");
     }
-    count(with_short(8, LAST_DAY, &day) == DATES_DONE && day == 5, "Last day with every table at its bound");
-    count(with_short(8, WITHDRAW, &day) == DATES_DONE && days_are(0, 2, 0, 0), "Withdraw with every table at its bound");
-    count(with_short(8, OPEN, &day) == DATES_DONE && t.counts.steps == 7, "Open with every table at its bound");
+    count(with_short(8, GAP, &day, &limit) == DATES_DONE && day == 1 && limit == -5, "Gap with every table at its bound");
+    count(with_short(8, LAST_DAY, &day, &limit) == DATES_DONE && day == 5, "Last day with every table at its bound");
+    count(with_short(8, WITHDRAW, &day, &limit) == DATES_DONE && days_are(0, 2, 0, 0), "Withdraw with every table at its bound");
+    count(with_short(8, OPEN, &day, &limit) == DATES_DONE && t.counts.steps == 7, "Open with every table at its bound");
 }
 
 /* How many steps there could be in version 1.0.0. */
@@ -333,14 +431,14 @@ static void kept_before(void)
     size_t written = 9;
 
     case_3();
-    count(dates_open(&t.counts, LENT(BEFORE), 4) == DATES_SHORT && t.counts.rules == 2, "Open with the days of before");
-    count(dates_mark(&t.counts, LENT(BEFORE)) == DATES_SHORT && t.counts.marks == 0, "Mark with the days of before");
-    count(dates_open(&t.counts, LENT_MARKS, 4) == DATES_SHORT && t.counts.rules == 2, "Open with the room that the marks had");
-    count(dates_mark(&t.counts, LENT_MARKS) == DATES_SHORT && t.counts.marks == 0, "Mark with the room that the marks had");
-    count(dates_withdraw(&t.counts, LENT_MARKS, 0) == DATES_SHORT && t.counts.rules == 2, "Withdraw with the room that the marks had");
-    count(dates_add(&t.counts, LENT(DATES_STEPS), t.ring, BEFORE, 2, 0, 5, &value) == DATES_SHORT && value == 0 && t.counts.rules == 2, "Add with the list of before");
-    count(dates_trial(&t.counts, LENT(DATES_STEPS), t.tried, BEFORE, t.ring, DATES_STEPS, 2, 0, 5, &value) == DATES_SHORT, "Trial with the list of days of before");
-    count(dates_trial(&t.counts, LENT(DATES_STEPS), t.tried, DATES_STEPS, t.ring, BEFORE, 2, 0, 5, &value) == DATES_SHORT, "Trial with the list for rings of before");
+    count(dates_open(&t.counts, LENT(BEFORE), t.gaps, 4) == DATES_SHORT && t.counts.rules == 2, "Open with the days of before");
+    count(dates_mark(&t.counts, LENT(BEFORE), GAPS) == DATES_SHORT && t.counts.marks == 0, "Mark with the days of before");
+    count(dates_open(&t.counts, LENT_MARKS, t.gaps, 4) == DATES_SHORT && t.counts.rules == 2, "Open with the room that the marks had");
+    count(dates_mark(&t.counts, LENT_MARKS, GAPS) == DATES_SHORT && t.counts.marks == 0, "Mark with the room that the marks had");
+    count(dates_withdraw(&t.counts, LENT_MARKS, t.gaps, 0) == DATES_SHORT && t.counts.rules == 2, "Withdraw with the room that the marks had");
+    count(dates_add(&t.counts, LENT(DATES_STEPS), t.gaps, t.ring, BEFORE, 2, 0, 5, &value) == DATES_SHORT && value == 0 && t.counts.rules == 2, "Add with the list of before");
+    count(dates_trial(&t.counts, LENT(DATES_STEPS), GAPS, t.tried, BEFORE, t.ring, DATES_STEPS, 2, 0, 5, &value) == DATES_SHORT, "Trial with the list of days of before");
+    count(dates_trial(&t.counts, LENT(DATES_STEPS), GAPS, t.tried, DATES_STEPS, t.ring, BEFORE, 2, 0, 5, &value) == DATES_SHORT, "Trial with the list for rings of before");
     count(dates_start(&t.counts, &t.record, LENT(DATES_STEPS), t.names, BEFORE * DATES_NAME_BYTES, t.lens, DATES_STEPS) == DATES_SHORT, "Start with the names of before");
     count(dates_start(&t.counts, &t.record, LENT(DATES_STEPS), t.names, sizeof t.names, t.lens, BEFORE) == DATES_SHORT && t.counts.rules == 2, "Start with the lengths of before");
 
@@ -406,6 +504,7 @@ int main(void)
     reasons();
     withdrawals();
     last_days();
+    gap_tables();
     refusals();
     short_tables();
     kept_before();

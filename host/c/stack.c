@@ -1,6 +1,6 @@
 /*
  * How much stack each call takes: every call but the whole script is made once on a stack of its own of 96 KiB, with a page below it that may not be touched, on full
- * tables. It checks that none takes more than README says, and that Ring check takes no more than Mark but for what it is handed; it prints how many bytes each
+ * tables; Gap, and the calls that write the gap table, over one yard of as many steps as it may have. It checks that none takes more than README says, and that Ring check takes no more than Mark but for what it is handed; it prints how many bytes each
  * used. The last line is `N passed, M failed`.
  */
 #define _GNU_SOURCE
@@ -11,12 +11,14 @@
 #include <sys/mman.h>
 #include <ucontext.h>
 
-enum { STACK = 98304, MOST = 60000, GUARD = 65536, HANDED = 64, PAINT = 0xA5, LAST = DATES_STEPS - 1 };
+enum { STACK = 98304, MOST = 46000, GUARD = 65536, HANDED = 80, PAINT = 0xA5, LAST = DATES_STEPS - 1, YARD_LAST = DATES_YARD_STEPS - 1 };
 
 static dates_tables t;
 static dates_tables script;
+static dates_tables yard;
 static ucontext_t caller, callee;
 static uint32_t number, value, other;
+static int64_t limit;
 static size_t used_text, used_out;
 static const uint8_t assertion[] = "(assert (and (<= (- a b) 1) (not (<= (- b a) (- 5)))))";
 
@@ -37,6 +39,17 @@ static void do_ring_check(void)
     if (value != 1) number = UINT32_MAX;
 }
 static void do_last_day(void) { number = dates_t_last_day(&t, &value); }
+/* The chain's first and last steps: the limit is the sum of all its rules. */
+static void do_gap(void)
+{
+    number = dates_t_gap(&yard, 0, YARD_LAST, &value, &limit);
+    if (value != 1 || limit != -YARD_LAST) number = UINT32_MAX;
+}
+static void do_yard_open(void) { number = dates_t_open(&yard, DATES_YARD_STEPS); }
+static void do_yard_add(void) { number = dates_t_add(&yard, 0, 1, -2, &value); }
+static void do_yard_conflict(void) { number = dates_t_add(&yard, YARD_LAST, 0, 0, &value); }
+static void do_yard_withdraw(void) { number = dates_t_withdraw(&yard, 0); }
+static void do_yard_back(void) { number = dates_t_back(&yard); }
 static void do_start(void) { number = dates_t_start(&script); }
 static void do_pop(void) { number = dates_t_command(&script, (const uint8_t *)"(pop 1)", 7, &used_text, &used_out); }
 static void do_command(void) { number = dates_t_command(&script, assertion, sizeof assertion - 1, &used_text, &used_out); }
@@ -67,6 +80,10 @@ static void fill(void)
     for (i = LAST; i < DATES_RULES - 2; i++) dates_t_add(&t, i % DATES_STEPS, i * 7 % DATES_STEPS, DATES_STEPS, &value);
     for (i = 0; i < DATES_WATCHED - 1; i++) dates_t_watch(&t, i % DATES_STEPS, (i + 5) % DATES_STEPS, 0);
     for (i = 0; i < DATES_MARKS - 1; i++) dates_t_mark(&t);
+    dates_t_open(&yard, DATES_YARD_STEPS);
+    for (i = 0; i < YARD_LAST; i++) dates_t_add(&yard, i, i + 1, -1, &value);
+    dates_t_mark(&yard);
+    for (i = YARD_LAST; i < DATES_RULES - 2; i++) dates_t_add(&yard, i % DATES_YARD_STEPS, i * 7 % DATES_YARD_STEPS, DATES_YARD_STEPS, &value);
     dates_t_start(&script);
     command("(set-logic QF_IDL)");
     command("(declare-fun a () Int)");
@@ -81,7 +98,10 @@ int main(void)
         { "Watch", do_watch, DATES_DONE },           { "Mark", do_mark, DATES_DONE },             { "Add, steps move", do_move, DATES_DONE },
         { "Consequences", do_consequences, DATES_DONE }, { "Back", do_back, DATES_DONE },         { "command, assert", do_command, DATES_DONE },
         { "Withdraw", do_withdraw, DATES_DONE },     { "Last day", do_last_day, DATES_DONE },     { "command, pop", do_pop, DATES_DONE },
-        { "start", do_start, DATES_DONE },           { "Open", do_open, DATES_DONE },
+        { "start", do_start, DATES_DONE },           { "Open", do_open, DATES_DONE },             { "Gap", do_gap, DATES_DONE },
+        { "Add in one yard, conflict", do_yard_conflict, DATES_CONFLICT },                        { "Add in one yard, steps move", do_yard_add, DATES_DONE },
+        { "Withdraw in one yard", do_yard_withdraw, DATES_DONE },                                 { "Back in one yard", do_yard_back, DATES_DONE },
+        { "Open of one yard", do_yard_open, DATES_DONE },
     };
     int passed = 0, failed = 0;
     size_t i, ring_check = 0, mark = 0;

@@ -7,6 +7,7 @@ use Rattle.meaning.specs.declared.Counts.{Counts}
 use Rattle.meaning.specs.Promise.{Given, Meaning, Obeys, bare, gave}
 use Rattle.meaning.specs.Tables.{Tables}
 use Rattle.meaning.specs.Calls.{WithList, WithLists}
+use Rattle.gaps.specs.Beside.{Beside, beside}
 
 -- By the number: carried out, on conflict, or refused.
 by-number : {X : Type 0} (k : ℕ) → (k ≡ DONE → X) → (k ≡ CONFLICT → X) → ((k ≡ DONE → ⊥) → (k ≡ CONFLICT → ⊥) → X) → X
@@ -58,17 +59,18 @@ module _ {S : Type 0} (tables : S → Tables) (recounted : Counts → S) where
 abbrev recount : Tables → Counts → Tables
 recount t k = record { counts = k; rules = t .rules; days = t .days; levels = t .levels; watched = t .watched }
 
--- A call that is lent two lists, one that is lent one, and one that is lent none.
-pub at-counts-2 : (s : WithLists) (m : Meaning WithLists) (before : WithLists) (g : Given) → Obeys m before g s
-    → ((a b : ℕ) (t : WithLists) → m .done a b t → t .tables ≡ before .tables) → ((a : ℕ) (t : WithLists) → m .conflict a t → t .tables ≡ before .tables)
-    → Obeys m before g (record { tables = recount (s .tables) (before .tables .counts); one = s .one; two = s .two })
-at-counts-2 s m before g o = at-counts (λ t. t .tables) (λ k. record { tables = recount (s .tables) k; one = s .one; two = s .two }) m before g s o refl
+-- A call that is lent two lists, one that is lent one, and one that is lent none, each with the gap table.
+pub at-counts-2 : (s : Beside WithLists) (m : Meaning (Beside WithLists)) (before : Beside WithLists) (g : Given) → Obeys m before g s
+    → ((a b : ℕ) (t : Beside WithLists) → m .done a b t → t .lent .tables ≡ before .lent .tables) → ((a : ℕ) (t : Beside WithLists) → m .conflict a t → t .lent .tables ≡ before .lent .tables)
+    → Obeys m before g (beside (record { tables = recount (s .lent .tables) (before .lent .tables .counts); one = s .lent .one; two = s .lent .two }) (s .gaps))
+at-counts-2 s m before g o = at-counts (λ t. t .lent .tables) (λ k. beside (record { tables = recount (s .lent .tables) k; one = s .lent .one; two = s .lent .two }) (s .gaps)) m before g s o refl
 
-pub at-counts-1 : (s : WithList) (m : Meaning WithList) (before : WithList) (g : Given) → Obeys m before g s
-    → ((a b : ℕ) (t : WithList) → m .done a b t → t .tables ≡ before .tables) → ((a : ℕ) (t : WithList) → m .conflict a t → t .tables ≡ before .tables)
-    → Obeys m before g (record { tables = recount (s .tables) (before .tables .counts); list = s .list })
-at-counts-1 s m before g o = at-counts (λ t. t .tables) (λ k. record { tables = recount (s .tables) k; list = s .list }) m before g s o refl
+pub at-counts-1 : (s : Beside WithList) (m : Meaning (Beside WithList)) (before : Beside WithList) (g : Given) → Obeys m before g s
+    → ((a b : ℕ) (t : Beside WithList) → m .done a b t → t .lent .tables ≡ before .lent .tables) → ((a : ℕ) (t : Beside WithList) → m .conflict a t → t .lent .tables ≡ before .lent .tables)
+    → Obeys m before g (beside (record { tables = recount (s .lent .tables) (before .lent .tables .counts); list = s .lent .list }) (s .gaps))
+at-counts-1 s m before g o = at-counts (λ t. t .lent .tables) (λ k. beside (record { tables = recount (s .lent .tables) k; list = s .lent .list }) (s .gaps)) m before g s o refl
 
-pub at-counts-0 : (s : Tables) (m : Meaning Tables) (before : Tables) (g : Given) → Obeys m before g s
-    → ((a b : ℕ) (t : Tables) → m .done a b t → t ≡ before) → ((a : ℕ) (t : Tables) → m .conflict a t → t ≡ before) → Obeys m before g (recount s (before .counts))
-at-counts-0 s m before g o = at-counts (λ t. t) (recount s) m before g s o refl
+pub at-counts-0 : (s : Beside Tables) (m : Meaning (Beside Tables)) (before : Beside Tables) (g : Given) → Obeys m before g s
+    → ((a b : ℕ) (t : Beside Tables) → m .done a b t → t .lent ≡ before .lent) → ((a : ℕ) (t : Beside Tables) → m .conflict a t → t .lent ≡ before .lent)
+    → Obeys m before g (beside (recount (s .lent) (before .lent .counts)) (s .gaps))
+at-counts-0 s m before g o = at-counts (λ t. t .lent) (λ k. beside (recount (s .lent) k) (s .gaps)) m before g s o refl

@@ -2,10 +2,11 @@
 ghost use mathlib.Core.List.{List};
 ghost use Prim.Native.Nat.{ℕ};
 ghost use Rattle.meaning.specs.Promise.{Obeys, bare, gave};
-ghost use Rattle.lent.specs.Promises.{OpensTo, WatchesTo, AddsTo, MarksTo, GoesBackTo, WithdrawsTo, TriesTo, SplitsTo, ChecksRingTo, TellsLastDayTo};
+ghost use Rattle.gaps.specs.Promises.{OpensTo, WatchesTo, AddsTo, MarksTo, GoesBackTo, WithdrawsTo, TriesTo, SplitsTo, ChecksRingTo, TellsLastDayTo, TellsGapTo};
 ghost use Rattle.export_record.specs.Records.{lent-by-c, start-by-c, command-by-c};
 ghost use Rattle.script_meaning.specs.Whole.{RunsScript};
 use export_record::Record;
+use gaps::Gaps;
 use meaning::Counts;
 
 // Runs the script and writes all answers into out; `written` is how many bytes they are. It gives back the refusal's number, 0 where there was none.
@@ -30,11 +31,24 @@ pub extern "C" fn dates_open(
     wxs: &[u16],
     wys: &[u16],
     wcs: &[i32],
+    gaps: &mut Gaps,
     steps: u32,
 ) -> u32
-    ensures { λ r. ⌜ OpensTo (now (counts .entry)) (now (xs .entry)) (now (ys .entry)) (now (cs .entry)) (now (days .entry)) (now (levels .entry)) (now (wxs .entry)) (now (wys .entry)) (now (wcs .entry)) steps (bare r) (now (counts .exit)) (now (days .exit)) (now (levels .exit)) ⌝ }
+    ensures { λ r. ⌜ OpensTo (now (counts .entry)) (now (xs .entry)) (now (ys .entry)) (now (cs .entry)) (now (days .entry)) (now (levels .entry)) (now (wxs .entry)) (now (wys .entry)) (now (wcs .entry)) (now (gaps .entry)) steps (bare r) (now (counts .exit)) (now (days .exit)) (now (levels .exit)) (now (gaps .exit)) ⌝ }
 {
-    let out = desk::open(*counts, xs, ys, cs, days, levels, wxs, wys, wcs, steps);
+    let out = desk::open(
+        *counts,
+        xs,
+        ys,
+        cs,
+        days,
+        levels,
+        wxs,
+        wys,
+        wcs,
+        gaps,
+        steps,
+    );
     *counts = out.counts;
     out.number
 }
@@ -51,13 +65,28 @@ pub extern "C" fn dates_watch(
     wxs: &mut [u16],
     wys: &mut [u16],
     wcs: &mut [i32],
+    gaps: &Gaps,
     x: u32,
     y: u32,
     c: i32,
 ) -> u32
-    ensures { λ r. ⌜ WatchesTo (now (counts .entry)) (now (xs .entry)) (now (ys .entry)) (now (cs .entry)) (now (days .entry)) (now (levels .entry)) (now (wxs .entry)) (now (wys .entry)) (now (wcs .entry)) x y c (bare r) (now (counts .exit)) (now (wxs .exit)) (now (wys .exit)) (now (wcs .exit)) ⌝ }
+    ensures { λ r. ⌜ WatchesTo (now (counts .entry)) (now (xs .entry)) (now (ys .entry)) (now (cs .entry)) (now (days .entry)) (now (levels .entry)) (now (wxs .entry)) (now (wys .entry)) (now (wcs .entry)) (now (gaps .entry)) x y c (bare r) (now (counts .exit)) (now (wxs .exit)) (now (wys .exit)) (now (wcs .exit)) ⌝ }
 {
-    let out = desk::watch(*counts, xs, ys, cs, days, levels, wxs, wys, wcs, x, y, c);
+    let out = desk::watch(
+        *counts,
+        xs,
+        ys,
+        cs,
+        days,
+        levels,
+        wxs,
+        wys,
+        wcs,
+        gaps,
+        x,
+        y,
+        c,
+    );
     *counts = out.counts;
     out.number
 }
@@ -74,10 +103,11 @@ pub extern "C" fn dates_mark(
     wxs: &[u16],
     wys: &[u16],
     wcs: &[i32],
+    gaps: &Gaps,
 ) -> u32
-    ensures { λ r. ⌜ MarksTo (now (counts .entry)) (now (xs .entry)) (now (ys .entry)) (now (cs .entry)) (now (days .entry)) (now (levels .entry)) (now (wxs .entry)) (now (wys .entry)) (now (wcs .entry)) (bare r) (now (counts .exit)) ⌝ }
+    ensures { λ r. ⌜ MarksTo (now (counts .entry)) (now (xs .entry)) (now (ys .entry)) (now (cs .entry)) (now (days .entry)) (now (levels .entry)) (now (wxs .entry)) (now (wys .entry)) (now (wcs .entry)) (now (gaps .entry)) (bare r) (now (counts .exit)) ⌝ }
 {
-    let out = desk::mark(*counts, xs, ys, cs, days, levels, wxs, wys, wcs);
+    let out = desk::mark(*counts, xs, ys, cs, days, levels, wxs, wys, wcs, gaps);
     *counts = out.counts;
     out.number
 }
@@ -94,10 +124,11 @@ pub extern "C" fn dates_back(
     wxs: &[u16],
     wys: &[u16],
     wcs: &[i32],
+    gaps: &mut Gaps,
 ) -> u32
-    ensures { λ r. ⌜ GoesBackTo (now (counts .entry)) (now (xs .entry)) (now (ys .entry)) (now (cs .entry)) (now (days .entry)) (now (levels .entry)) (now (wxs .entry)) (now (wys .entry)) (now (wcs .entry)) (bare r) (now (counts .exit)) (now (days .exit)) (now (levels .exit)) ⌝ }
+    ensures { λ r. ⌜ GoesBackTo (now (counts .entry)) (now (xs .entry)) (now (ys .entry)) (now (cs .entry)) (now (days .entry)) (now (levels .entry)) (now (wxs .entry)) (now (wys .entry)) (now (wcs .entry)) (now (gaps .entry)) (bare r) (now (counts .exit)) (now (days .exit)) (now (levels .exit)) (now (gaps .exit)) ⌝ }
 {
-    let out = desk::back(*counts, xs, ys, cs, days, levels, wxs, wys, wcs);
+    let out = desk::back(*counts, xs, ys, cs, days, levels, wxs, wys, wcs, gaps);
     *counts = out.counts;
     out.number
 }
@@ -114,11 +145,24 @@ pub extern "C" fn dates_withdraw(
     wxs: &[u16],
     wys: &[u16],
     wcs: &[i32],
+    gaps: &mut Gaps,
     number: u32,
 ) -> u32
-    ensures { λ r. ⌜ WithdrawsTo (now (counts .entry)) (now (xs .entry)) (now (ys .entry)) (now (cs .entry)) (now (days .entry)) (now (levels .entry)) (now (wxs .entry)) (now (wys .entry)) (now (wcs .entry)) number (bare r) (now (counts .exit)) (now (days .exit)) (now (levels .exit)) ⌝ }
+    ensures { λ r. ⌜ WithdrawsTo (now (counts .entry)) (now (xs .entry)) (now (ys .entry)) (now (cs .entry)) (now (days .entry)) (now (levels .entry)) (now (wxs .entry)) (now (wys .entry)) (now (wcs .entry)) (now (gaps .entry)) number (bare r) (now (counts .exit)) (now (days .exit)) (now (levels .exit)) (now (gaps .exit)) ⌝ }
 {
-    let out = desk::withdraw(*counts, xs, ys, cs, days, levels, wxs, wys, wcs, number);
+    let out = desk::withdraw(
+        *counts,
+        xs,
+        ys,
+        cs,
+        days,
+        levels,
+        wxs,
+        wys,
+        wcs,
+        gaps,
+        number,
+    );
     *counts = out.counts;
     out.number
 }
@@ -135,13 +179,14 @@ pub extern "C" fn dates_add(
     wxs: &[u16],
     wys: &[u16],
     wcs: &[i32],
+    gaps: &mut Gaps,
     list: &mut [u32],
     x: u32,
     y: u32,
     c: i32,
     value: &mut u32,
 ) -> u32
-    ensures { λ r. ⌜ AddsTo (now (counts .entry)) (now (xs .entry)) (now (ys .entry)) (now (cs .entry)) (now (days .entry)) (now (levels .entry)) (now (wxs .entry)) (now (wys .entry)) (now (wcs .entry)) (now (list .entry)) x y c (gave r (now (value .exit)) 0) (now (counts .exit)) (now (xs .exit)) (now (ys .exit)) (now (cs .exit)) (now (days .exit)) (now (levels .exit)) (now (list .exit)) ⌝ }
+    ensures { λ r. ⌜ AddsTo (now (counts .entry)) (now (xs .entry)) (now (ys .entry)) (now (cs .entry)) (now (days .entry)) (now (levels .entry)) (now (wxs .entry)) (now (wys .entry)) (now (wcs .entry)) (now (gaps .entry)) (now (list .entry)) x y c (gave r (now (value .exit)) 0) (now (counts .exit)) (now (xs .exit)) (now (ys .exit)) (now (cs .exit)) (now (days .exit)) (now (levels .exit)) (now (gaps .exit)) (now (list .exit)) ⌝ }
 {
     let out = desk::add(
         *counts,
@@ -153,6 +198,7 @@ pub extern "C" fn dates_add(
         wxs,
         wys,
         wcs,
+        gaps,
         list,
         x,
         y,
@@ -175,6 +221,7 @@ pub extern "C" fn dates_trial(
     wxs: &[u16],
     wys: &[u16],
     wcs: &[i32],
+    gaps: &Gaps,
     one: &mut [u32],
     two: &mut [u32],
     x: u32,
@@ -182,7 +229,7 @@ pub extern "C" fn dates_trial(
     c: i32,
     value: &mut u32,
 ) -> u32
-    ensures { λ r. ⌜ TriesTo (now (counts .entry)) (now (xs .entry)) (now (ys .entry)) (now (cs .entry)) (now (days .entry)) (now (levels .entry)) (now (wxs .entry)) (now (wys .entry)) (now (wcs .entry)) (now (one .entry)) (now (two .entry)) x y c (gave r (now (value .exit)) 0) (now (counts .entry)) (now (one .exit)) (now (two .exit)) ⌝ }
+    ensures { λ r. ⌜ TriesTo (now (counts .entry)) (now (xs .entry)) (now (ys .entry)) (now (cs .entry)) (now (days .entry)) (now (levels .entry)) (now (wxs .entry)) (now (wys .entry)) (now (wcs .entry)) (now (gaps .entry)) (now (one .entry)) (now (two .entry)) x y c (gave r (now (value .exit)) 0) (now (counts .entry)) (now (one .exit)) (now (two .exit)) ⌝ }
 {
     let out = desk::trial(
         *counts,
@@ -194,6 +241,7 @@ pub extern "C" fn dates_trial(
         wxs,
         wys,
         wcs,
+        gaps,
         one,
         two,
         x,
@@ -216,14 +264,28 @@ pub extern "C" fn dates_consequences(
     wxs: &[u16],
     wys: &[u16],
     wcs: &[i32],
+    gaps: &Gaps,
     one: &mut [u32],
     two: &mut [u32],
     held: &mut u32,
     excluded: &mut u32,
 ) -> u32
-    ensures { λ r. ⌜ SplitsTo (now (counts .entry)) (now (xs .entry)) (now (ys .entry)) (now (cs .entry)) (now (days .entry)) (now (levels .entry)) (now (wxs .entry)) (now (wys .entry)) (now (wcs .entry)) (now (one .entry)) (now (two .entry)) (gave r (now (held .exit)) (now (excluded .exit))) (now (counts .entry)) (now (one .exit)) (now (two .exit)) ⌝ }
+    ensures { λ r. ⌜ SplitsTo (now (counts .entry)) (now (xs .entry)) (now (ys .entry)) (now (cs .entry)) (now (days .entry)) (now (levels .entry)) (now (wxs .entry)) (now (wys .entry)) (now (wcs .entry)) (now (gaps .entry)) (now (one .entry)) (now (two .entry)) (gave r (now (held .exit)) (now (excluded .exit))) (now (counts .entry)) (now (one .exit)) (now (two .exit)) ⌝ }
 {
-    let out = desk::consequences(*counts, xs, ys, cs, days, levels, wxs, wys, wcs, one, two);
+    let out = desk::consequences(
+        *counts,
+        xs,
+        ys,
+        cs,
+        days,
+        levels,
+        wxs,
+        wys,
+        wcs,
+        gaps,
+        one,
+        two,
+    );
     *held = out.one;
     *excluded = out.two;
     out.number
@@ -241,13 +303,14 @@ pub extern "C" fn dates_ring_check(
     wxs: &[u16],
     wys: &[u16],
     wcs: &[i32],
+    gaps: &Gaps,
     list: &[u32],
     x: u32,
     y: u32,
     c: i32,
     verdict: &mut u32,
 ) -> u32
-    ensures { λ r. ⌜ ChecksRingTo (now (counts .entry)) (now (xs .entry)) (now (ys .entry)) (now (cs .entry)) (now (days .entry)) (now (levels .entry)) (now (wxs .entry)) (now (wys .entry)) (now (wcs .entry)) (now (list .entry)) x y c (gave r (now (verdict .exit)) 0) (now (counts .entry)) ⌝ }
+    ensures { λ r. ⌜ ChecksRingTo (now (counts .entry)) (now (xs .entry)) (now (ys .entry)) (now (cs .entry)) (now (days .entry)) (now (levels .entry)) (now (wxs .entry)) (now (wys .entry)) (now (wcs .entry)) (now (gaps .entry)) (now (list .entry)) x y c (gave r (now (verdict .exit)) 0) (now (counts .entry)) ⌝ }
 {
     let out = desk::ring_check(
         *counts,
@@ -259,6 +322,7 @@ pub extern "C" fn dates_ring_check(
         wxs,
         wys,
         wcs,
+        gaps,
         list,
         x,
         y,
@@ -280,12 +344,39 @@ pub extern "C" fn dates_last_day(
     wxs: &[u16],
     wys: &[u16],
     wcs: &[i32],
+    gaps: &Gaps,
     day: &mut u32,
 ) -> u32
-    ensures { λ r. ⌜ TellsLastDayTo (now (counts .entry)) (now (xs .entry)) (now (ys .entry)) (now (cs .entry)) (now (days .entry)) (now (levels .entry)) (now (wxs .entry)) (now (wys .entry)) (now (wcs .entry)) (gave r (now (day .exit)) 0) (now (counts .entry)) ⌝ }
+    ensures { λ r. ⌜ TellsLastDayTo (now (counts .entry)) (now (xs .entry)) (now (ys .entry)) (now (cs .entry)) (now (days .entry)) (now (levels .entry)) (now (wxs .entry)) (now (wys .entry)) (now (wcs .entry)) (now (gaps .entry)) (gave r (now (day .exit)) 0) (now (counts .entry)) ⌝ }
 {
-    let out = desk::last_day(*counts, xs, ys, cs, days, levels, wxs, wys, wcs);
+    let out = desk::last_day(*counts, xs, ys, cs, days, levels, wxs, wys, wcs, gaps);
     *day = out.one;
+    out.number
+}
+
+// Gap: its number; `limited` is 1 and `limit` the limit of the pair x, y, or both are 0 where there is none; both are 0 on a refusal.
+#[no_mangle]
+pub extern "C" fn dates_gap(
+    counts: &Counts,
+    xs: &[u16],
+    ys: &[u16],
+    cs: &[i32],
+    days: &[u32],
+    levels: &[u8],
+    wxs: &[u16],
+    wys: &[u16],
+    wcs: &[i32],
+    gaps: &Gaps,
+    x: u32,
+    y: u32,
+    limited: &mut u32,
+    limit: &mut i64,
+) -> u32
+    ensures { λ r. ⌜ TellsGapTo (now (counts .entry)) (now (xs .entry)) (now (ys .entry)) (now (cs .entry)) (now (days .entry)) (now (levels .entry)) (now (wxs .entry)) (now (wys .entry)) (now (wcs .entry)) (now (gaps .entry)) x y r (now (limited .exit)) (now (limit .exit)) (now (counts .entry)) ⌝ }
+{
+    let out = desk::gap(*counts, xs, ys, cs, days, levels, wxs, wys, wcs, gaps, x, y);
+    *limited = out.limited;
+    *limit = out.limit;
     out.number
 }
 

@@ -73,7 +73,7 @@ module _ {S : Type 0} (m : Meaning S) (before : S) (g h : Given) (after other : 
 
 -- ---- each call
 
-open-fixed : (n : ℕ) (t : Tables) → Fixed (open-meaning n t)
+pub open-fixed : (n : ℕ) (t : Tables) → Fixed (open-meaning n t)
 open-fixed n t a b c d u w x y = (
   x .no-values .0 ∙ sym (y .no-values .0),
   x .no-values .1 ∙ sym (y .no-values .1),
@@ -86,14 +86,14 @@ open-fixed n t a b c d u w x y = (
     levels : u .levels ≡ w .levels
     levels = past-same RULES (t .levels) (u .levels) (w .levels) (x .past-levels) (y .past-levels) (λ i h. x .all-free i h ∙ sym (y .all-free i h))
 
-watch-fixed : (r : Rule) (t : Tables) → Fixed (watch-meaning r t)
+pub watch-fixed : (r : Rule) (t : Tables) → Fixed (watch-meaning r t)
 watch-fixed r t a b c d u w x y = (x .no-values .0 ∙ sym (y .no-values .0), x .no-values .1 ∙ sym (y .no-values .1), x .watched ∙ sym (y .watched))
 
 -- Two lists that hold the earliest plan in their first n places, written from the same list, are equal.
 planned-same : {n : ℕ} {R : ℕ → Rule} {H : ℕ → Type 0} {before a b : List ℕ} → Planned n R H before a → Planned n R H before b → a ≡ b
 planned-same {n} {R} {H} {before} {a} {b} x y = past-same n before a b (x .past) (y .past) (earliest-unique (x .earliest) (y .earliest))
 
-add-fixed : (r : Rule) (s : WithList) → Fixed (add-meaning r s)
+pub add-fixed : (r : Rule) (s : WithList) → Fixed (add-meaning r s)
 add-fixed r s a b c d u w x y = (
   x .count-moved ∙ ap (moved (s .tables .counts .steps) (s .tables .days)) days ∙ sym (y .count-moved),
   x .no-second ∙ sym (y .no-second),
@@ -106,24 +106,24 @@ add-fixed r s a b c d u w x y = (
     tables : u .tables ≡ w .tables
     tables = x .rule-held ∙ ap (λ l. with-days l (with-rule r (s .tables))) days ∙ sym (y .rule-held)
 
-mark-fixed : (t : Tables) → Fixed (mark-meaning t)
+pub mark-fixed : (t : Tables) → Fixed (mark-meaning t)
 mark-fixed t a b c d u w x y = (x .no-values .0 ∙ sym (y .no-values .0), x .no-values .1 ∙ sym (y .no-values .1), x .marked ∙ sym (y .marked))
 
-back-fixed : (t : Tables) → Fixed (back-meaning t)
+pub back-fixed : (t : Tables) → Fixed (back-meaning t)
 back-fixed t a b c d u w x y = (
   x .no-values .0 ∙ sym (y .no-values .0),
   x .no-values .1 ∙ sym (y .no-values .1),
   x .dropped ∙ ap (λ l. with-days l (without-mark t)) (planned-same (x .planned) (y .planned)) ∙ sym (y .dropped),
 )
 
-withdraw-fixed : (j : ℕ) (t : Tables) → Fixed (withdraw-meaning j t)
+pub withdraw-fixed : (j : ℕ) (t : Tables) → Fixed (withdraw-meaning j t)
 withdraw-fixed j t a b c d u w x y = (
   x .no-values .0 ∙ sym (y .no-values .0),
   x .no-values .1 ∙ sym (y .no-values .1),
   x .gone ∙ ap (λ l. with-days l (without-rule j t)) (planned-same (x .planned) (y .planned)) ∙ sym (y .gone),
 )
 
-trial-fixed : (r : Rule) (s : WithLists) → Fixed (trial-meaning r s)
+pub trial-fixed : (r : Rule) (s : WithLists) → Fixed (trial-meaning r s)
 trial-fixed r s a b c d u w x y = (
   x .count-moved ∙ ap (moved (s .tables .counts .steps) (s .tables .days)) days ∙ sym (y .count-moved),
   x .no-second ∙ sym (y .no-second),
@@ -133,7 +133,7 @@ trial-fixed r s a b c d u w x y = (
     days : u .one ≡ w .one
     days = planned-same (x .planned) (y .planned)
 
-consequences-fixed : (s : WithLists) → Fixed (consequences-meaning s)
+pub consequences-fixed : (s : WithLists) → Fixed (consequences-meaning s)
 consequences-fixed s a b c d u w x y =
     (all .0, none .0, λ i. record { tables = (x .tables-stay ∙ sym (y .tables-stay)) i; one = all .1 i; two = none .1 i })
   where
@@ -146,7 +146,7 @@ consequences-fixed s a b c d u w x y =
     none : (b ≡ d) × (u .two ≡ w .two)
     none = filled-same (exactly-same (λ j. Never (rules-of t) (held-in t) (rule-at (t .watched) j)) (t .counts .watched)) b d (s .two) (u .two) (w .two) (x .in-none) (y .in-none)
 
-ring-check-fixed : (r : Rule) (s : WithList) → Fixed (ring-check-meaning r s)
+pub ring-check-fixed : (r : Rule) (s : WithList) → Fixed (ring-check-meaning r s)
 ring-check-fixed r s a b c d u w x y = (go (x .verdict) (y .verdict), x .no-second ∙ sym (y .no-second), x .all-stays ∙ sym (y .all-stays))
   where
     go : {P : Type 0} → ((a ≡ 1) × P) ⊎ ((a ≡ 0) × (P → ⊥)) → ((c ≡ 1) × P) ⊎ ((c ≡ 0) × (P → ⊥)) → a ≡ c
@@ -155,7 +155,7 @@ ring-check-fixed r s a b c d u w x y = (go (x .verdict) (y .verdict), x .no-seco
     go (inr p) (inl q) = absurd (p .1 (q .1))
     go (inr p) (inr q) = p .0 ∙ sym (q .0)
 
-last-day-fixed : (t : Tables) → Fixed (last-day-meaning t)
+pub last-day-fixed : (t : Tables) → Fixed (last-day-meaning t)
 last-day-fixed t a b c d u w x y = (x .day ∙ sym (y .day), x .no-second ∙ sym (y .no-second), x .all-stays ∙ sym (y .all-stays))
 
 -- The eight calls that know no conflict.
@@ -189,12 +189,12 @@ last-day-determined t g h u w x y = determined (last-day-meaning t) t g h u w x 
 rings-same : (r : Rule) (t : Tables) (k j : ℕ) (before a b : List ℕ) → RingIn r t k before a → RingIn r t j before b → (k ≡ j) × (a ≡ b)
 rings-same r t = filled-same (reason-unique (rules-of t) (held-in t) (next-in t) r)
 
-add-conflict-fixed : (r : Rule) (s : WithList) → FixedOnConflict (add-meaning r s)
+pub add-conflict-fixed : (r : Rule) (s : WithList) → FixedOnConflict (add-meaning r s)
 add-conflict-fixed r s a c u w x y =
     let (long, list) = rings-same r (s .tables) a c (s .list) (u .list) (w .list) (x .ring-given) (y .ring-given) in
     (long, λ i. record { tables = (x .tables-stay ∙ sym (y .tables-stay)) i; list = list i })
 
-trial-conflict-fixed : (r : Rule) (s : WithLists) → FixedOnConflict (trial-meaning r s)
+pub trial-conflict-fixed : (r : Rule) (s : WithLists) → FixedOnConflict (trial-meaning r s)
 trial-conflict-fixed r s a c u w x y =
     let (long, two) = rings-same r (s .tables) a c (s .two) (u .two) (w .two) (x .ring-given) (y .ring-given) in
     (long, λ i. record { tables = (x .tables-stay ∙ sym (y .tables-stay)) i; one = (x .one-stays ∙ sym (y .one-stays)) i; two = two i })

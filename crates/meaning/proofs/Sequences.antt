@@ -36,7 +36,7 @@ days-room k before after p h = omega (arith, p .same-length)
 levels-room : (before after : List ℕ) → length after ≡ length before → RULES ≤ length before → RULES ≤ length after
 levels-room before after same h = omega (arith, same)
 
-opened-kept : (n : ℕ) (t u : Tables) (a b : ℕ) → Room t → 1 ≤ n → n ≤ STEPS → Opened n t a b u → Kept u
+pub opened-kept : (n : ℕ) (t u : Tables) (a b : ℕ) → Room t → 1 ≤ n → n ≤ STEPS → Opened n t a b u → Kept u
 opened-kept n t u a b room lo hi x = subst Kept (sym (x .emptied)) kept
   where
     w : Tables

@@ -33,6 +33,14 @@ NAME-BYTES = 32
 abbrev pub DEPTH : ℕ
 DEPTH = 16
 
+-- One yard has at most so many steps: with no more of them the gap table is kept, which has as many rows and columns.
+abbrev pub YARD-STEPS : ℕ
+YARD-STEPS = 16
+
+-- What a cell of the gap table has where there is no limit: the largest number that it can hold.
+abbrev pub NO-LIMIT : ℕ
+NO-LIMIT = 9223372036854775807
+
 -- One get-value has at most so many names.
 abbrev pub ASKED : ℕ
 ASKED = 256
@@ -92,3 +100,7 @@ SIZE = 11
 -- No rule is held under that number.
 abbrev pub ABSENT : ℕ
 ABSENT = 12
+
+-- More steps than one yard has.
+abbrev pub YARD : ℕ
+YARD = 15

@@ -28,6 +28,12 @@ pub const NAME_BYTES: usize = 32;
 // Terms are at most so deep.
 pub const DEPTH: usize = 16;
 
+// One yard has at most so many steps.
+pub const YARD_STEPS: usize = 16;
+
+// What a cell of the gap table has where there is no limit.
+pub const NO_LIMIT: i64 = 9223372036854775807;
+
 // One get-value has at most so many names.
 pub const ASKED: usize = 256;
 
@@ -60,6 +66,8 @@ pub const NAME: u32 = 10;
 pub const SIZE: u32 = 11;
 
 pub const ABSENT: u32 = 12;
+
+pub const YARD: u32 = 15;
 
 // How many of each thing the tables hold, and the last day of the plan. The caller lends it; a call brings it up to date. C callers lend it too, so its fields lie in this order.
 #[repr(C)]

@@ -1,4 +1,5 @@
 -- What the proofs of this crate share, and what follows from its contracts.
+pub mod Bare
 pub mod Fresh
 pub mod Handing
 pub mod Statuses

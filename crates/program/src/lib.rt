@@ -148,6 +148,16 @@ fn play(s: &[u8]) -> u32
     )
 }
 
+// The script on fresh tables, which are made only where it has a byte.
+fn play_any(s: &[u8]) -> u32
+    ensures { λ r. ⌜ Played (now (s .entry)) r ⌝ }
+{
+    if s.len() == 0 {
+        return ENDED;
+    }
+    play(s)
+}
+
 // A script that is too long: its only answer is the refusal.
 fn refuse(s: &[u8]) -> u32
     requires { ⌜ TEXT < length (now s) ⌝ }
@@ -167,7 +177,7 @@ fn answer_text(s: &[u8]) -> u32
     ensures { λ r. ⌜ Answered (now (s .entry)) r ⌝ }
 {
     if s.len() <= meaning::TEXT {
-        return play(s);
+        return play_any(s);
     }
     refuse(s)
 }

@@ -1,2 +1,3 @@
 -- What the proofs share.
 pub mod Long
+pub mod Signed

@@ -1,9 +1,10 @@
-// The public calls, each on the office's lists as they are lent. Those that a call can write are its own copy, which then stands in the office.
+// The public calls, each on the office's lists as they are lent. Those that a call can write are its own copy, which then stands in the office; the gap table is lent as it is.
 use crate::cells;
 use crate::office;
 use crate::office::Office;
 use crate::words;
 use crate::words::Ask;
+use gaps::Gaps;
 
 // Open.
 pub fn open_steps<'a>(
@@ -15,6 +16,7 @@ pub fn open_steps<'a>(
     wxs: &'a [u16],
     wys: &'a [u16],
     wcs: &'a [i32],
+    gaps: &mut Gaps,
 ) -> Office {
     let mut days = o.days;
     let mut levels = o.levels;
@@ -28,6 +30,7 @@ pub fn open_steps<'a>(
         wxs,
         wys,
         wcs,
+        gaps,
         ask.first,
     );
     let mut next = office::after(o, reply);
@@ -45,6 +48,7 @@ pub fn watch<'a>(
     cs: &'a [i32],
     days: &'a [u32],
     levels: &'a [u8],
+    gaps: &'a Gaps,
 ) -> Office {
     let mut wxs = o.wxs;
     let mut wys = o.wys;
@@ -59,6 +63,7 @@ pub fn watch<'a>(
         cells::lend_steps(ask, words::WXS, &mut wxs),
         cells::lend_steps(ask, words::WYS, &mut wys),
         cells::lend_amounts(ask, words::WCS, &mut wcs),
+        gaps,
         ask.x as u32,
         ask.y as u32,
         ask.c,
@@ -81,8 +86,9 @@ pub fn mark<'a>(
     wxs: &'a [u16],
     wys: &'a [u16],
     wcs: &'a [i32],
+    gaps: &'a Gaps,
 ) -> Office {
-    let reply = desk::mark(o.counts, xs, ys, cs, days, levels, wxs, wys, wcs);
+    let reply = desk::mark(o.counts, xs, ys, cs, days, levels, wxs, wys, wcs, gaps);
     office::after(o, reply)
 }
 
@@ -96,6 +102,7 @@ pub fn back<'a>(
     wxs: &'a [u16],
     wys: &'a [u16],
     wcs: &'a [i32],
+    gaps: &mut Gaps,
 ) -> Office {
     let mut days = o.days;
     let mut levels = o.levels;
@@ -109,6 +116,7 @@ pub fn back<'a>(
         wxs,
         wys,
         wcs,
+        gaps,
     );
     let mut next = office::after(o, reply);
     next.days = days;
@@ -126,6 +134,7 @@ pub fn withdraw<'a>(
     wxs: &'a [u16],
     wys: &'a [u16],
     wcs: &'a [i32],
+    gaps: &mut Gaps,
 ) -> Office {
     let mut days = o.days;
     let mut levels = o.levels;
@@ -139,6 +148,7 @@ pub fn withdraw<'a>(
         wxs,
         wys,
         wcs,
+        gaps,
         ask.first,
     );
     let mut next = office::after(o, reply);
@@ -148,7 +158,14 @@ pub fn withdraw<'a>(
 }
 
 // Add, with list one for the ring.
-pub fn add<'a>(ask: Ask, o: Office, wxs: &'a [u16], wys: &'a [u16], wcs: &'a [i32]) -> Office {
+pub fn add<'a>(
+    ask: Ask,
+    o: Office,
+    wxs: &'a [u16],
+    wys: &'a [u16],
+    wcs: &'a [i32],
+    gaps: &mut Gaps,
+) -> Office {
     let mut xs = o.xs;
     let mut ys = o.ys;
     let mut cs = o.cs;
@@ -165,6 +182,7 @@ pub fn add<'a>(ask: Ask, o: Office, wxs: &'a [u16], wys: &'a [u16], wcs: &'a [i3
         wxs,
         wys,
         wcs,
+        gaps,
         cells::lend_numbers(ask, words::ONE, &mut one),
         ask.x as u32,
         ask.y as u32,
@@ -192,6 +210,7 @@ pub fn trial<'a>(
     wxs: &'a [u16],
     wys: &'a [u16],
     wcs: &'a [i32],
+    gaps: &'a Gaps,
 ) -> Office {
     let mut one = o.one;
     let mut two = o.two;
@@ -205,6 +224,7 @@ pub fn trial<'a>(
         wxs,
         wys,
         wcs,
+        gaps,
         cells::lend_numbers(ask, words::ONE, &mut one),
         cells::lend_numbers(ask, words::TWO, &mut two),
         ask.x as u32,
@@ -229,6 +249,7 @@ pub fn consequences<'a>(
     wxs: &'a [u16],
     wys: &'a [u16],
     wcs: &'a [i32],
+    gaps: &'a Gaps,
 ) -> Office {
     let mut one = o.one;
     let mut two = o.two;
@@ -242,6 +263,7 @@ pub fn consequences<'a>(
         wxs,
         wys,
         wcs,
+        gaps,
         cells::lend_numbers(ask, words::ONE, &mut one),
         cells::lend_numbers(ask, words::TWO, &mut two),
     );
@@ -275,6 +297,7 @@ pub fn ring_check<'a>(
     wxs: &'a [u16],
     wys: &'a [u16],
     wcs: &'a [i32],
+    gaps: &'a Gaps,
     two: &'a [u32],
 ) -> Office {
     let numbers = ask.numbers;
@@ -288,6 +311,7 @@ pub fn ring_check<'a>(
         wxs,
         wys,
         wcs,
+        gaps,
         ring_of(ask, &numbers, two),
         ask.x as u32,
         ask.y as u32,
@@ -307,7 +331,39 @@ pub fn last_day<'a>(
     wxs: &'a [u16],
     wys: &'a [u16],
     wcs: &'a [i32],
+    gaps: &'a Gaps,
 ) -> Office {
-    let reply = desk::last_day(o.counts, xs, ys, cs, days, levels, wxs, wys, wcs);
+    let reply = desk::last_day(o.counts, xs, ys, cs, days, levels, wxs, wys, wcs, gaps);
     office::after(o, reply)
+}
+
+// Gap, of the line's first two numbers.
+pub fn gap<'a>(
+    ask: Ask,
+    o: Office,
+    xs: &'a [u16],
+    ys: &'a [u16],
+    cs: &'a [i32],
+    days: &'a [u32],
+    levels: &'a [u8],
+    wxs: &'a [u16],
+    wys: &'a [u16],
+    wcs: &'a [i32],
+    gaps: &'a Gaps,
+) -> Office {
+    let reply = desk::gap(
+        o.counts,
+        xs,
+        ys,
+        cs,
+        days,
+        levels,
+        wxs,
+        wys,
+        wcs,
+        gaps,
+        ask.first,
+        ask.second,
+    );
+    office::after_gap(o, reply)
 }

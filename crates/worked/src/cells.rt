@@ -2,6 +2,7 @@
 use crate::office::Office;
 use crate::words;
 use crate::words::Ask;
+use gaps::Gaps;
 use meaning::Counts;
 
 // As many places of the list as the line lends.
@@ -104,6 +105,43 @@ fn same_levels<'a>(before: bool, list: &'a [u8], other: &'a [u8], a: u32) -> boo
     before
 }
 
+// How many rows and columns of the gap table the calls keep with so many steps.
+pub fn kept(steps: u32) -> usize {
+    let n = steps as usize;
+    if meaning::YARD_STEPS < n {
+        return 0;
+    }
+    n
+}
+
+// Whether the cells from a on hold the same in both rows of the gap table.
+fn same_row(row: [i64; meaning::YARD_STEPS], other: [i64; meaning::YARD_STEPS], a: usize) -> bool {
+    let mut y = a;
+    while y < meaning::YARD_STEPS {
+        if row[y] != other[y] {
+            return false;
+        }
+        y += 1;
+    }
+    true
+}
+
+// Whether it was so before, and the cells of both gap tables hold the same that are not in the first n rows and columns.
+fn same_gaps<'a>(before: bool, gaps: &'a Gaps, other: &'a Gaps, n: usize) -> bool {
+    let mut x: usize = 0;
+    while x < meaning::YARD_STEPS {
+        let mut a = n;
+        if n <= x {
+            a = 0;
+        }
+        if !same_row(gaps[x], other[x], a) {
+            return false;
+        }
+        x += 1;
+    }
+    before
+}
+
 // Whether the counts are the same.
 pub fn same_counts(a: Counts, b: Counts) -> bool {
     (a.steps ^ b.steps)
@@ -126,12 +164,15 @@ pub fn all_same(s: Same) -> bool {
     s.tables && s.one && s.two
 }
 
-// What is the same as in the office: of the tables from these counts on and of the levels from f on, if it was so before, and of the lists from k and l on.
+// What is the same as in the office: of the tables from these counts on, of the levels from f on and of the gap table outside its first g rows and columns, if it was so before, and
+// of the lists from k and l on.
 pub fn compared<'a>(
     o: Office,
+    other: &'a Gaps,
     before: bool,
     from: Counts,
     f: u32,
+    g: usize,
     k: u32,
     l: u32,
     xs: &'a [u16],
@@ -142,6 +183,7 @@ pub fn compared<'a>(
     wxs: &'a [u16],
     wys: &'a [u16],
     wcs: &'a [i32],
+    gaps: &'a Gaps,
     one: &'a [u32],
     two: &'a [u32],
 ) -> Same {
@@ -153,6 +195,7 @@ pub fn compared<'a>(
     let t = same_steps(t, wxs, &o.wxs, from.watched);
     let t = same_steps(t, wys, &o.wys, from.watched);
     let t = same_amounts(t, wcs, &o.wcs, from.watched);
+    let t = same_gaps(t, gaps, other, g);
     Same {
         tables: t,
         one: same_numbers(true, one, &o.one, k),

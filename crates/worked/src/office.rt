@@ -1,7 +1,9 @@
 // All that the calls are lent, by value: the counts, the eight tables and two lists, and the last answer. The lists have one place more than the calls
-// need.
+// need. The gap table is lent beside it.
 use crate::words;
 use crate::words::Ask;
+use gaps::GapReply;
+use gaps::Gaps;
 use meaning::Counts;
 use meaning::Reply;
 
@@ -12,17 +14,24 @@ const STEP_PLACES: usize = meaning::STEPS + 1;
 
 const WATCH_PLACES: usize = meaning::WATCHED + 1;
 
-// A reply's number and its two values.
+// How many steps one yard has, and what a cell of the gap table holds that no call has written.
+const YARD: usize = meaning::YARD_STEPS;
+
+const UNWRITTEN: i64 = 7;
+
+// A reply's number and its two values. The second as it is written, which can be below 0: for Gap it is the limit.
 pub struct Given {
     pub number: u32,
     pub one: u32,
     pub two: u32,
+    pub written: i64,
 }
 
-// The tables and lists, the counts, and the reply of the last call.
+// The tables and lists, the counts, and the reply of the last call, with its second value as it is written.
 pub struct Office {
     pub counts: Counts,
     pub last: Reply,
+    pub written: i64,
     pub xs: [u16; RULE_PLACES],
     pub ys: [u16; RULE_PLACES],
     pub cs: [i32; RULE_PLACES],
@@ -35,12 +44,13 @@ pub struct Office {
     pub two: [u32; WATCH_PLACES],
 }
 
-// The number and the values of a reply.
-pub fn values(reply: Reply) -> Given {
+// The number and the values of a reply, the second of them written so.
+pub fn values(reply: Reply, written: i64) -> Given {
     Given {
         number: reply.number,
         one: reply.one,
         two: reply.two,
+        written: written,
     }
 }
 
@@ -49,6 +59,7 @@ pub fn fresh(counts: Counts) -> Office {
     Office {
         counts: counts,
         last: meaning::done(counts, 0, 0),
+        written: 0,
         xs: [7; RULE_PLACES],
         ys: [7; RULE_PLACES],
         cs: [7; RULE_PLACES],
@@ -62,12 +73,42 @@ pub fn fresh(counts: Counts) -> Office {
     }
 }
 
+// The gap table with the pattern in every cell.
+pub fn pattern() -> Gaps {
+    let row = [UNWRITTEN; YARD];
+    [row; YARD]
+}
+
+// These counts, and the pattern in every place, and in every cell of the gap table.
+pub fn filled(counts: Counts, gaps: &mut Gaps) -> Office {
+    let all = pattern();
+    *gaps = all;
+    fresh(counts)
+}
+
 // The office after the call, which gave this reply.
 pub fn after(o: Office, reply: Reply) -> Office {
     let counts = reply.counts;
     let mut next = o;
     next.counts = counts;
     next.last = reply;
+    next.written = reply.two as i64;
+    next
+}
+
+// The office after Gap, which gave this reply.
+pub fn after_gap(o: Office, given: GapReply) -> Office {
+    let counts = given.counts;
+    let reply = Reply {
+        counts: counts,
+        number: given.number,
+        one: given.limited,
+        two: 0,
+    };
+    let mut next = o;
+    next.counts = counts;
+    next.last = reply;
+    next.written = given.limit;
     next
 }
 
@@ -135,6 +176,7 @@ pub fn put(ask: Ask, o: Office) -> Office {
                 next.wcs[at] = amount;
             }
         }
+        words::GAPS => {}
         words::ONE => {
             if at < WATCH_PLACES {
                 next.one[at] = number;
@@ -147,4 +189,21 @@ pub fn put(ask: Ask, o: Office) -> Office {
         }
     }
     next
+}
+
+// The line's number put into one cell of the gap table, where the line names it and there is such a cell.
+pub fn put_gap(ask: Ask, gaps: &mut Gaps) {
+    let x = ask.first as usize;
+    let y = ask.second as usize;
+    let limit = ask.limit;
+    if ask.list != words::GAPS {
+        return;
+    }
+    if YARD <= x {
+        return;
+    }
+    if YARD <= y {
+        return;
+    }
+    gaps[x][y] = limit;
 }

@@ -4,37 +4,40 @@ use crate::cells::Same;
 use crate::office::Given;
 use crate::words;
 use crate::words::Ask;
+use gaps::Gaps;
 use meaning::Counts;
 
 // Every piece of text that is written, each with a bar after it. A piece's number is its place here, from 0 on; those of the calls come first, by the calls' numbers.
-const PIECES: [u8; 175] =
-    *b":|: open|: watch|, mark|, back|, withdraw|, add|, trial|, consequences|, ring check|, last day|,| same| changed|, counts|, days|, ring|, one|, two|, first|, second|, part|: ?|";
+const PIECES: [u8; 187] =
+    *b":|: open|: watch|, mark|, back|, withdraw|, add|, trial|, consequences|, ring check|, last day|, gap|,| same| changed|, counts|, days|, ring|, one|, two|, first|, second|, part|: ?| none|";
 
 pub const COLON: u32 = 0;
 
-const COMMA: u32 = 11;
+const COMMA: u32 = 12;
 
-const SAME: u32 = 12;
+const SAME: u32 = 13;
 
-const CHANGED: u32 = 13;
+const CHANGED: u32 = 14;
 
-const COUNTS: u32 = 14;
+const COUNTS: u32 = 15;
 
-const DAYS: u32 = 15;
+const DAYS: u32 = 16;
 
-const RING: u32 = 16;
+const RING: u32 = 17;
 
-const ONE: u32 = 17;
+const ONE: u32 = 18;
 
-const TWO: u32 = 18;
+const TWO: u32 = 19;
 
-const FIRST: u32 = 19;
+const FIRST: u32 = 20;
 
-const SECOND: u32 = 20;
+const SECOND: u32 = 21;
 
-const PART: u32 = 21;
+const PART: u32 = 22;
 
-pub const UNKNOWN: u32 = 22;
+pub const UNKNOWN: u32 = 23;
+
+const NO_LIMIT: u32 = 24;
 
 // What `lent::biased` makes of the amount 0.
 const ZERO: u64 = lent::BIAS;
@@ -60,6 +63,8 @@ const TRIED_CLASH: u32 = 118;
 const SPLIT: u32 = 128;
 
 const LAST_TOLD: u32 = 160;
+
+const GAP_TOLD: u32 = 176;
 
 // Writes the words as they are.
 pub fn text(words: &[u8]) {
@@ -116,6 +121,42 @@ fn amount(c: i32) {
     }
 }
 
+// How far the number is below 0, and 0 where it is not.
+fn below(z: i64) -> u64 {
+    if z < 0 {
+        return (0 - (z + 1)) as u64 + 1;
+    }
+    0
+}
+
+// How far the number is above 0, and 0 where it is not.
+fn above(z: i64) -> u64 {
+    if z < 0 {
+        return 0;
+    }
+    z as u64
+}
+
+// Writes a space and the number, with its sign where it is below 0.
+fn whole(z: i64) {
+    if z < 0 {
+        text(b" -");
+        io::print_decimal(1, below(z));
+    } else {
+        text(b" ");
+        io::print_decimal(1, above(z));
+    }
+}
+
+// Writes a space and the cell of the gap table, which can be that there is no limit.
+fn limit(z: i64) {
+    if z == meaning::NO_LIMIT {
+        say(NO_LIMIT);
+    } else {
+        whole(z);
+    }
+}
+
 // Writes the first k numbers of the list, and no more than it has.
 fn list(numbers: &[u32], k: u32) {
     let e = words::within(k as usize, numbers.len());
@@ -139,7 +180,7 @@ pub fn same(as_before: bool) {
 pub fn told(ask: Ask, g: Given, s: Same) {
     number(g.number);
     number(g.one);
-    number(g.two);
+    whole(g.written);
     let as_before = cells::all_same(s);
     if ask.op == words::EACH {
         same(as_before);
@@ -205,7 +246,7 @@ fn planned(seen: u32, c: Counts, days: &[u32]) {
 
 // Writes what is to be seen after a call that is asked for alone. Add on CONFLICT: the ring, and whether the counts and the tables are as before. Trial: list
 // one with the days where the rule fits, list two with the ring on CONFLICT, else whether the list is as before, and whether the counts and tables are. Consequences: the filled parts. Last
-// day: whether the counts and the tables are as before.
+// day and Gap: whether the counts and the tables are as before.
 pub fn seen<'a>(
     ask: Ask,
     g: Given,
@@ -228,6 +269,7 @@ pub fn seen<'a>(
     listed(seen, SPLIT, FIRST, one, g.one);
     listed(seen, SPLIT, SECOND, two, g.two);
     flagged(seen, LAST_TOLD, COMMA, s.tables);
+    flagged(seen, GAP_TOLD, COMMA, s.tables);
 }
 
 // Writes all numbers of a part.
@@ -281,12 +323,39 @@ fn level(levels: &[u8], i: u32) {
     }
 }
 
-// Writes the cell at the line's place of the list that it names: the levels, else the days.
-pub fn cell<'a>(ask: Ask, days: &'a [u32], levels: &'a [u8]) {
+// Writes the first n cells of the row of the gap table, and no more than it has.
+fn row(cells: [i64; meaning::YARD_STEPS], n: usize) {
+    let e = words::within(n, meaning::YARD_STEPS);
+    let mut y: usize = 0;
+    while y < e {
+        limit(cells[y]);
+        y += 1;
+    }
+}
+
+// Writes the row of the gap table that the line's first number says, over the first n steps; where the line has a second number, only that cell.
+fn gap_row(ask: Ask, gaps: &Gaps, n: usize) {
+    let x = ask.first as usize;
+    if meaning::YARD_STEPS <= x {
+        return;
+    }
+    if ask.count < 2 {
+        row(gaps[x], n);
+        return;
+    }
+    let y = ask.second as usize;
+    if y < meaning::YARD_STEPS {
+        limit(gaps[x][y]);
+    }
+}
+
+// Writes the cell at the line's place of the list that it names: the levels, a row of the gap table or a cell of it, else the days.
+pub fn cell<'a>(ask: Ask, c: Counts, days: &'a [u32], levels: &'a [u8], gaps: &'a Gaps) {
     say(COLON);
-    if ask.list == words::LEVELS {
-        level(levels, ask.first);
-    } else {
-        day(days, ask.first);
+    let list = ask.list;
+    match list {
+        words::LEVELS => level(levels, ask.first),
+        words::GAPS => gap_row(ask, gaps, c.steps as usize),
+        _ => day(days, ask.first),
     }
 }

@@ -3,8 +3,8 @@ ghost use Prim.Native.Nat.{_≤_};
 
 // Every word that is known, each with a space after it: the calls, what else a line can ask for, the lists, and what is said of the line. A word's
 // number is its place here, from 1 on.
-const KNOWN: [u8; 165] =
-    *b"open watch mark back withdraw add trial consequences ring last part each counts put fill past rule show xs ys cs days levels wxs wys wcs one two times onward places ";
+const KNOWN: [u8; 179] =
+    *b"open watch mark back withdraw add trial consequences ring last gap part each counts put fill past rule show xs ys cs days levels wxs wys wcs gaps one two times onward places none ";
 
 // No word, or a word that is not known.
 pub const NONE: u32 = 0;
@@ -29,55 +29,61 @@ pub const RING: u32 = 9;
 
 pub const LAST: u32 = 10;
 
-pub const PART: u32 = 11;
+pub const GAP: u32 = 11;
 
-pub const EACH: u32 = 12;
+pub const PART: u32 = 12;
 
-pub const COUNTS: u32 = 13;
+pub const EACH: u32 = 13;
 
-pub const PUT: u32 = 14;
+pub const COUNTS: u32 = 14;
 
-pub const FILL: u32 = 15;
+pub const PUT: u32 = 15;
 
-pub const PAST: u32 = 16;
+pub const FILL: u32 = 16;
 
-pub const RULE: u32 = 17;
+pub const PAST: u32 = 17;
 
-pub const SHOW: u32 = 18;
+pub const RULE: u32 = 18;
+
+pub const SHOW: u32 = 19;
 
 // The lists' names.
-pub const XS: u32 = 19;
+pub const XS: u32 = 20;
 
-pub const YS: u32 = 20;
+pub const YS: u32 = 21;
 
-pub const CS: u32 = 21;
+pub const CS: u32 = 22;
 
-pub const DAYS: u32 = 22;
+pub const DAYS: u32 = 23;
 
-pub const LEVELS: u32 = 23;
+pub const LEVELS: u32 = 24;
 
-pub const WXS: u32 = 24;
+pub const WXS: u32 = 25;
 
-pub const WYS: u32 = 25;
+pub const WYS: u32 = 26;
 
-pub const WCS: u32 = 26;
+pub const WCS: u32 = 27;
 
-pub const ONE: u32 = 27;
+pub const GAPS: u32 = 28;
 
-pub const TWO: u32 = 28;
+pub const ONE: u32 = 29;
+
+pub const TWO: u32 = 30;
 
 // What is said of the line.
-const TIMES: u32 = 29;
+const TIMES: u32 = 31;
 
-const ONWARD: u32 = 30;
+const ONWARD: u32 = 32;
 
-const PLACES: u32 = 31;
+const PLACES: u32 = 33;
+
+const UNLIMITED: u32 = 34;
 
 // A line that is only copied; no word asks for it.
-pub const HEADING: u32 = 32;
+pub const HEADING: u32 = 35;
 
 // Writing what the last call gave; no word asks for it.
-pub const TELL: u32 = 33;
+pub const TELL: u32 = 36;
 
 // How often a line is carried out at most.
 pub const MOST: u32 = 5000;
@@ -94,8 +100,9 @@ pub struct Line {
     // How often the line is carried out, and whether both steps of its rule rise by one each time.
     pub times: u32,
     pub onward: bool,
-    // Whether the amount is below 0.
+    // Whether the amount is below 0, and whether it is counted down from no limit.
     pub minus: bool,
+    pub unlimited: bool,
     // The numbers, how many there are, and the last one.
     pub numbers: [u32; 16],
     pub count: u32,
@@ -126,6 +133,8 @@ pub struct Ask {
     pub fourth: u32,
     pub fifth: u32,
     pub signed: i32,
+    // The third as a cell of the gap table.
+    pub limit: i64,
     pub numbers: [u32; 16],
     pub count: u32,
 }
@@ -176,7 +185,8 @@ fn number_of(word: u64, known: &[u8]) -> u32 {
     NONE
 }
 
-// What the line asks where the word ends that is being read. `N times` says how often, `onward` that steps rise, `LIST N places` how many places of it are lent.
+// What the line asks where the word ends that is being read. `N times` says how often, `onward` that steps rise, `LIST N places` how many places of it are lent, `none` that the
+// cell has no limit.
 fn with_word(line: Line) -> Line {
     let mut next = line;
     next.word = 0;
@@ -196,6 +206,9 @@ fn with_word(line: Line) -> Line {
         }
         ONWARD => {
             next.onward = true;
+        }
+        UNLIMITED => {
+            next.unlimited = true;
         }
         _ => {
             next.cut = line.list;
@@ -256,6 +269,7 @@ fn nothing(op: u32) -> Line {
         times: 1,
         onward: false,
         minus: false,
+        unlimited: false,
         numbers: [0; 16],
         count: 0,
         last: 0,
@@ -327,6 +341,18 @@ fn amount(minus: bool, size: u32) -> i32 {
     c
 }
 
+// The cell of this size, below 0 where the line has the sign for it; so far below no limit where the line says `none`.
+fn cell(unlimited: bool, minus: bool, size: u32) -> i64 {
+    let c = size as i64;
+    if unlimited {
+        return meaning::NO_LIMIT - c;
+    }
+    if minus {
+        return 0 - c;
+    }
+    c
+}
+
 // What the line asks at this turn: its answer is written at the last one.
 pub fn at_turn(line: Line, turn: u32) -> Ask {
     let first = number(line, 0);
@@ -348,6 +374,7 @@ pub fn at_turn(line: Line, turn: u32) -> Ask {
         fourth: number(line, 3),
         fifth: number(line, 4),
         signed: amount(line.minus, second),
+        limit: cell(line.unlimited, line.minus, third),
         numbers: numbers,
         count: line.count,
     }

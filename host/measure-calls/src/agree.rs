@@ -1,10 +1,10 @@
 //! Holds the calls written by hand against the library: the same number, values, counts, tables and lists after every call, over random
 //! sequences of calls, with spoiled and short tables among them.
 
-use crate::byhand::{ABSENT, CONFLICT, NOMARK};
+use crate::byhand::{ABSENT, CONFLICT, NOMARK, YARD};
 use crate::office::{Call, Office, Outcome, BY_HAND, LIBRARY};
 use common::Random;
-use planner::bounds::{MARKS, RULES, STEPS, WATCHED};
+use planner::bounds::{MARKS, NO_LIMIT, RULES, STEPS, WATCHED, YARD_STEPS};
 use planner::calls::Rule;
 
 const SEQUENCES: u64 = 600;
@@ -18,15 +18,28 @@ pub fn both(office: &Office, call: Call) -> (Office, Outcome) {
     (ours, wanted)
 }
 
-/// The numbers that the calls give: DONE to NOMARK, and ABSENT at the end.
-const NUMBERS: usize = NOMARK as usize + 2;
+/// The numbers that the calls give: DONE to NOMARK, and at the end ABSENT and YARD.
+const NUMBERS: usize = NOMARK as usize + 3;
+
+/// The place of a number among them.
+fn place(number: u32) -> usize {
+    match number {
+        ABSENT => NUMBERS - 2,
+        YARD => NUMBERS - 1,
+        other => other as usize,
+    }
+}
 
 /// Returns how many calls were compared, and how many of them gave each number.
 pub fn check() -> (usize, [usize; NUMBERS]) {
     let (mut compared, mut given) = (0, [0; NUMBERS]);
     for seed in 0..SEQUENCES {
         let random = &mut Random::new(seed);
-        let steps = if seed % 8 == 0 { 1 + random.below(STEPS) } else { 1 + random.below(9) };
+        let steps = match seed % 8 {
+            0 => 1 + random.below(STEPS),
+            1 | 2 => 1 + random.below(YARD_STEPS + 2),
+            _ => 1 + random.below(9),
+        };
         let mut office = Office::new(steps);
         if seed % 5 == 0 {
             fill(&mut office, random);
@@ -42,7 +55,7 @@ pub fn check() -> (usize, [usize; NUMBERS]) {
                 outcome.number
             };
             compared += 1;
-            given[if number == ABSENT { NUMBERS - 1 } else { number as usize }] += 1;
+            given[place(number)] += 1;
         }
     }
     assert!(given.iter().all(|count| *count > 0), "some number was never given: {:?}", given);
@@ -72,11 +85,12 @@ fn fill(office: &mut Office, random: &mut Random) {
         1 => (0..WATCHED - random.below(3)).for_each(|_| office.watch(loose)),
         _ => office.counts.marks = (MARKS - random.below(3)) as u32,
     }
+    office.remake_gaps();
 }
 
 fn any_call(office: &Office, random: &mut Random) -> Call {
     let steps = office.counts.steps as usize;
-    match random.below(29) {
+    match random.below(32) {
         0..=9 => Call::Add(any_rule(steps, random)),
         10..=13 => Call::Trial(any_rule(steps, random)),
         14..=16 => Call::Watch(any_rule(steps, random)),
@@ -85,6 +99,7 @@ fn any_call(office: &Office, random: &mut Random) -> Call {
         21..=22 => Call::LastDay,
         23 if random.chance(150) => Call::Open(random.pick(&[0, steps as u32, STEPS as u32 + 1])),
         24..=26 => Call::Withdraw(any_number(office, random)),
+        27..=29 => Call::Gap(any_rule(steps, random).first, any_rule(steps, random).second),
         _ => Call::Consequences,
     }
 }
@@ -109,14 +124,14 @@ fn any_rule(steps: usize, random: &mut Random) -> Rule {
     Rule { first: random.between(0, last + past) as u32, second: random.between(0, last + past) as u32, amount }
 }
 
-/// The office with one thing spoiled: a count, the last day, a level, another cell, or a table or list with a place too few.
+/// The office with one thing spoiled: a count, the last day, a level, a cell of the gap table, another cell, or a table or list with a place too few.
 fn spoiled(office: &Office, random: &mut Random) -> Office {
     let mut spoiled = office.clone();
     let bound = random.pick(&[MARKS, STEPS, WATCHED, RULES]) as u32;
     let number = random.pick(&[0u32, 1, 2, 5, bound, bound + 1, u32::MAX]);
     let place = random.below(12);
     let deepest = spoiled.counts.marks as u8 + 1;
-    match random.below(25) {
+    match random.below(29) {
         0 => spoiled.counts.steps = number,
         1 => spoiled.counts.rules = number,
         2 => spoiled.counts.marks = number,
@@ -145,6 +160,11 @@ fn spoiled(office: &Office, random: &mut Random) -> Office {
             spoiled.counts.rules = if more { spoiled.counts.rules + 1 } else { spoiled.counts.rules - 1 };
         }
         23 => spoiled.levels[RULES - 1] = random.pick(&[0, 1, u8::MAX]),
+        24..=27 => {
+            let side = random.pick(&[YARD_STEPS, YARD_STEPS.min(office.counts.steps as usize)]);
+            let cell = &mut spoiled.gaps[random.below(side)][random.below(side)];
+            *cell = random.pick(&[cell.wrapping_add(1), cell.wrapping_sub(1), 0, NO_LIMIT, i64::MIN]);
+        }
         _ => spoiled.two.truncate(random.below(STEPS + 1)),
     }
     spoiled

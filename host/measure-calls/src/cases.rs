@@ -5,6 +5,7 @@ use crate::agree::both;
 use crate::byhand::{CONFLICT, DONE, FULL};
 use crate::office::{Call, Office, BY_HAND, LIBRARY};
 use crate::shapes::{clashing, crowded, moving, office, rule, sparing, still, tight, Shape, Size};
+use planner::bounds::YARD_STEPS;
 use planner::calls::Rule;
 
 pub struct Case {
@@ -18,6 +19,7 @@ pub const SOUND: &str = "the sound test";
 pub const WATCH: &str = "Watch";
 pub const MARK: &str = "Mark";
 pub const ADD_STILL: &str = "Add, nothing moves";
+pub const ADD_LOWERING: &str = "Add, most limits fall";
 pub const ADD_MOVING: &str = "Add, all but one step moves";
 pub const ADD_CLASHING: &str = "Add, conflict, up to 16 rules";
 pub const ADD_CROWDED: &str = "Add, conflict, 16 rules, crowded";
@@ -30,6 +32,7 @@ pub const RING: &str = "Ring check, as many as steps";
 pub const SPLIT_SOME: &str = "Consequences, 64 steps watched";
 pub const SPLIT_ALL: &str = "Consequences, all steps watched";
 pub const LAST_DAY: &str = "Last day";
+pub const GAP: &str = "Gap";
 
 /// The cases of one shape and size; Consequences with so many watched rules, the other calls with a fourth of the rules.
 pub fn cases(shape: Shape, steps: usize, rules: usize, watched: usize) -> Vec<Case> {
@@ -64,6 +67,36 @@ pub fn cases(shape: Shape, steps: usize, rules: usize, watched: usize) -> Vec<Ca
     cases
 }
 
+/// The cases of one yard, of as many steps as it may have and so many rules: the calls that look at the gap table alone, and those that bring it up to date.
+pub fn yard_cases(shape: Shape, rules: usize) -> Vec<Case> {
+    let size = Size { steps: YARD_STEPS, rules, watched: rules / 4, over: YARD_STEPS, marks: 63 };
+    let held = office(shape, size);
+    let before_add = office(shape, Size { rules: rules - 1, ..size });
+    let moving = moving(shape, &before_add);
+    vec![
+        case(MARK, Call::Mark, DONE, held.clone()),
+        case(GAP, Call::Gap(0, YARD_STEPS as u32 - 2), DONE, held.clone()),
+        case(ADD_STILL, Call::Add(still(&before_add)), DONE, before_add.clone()),
+        case(ADD_LOWERING, lowering(&before_add), DONE, before_add.clone()),
+        case(ADD_MOVING, Call::Add(moving), DONE, before_add.clone()),
+        case(WITHDRAW_SPARING, Call::Withdraw(sparing(&held)), DONE, held.clone()),
+        case(WITHDRAW_MOVING, Call::Withdraw(before_add.counts.rules), DONE, both(&before_add, Call::Add(moving)).0),
+        case(BACK, Call::Back, DONE, held),
+    ]
+}
+
+/// The rule with nothing to spare, and so with no day that moves, by which the most cells of the gap table fall.
+fn lowering(office: &Office) -> Call {
+    let day = |step: usize| i64::from(office.days[step]);
+    let fallen = |call: &Call| {
+        let mut after = office.clone();
+        after.carry(&BY_HAND, *call);
+        office.gaps.iter().flatten().zip(after.gaps.iter().flatten()).filter(|(before, after)| before != after).count()
+    };
+    let pairs = (0..YARD_STEPS).flat_map(|x| (0..YARD_STEPS).map(move |y| (x, y)));
+    pairs.map(|(x, y)| Call::Add(rule(x, y, day(x) - day(y)))).max_by_key(fallen).expect("a rule")
+}
+
 /// A case of which both engines say the same, with the number wanted.
 fn case(name: &'static str, call: Call, wanted: u32, office: Office) -> Case {
     let (after, given) = both(&office, call);
@@ -71,12 +104,13 @@ fn case(name: &'static str, call: Call, wanted: u32, office: Office) -> Case {
     let (steps, ring) = (office.counts.steps as usize, given.values[0] as usize);
     let moved = office.days.iter().zip(&after.days).filter(|(before, after)| before != after).count();
     match name {
-        ADD_STILL | WITHDRAW_SPARING => assert!(moved == 0, "{} steps move", moved),
+        ADD_STILL | ADD_LOWERING | WITHDRAW_SPARING => assert!(moved == 0, "{} steps move", moved),
         ADD_MOVING | WITHDRAW_MOVING => assert!(moved == steps - 1, "{} of {} steps move", moved, steps),
         ADD_CLASHING => assert!(ring <= LONG, "a ring of {} rules", ring),
         ADD_CROWDED => assert!(ring == LONG, "a ring of {} rules", ring),
         ADD_LONGEST => assert!(ring == steps, "a ring of {} rules and {} steps", ring, steps),
         RING => assert!(ring == 1, "no ring of {:?}", call),
+        GAP => assert!(given.values[0] == 1, "no limit of {:?}", call),
         _ => {}
     }
     Case { name, call, office, conflict: wanted == CONFLICT }

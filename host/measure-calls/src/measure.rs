@@ -17,15 +17,16 @@ pub struct Times {
     pub plain: f64,
 }
 
-/// Measures a case. Before each call the counts, the days and the levels are set again, which undoes it: free places, and those past the counts, may hold anything. The
-/// time that this takes is measured as well and taken off.
+/// Measures a case. Before each call the counts, the days, the levels and the gap table are set again, which undoes it: free places, and those past the counts, may hold
+/// anything. The time that this takes is measured as well and taken off.
 pub fn measure(case: &Case) -> Times {
-    let (counts, days, levels) = (case.office.counts, case.office.days.clone(), case.office.levels.clone());
+    let (counts, days, levels, gaps) = (case.office.counts, case.office.days.clone(), case.office.levels.clone(), case.office.gaps.clone());
     let call: Call = case.call;
     let undo = |office: &mut Office| {
         office.counts = counts;
         office.days.copy_from_slice(&days);
         office.levels.copy_from_slice(&levels);
+        office.gaps.copy_from_slice(&gaps[..]);
     };
     let by = |engine: &'static Engine| {
         move |office: &mut Office| {

@@ -1,8 +1,8 @@
 //! Tables with everything that a call is lent, and the two engines that carry calls out on them.
 
 use crate::byhand;
-use planner::bounds::{RULES, STEPS, WATCHED};
-use planner::calls::{self, Counts, Rule, Tables};
+use planner::bounds::{RULES, STEPS, WATCHED, YARD_STEPS};
+use planner::calls::{self, Counts, Gaps, Rule, Tables};
 
 /// The calls of one engine.
 pub struct Engine {
@@ -15,6 +15,7 @@ pub struct Engine {
     trial: fn(&Counts, &mut Tables, &mut [u32], &mut [u32], Rule, &mut u32) -> u32,
     consequences: fn(&Counts, &mut Tables, &mut [u32], &mut [u32], &mut u32, &mut u32) -> u32,
     last_day: fn(&Counts, &mut Tables, &mut u32) -> u32,
+    gap: fn(&Counts, &mut Tables, u32, u32, &mut u32, &mut i64) -> u32,
     ring_check: fn(&Counts, &mut Tables, &[u32], Rule, &mut u32) -> u32,
 }
 
@@ -29,6 +30,7 @@ pub static LIBRARY: Engine = Engine {
     trial: calls::trial,
     consequences: calls::consequences,
     last_day: calls::last_day,
+    gap: calls::gap,
     ring_check: calls::ring_check,
 };
 
@@ -43,6 +45,7 @@ pub static BY_HAND: Engine = Engine {
     trial: byhand::trial,
     consequences: byhand::consequences,
     last_day: byhand::last_day,
+    gap: byhand::gap,
     ring_check: byhand::ring_check,
 };
 
@@ -60,15 +63,17 @@ pub enum Call {
     Trial(Rule),
     Consequences,
     LastDay,
+    Gap(u32, u32),
     /// Of so many places of list one.
     RingCheck(Rule, usize),
 }
 
-/// The number given back, and the values.
+/// The number given back, the values, and the limit of Gap.
 #[derive(Clone, Copy, Debug, PartialEq, Eq)]
 pub struct Outcome {
     pub number: u32,
     pub values: [u32; 2],
+    pub limit: i64,
 }
 
 /// Days for every step that 16 bits can say.
@@ -86,6 +91,7 @@ pub struct Office {
     pub wxs: Vec<u16>,
     pub wys: Vec<u16>,
     pub wcs: Vec<i32>,
+    pub gaps: Box<Gaps>,
     pub one: Vec<u32>,
     pub two: Vec<u32>,
 }
@@ -93,6 +99,13 @@ pub struct Office {
 impl Office {
     /// Tables with just the room that is asked for, with nothing in them, and that many steps.
     pub fn new(steps: usize) -> Office {
+        let mut office = Office::blank(steps);
+        office.remake_gaps();
+        office
+    }
+
+    /// The same with a gap table that says nothing.
+    fn blank(steps: usize) -> Office {
         Office {
             counts: Counts { steps: steps as u32, rules: 0, marks: 0, watched: 0, last: 0 },
             xs: vec![0; RULES],
@@ -103,12 +116,19 @@ impl Office {
             wxs: vec![0; WATCHED],
             wys: vec![0; WATCHED],
             wcs: vec![0; WATCHED],
+            gaps: Box::new([[7; YARD_STEPS]; YARD_STEPS]),
             one: vec![0; WATCHED],
             two: vec![0; WATCHED],
         }
     }
 
-    /// Holds a rule at the lowest free place, as one from before all marks. There is a free place, and none below the rules held.
+    /// Makes the gap table of the rules held, where it is kept.
+    pub fn remake_gaps(&mut self) {
+        let Office { counts, xs, ys, cs, days, levels, wxs, wys, wcs, gaps, .. } = self;
+        byhand::gaps::remake(counts.steps as usize, &mut Tables { xs, ys, cs, days, levels, wxs, wys, wcs, gaps }, RULES);
+    }
+
+    /// Holds a rule at the lowest free place, as one from before all marks. There is a free place, and none below the rules held. The gap table is made after the last one.
     pub fn hold(&mut self, rule: Rule) {
         let at = self.counts.rules as usize;
         self.xs[at] = rule.first as u16;
@@ -128,9 +148,9 @@ impl Office {
 
     /// Carries a call out.
     pub fn carry(&mut self, engine: &Engine, call: Call) -> Outcome {
-        let Office { counts, xs, ys, cs, days, levels, wxs, wys, wcs, one, two } = self;
-        let t = &mut Tables { xs, ys, cs, days, levels, wxs, wys, wcs };
-        let mut values = [0; 2];
+        let Office { counts, xs, ys, cs, days, levels, wxs, wys, wcs, gaps, one, two } = self;
+        let t = &mut Tables { xs, ys, cs, days, levels, wxs, wys, wcs, gaps };
+        let (mut values, mut limit) = ([0; 2], 0);
         let [first, second] = &mut values;
         let number = match call {
             Call::Open(steps) => (engine.open)(counts, t, steps),
@@ -142,9 +162,10 @@ impl Office {
             Call::Trial(rule) => (engine.trial)(counts, t, one, two, rule, first),
             Call::Consequences => (engine.consequences)(counts, t, one, two, first, second),
             Call::LastDay => (engine.last_day)(counts, t, first),
+            Call::Gap(x, y) => (engine.gap)(counts, t, x, y, first, &mut limit),
             Call::RingCheck(rule, places) => (engine.ring_check)(counts, t, &one[..places.min(one.len())], rule, first),
         };
-        Outcome { number, values }
+        Outcome { number, values, limit }
     }
 
     /// The days, with a place for every number of 16 bits.

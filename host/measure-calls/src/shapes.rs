@@ -89,7 +89,7 @@ fn scattered(size: Size, random: &mut Random) -> Vec<Rule> {
     (0..size.rules).map(one).collect()
 }
 
-/// Brings the days to the earliest plan, by raising them until every rule is kept, and the last day with them.
+/// Brings the days to the earliest plan, by raising them until every rule is kept, the last day with them, and the gap table.
 fn plan(office: &mut Office) {
     let mut moved = true;
     while moved {
@@ -104,6 +104,7 @@ fn plan(office: &mut Office) {
         }
     }
     office.counts.last = office.days[..office.counts.steps as usize].iter().copied().max().expect("a step");
+    office.remake_gaps();
 }
 
 /// The number of a rule held that has days to spare.

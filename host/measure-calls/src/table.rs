@@ -1,30 +1,40 @@
 //! The table: how many times longer each call takes in the library than written by hand, and than one plain pass over the rules.
 
-use crate::cases::{self, cases};
+use crate::cases::{self, cases, yard_cases, Case};
 use crate::measure::{measure, Times};
 use crate::shapes::Shape;
-use planner::bounds::{RULES, STEPS, WATCHED};
+use planner::bounds::{RULES, STEPS, WATCHED, YARD_STEPS};
 
-/// Steps and rules.
+/// Steps and rules; and those of one yard.
 pub const SIZES: [(usize, usize); 3] = [(64, 512), (256, RULES), (STEPS, RULES)];
+pub const YARDS: [(usize, usize); 2] = [(YARD_STEPS, 32), (YARD_STEPS, RULES)];
 
 /// One case, with its times at each size. Where there are just 64 steps, Consequences over 64 is the same as over all, and is left out.
 pub struct Row {
     pub name: &'static str,
     pub shape: Shape,
-    pub times: [Option<Times>; SIZES.len()],
+    pub times: Vec<Option<Times>>,
 }
 
 /// Measures every case, printing each as it is done.
 pub fn rows() -> Vec<Row> {
+    measured(&SIZES, |shape, steps, rules| cases(shape, steps, rules, WATCHED))
+}
+
+/// The same for the cases of one yard.
+pub fn yard_rows() -> Vec<Row> {
+    measured(&YARDS, |shape, _, rules| yard_cases(shape, rules))
+}
+
+fn measured(sizes: &[(usize, usize)], cases: impl Fn(Shape, usize, usize) -> Vec<Case>) -> Vec<Row> {
     println!(
         "{:<34}{:<8}{:>6}{:>7}{:>12}{:>12}{:>12}{:>10}{:>10}{:>13}",
         "call", "shape", "steps", "rules", "library us", "by hand us", "plain us", "/by hand", "/plain", "any ring us"
     );
     let mut rows: Vec<Row> = Vec::new();
     for shape in Shape::ALL {
-        for (column, (steps, rules)) in SIZES.into_iter().enumerate() {
-            for case in cases(shape, steps, rules, WATCHED) {
+        for (column, (steps, rules)) in sizes.iter().copied().enumerate() {
+            for case in cases(shape, steps, rules) {
                 let t = measure(&case);
                 let (by_hand, plain) = ratios(t);
                 let any_ring = t.any_ring.map_or(String::new(), |time| format!("{:>13.2}", time / 1e3));
@@ -34,7 +44,7 @@ pub fn rows() -> Vec<Row> {
                 );
                 let known = rows.iter().position(|row| row.name == case.name && row.shape == shape);
                 let at = known.unwrap_or_else(|| {
-                    rows.push(Row { name: case.name, shape, times: [None; SIZES.len()] });
+                    rows.push(Row { name: case.name, shape, times: vec![None; sizes.len()] });
                     rows.len() - 1
                 });
                 rows[at].times[column] = Some(t);
@@ -50,19 +60,19 @@ pub fn ratios(t: Times) -> (f64, f64) {
 }
 
 /// The ratios as a Markdown table: in each cell the library's time over the time by hand, and over the time of a plain pass.
-pub fn markdown(rows: &[Row]) -> String {
+pub fn markdown(rows: &[Row], sizes: &[(usize, usize)]) -> String {
     let mut text = String::from("| call |");
     for shape in Shape::ALL {
-        for (steps, rules) in SIZES {
+        for (steps, rules) in sizes {
             text += &format!(" {}, {} steps, {} rules |", shape.name(), steps, rules);
         }
     }
-    text += &format!("\n|---{}|\n", "|---".repeat(Shape::ALL.len() * SIZES.len()));
+    text += &format!("\n|---{}|\n", "|---".repeat(Shape::ALL.len() * sizes.len()));
     for row in rows.iter().filter(|row| row.shape == Shape::ALL[0]) {
         text += &format!("| {} |", row.name);
         for shape in Shape::ALL {
             let other = rows.iter().find(|other| other.name == row.name && other.shape == shape);
-            for times in other.map_or([None; SIZES.len()], |other| other.times) {
+            for times in other.map_or(vec![None; sizes.len()], |other| other.times.clone()) {
                 text += &times.map(ratios).map_or(String::from(" |"), |(by_hand, plain)| format!(" {:.2}; {:.1} |", by_hand, plain));
             }
         }

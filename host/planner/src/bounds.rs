@@ -27,6 +27,12 @@ pub const NAME_BYTES: usize = 32;
 /// Terms are at most so deep, the asserted term itself being depth 1.
 pub const DEPTH: usize = 16;
 
+/// One yard has at most so many steps: with no more the gap table is kept, which has so many rows and columns.
+pub const YARD_STEPS: usize = 16;
+
+/// What a cell of the gap table has where there is no limit: the largest `i64`.
+pub const NO_LIMIT: i64 = 9_223_372_036_854_775_807;
+
 /// One `get-value` has at most so many names.
 pub const ASKED: usize = 256;
 

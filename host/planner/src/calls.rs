@@ -2,6 +2,13 @@
 //! a record by reference, and nothing is kept after the call. The declarations below say what `include/dates.h` says; nothing checks them against the
 //! library but the tests.
 
+use crate::bounds::YARD_STEPS;
+
+/// The gap table: row x, column y has the least c such that day(x) - day(y) <= c in every arrangement of the rules held, or
+/// [`NO_LIMIT`](crate::bounds::NO_LIMIT) where there is none. It is kept with at most 16 steps, in the cells whose row and column are below the step count; no other is
+/// read or written.
+pub type Gaps = [[i64; YARD_STEPS]; YARD_STEPS];
+
 /// How many of each thing the tables hold, and the last day of the plan.
 #[repr(C)]
 #[derive(Clone, Copy, Debug, Default, PartialEq, Eq)]
@@ -44,7 +51,7 @@ pub struct Rule {
     pub amount: i32,
 }
 
-/// The lent tables: the columns of the rules held, the days, the levels of the rules, and the columns of the watched rules. They may have any length.
+/// The lent tables: the columns of the rules held, the days, the levels of the rules, and the columns of the watched rules, which may have any length; and the gap table.
 pub struct Tables<'a> {
     /// First steps of the rules held.
     pub xs: &'a mut [u16],
@@ -62,6 +69,8 @@ pub struct Tables<'a> {
     pub wys: &'a mut [u16],
     /// Amounts of the watched rules.
     pub wcs: &'a mut [i32],
+    /// The gap table. Calls for scripts are not lent it.
+    pub gaps: &'a mut Gaps,
 }
 
 /// The same tables, lent to a call that writes none of them.
@@ -82,6 +91,8 @@ pub struct View<'a> {
     pub wys: &'a [u16],
     /// Amounts of the watched rules.
     pub wcs: &'a [i32],
+    /// The gap table.
+    pub gaps: &'a Gaps,
 }
 
 /// The lent names of a script: 32 bytes for each, and the length of each.
@@ -92,7 +103,7 @@ pub struct Names<'a> {
     pub lens: &'a mut [u8],
 }
 
-// The tables of every call, as C has them; `$c` is `const` or `mut` for each in turn.
+// The tables of every call, as C has them; `$c` is `const` or `mut` for each in turn. Those that are lent the gap table have it next.
 macro_rules! declare {
     ($( fn $name:ident($($before:ident: $before_type:ty,)* [$x:ident $y:ident $c:ident $d:ident $l:ident $wx:ident $wy:ident $wc:ident] $($after:ident: $after_type:ty,)*); )*) => {
         extern "C" {
@@ -108,19 +119,21 @@ macro_rules! declare {
 }
 
 declare! {
-    fn dates_open(counts: *mut Counts, [const const const mut mut const const const] steps: u32,);
-    fn dates_watch(counts: *mut Counts, [const const const const const mut mut mut] x: u32, y: u32, c: i32,);
-    fn dates_mark(counts: *mut Counts, [const const const const const const const const]);
-    fn dates_back(counts: *mut Counts, [const const const mut mut const const const]);
-    fn dates_withdraw(counts: *mut Counts, [const const const mut mut const const const] number: u32,);
-    fn dates_add(counts: *mut Counts, [mut mut mut mut mut const const const] list: *mut u32, list_len: usize, x: u32, y: u32, c: i32, value: *mut u32,);
+    fn dates_open(counts: *mut Counts, [const const const mut mut const const const] gaps: *mut Gaps, steps: u32,);
+    fn dates_watch(counts: *mut Counts, [const const const const const mut mut mut] gaps: *const Gaps, x: u32, y: u32, c: i32,);
+    fn dates_mark(counts: *mut Counts, [const const const const const const const const] gaps: *const Gaps,);
+    fn dates_back(counts: *mut Counts, [const const const mut mut const const const] gaps: *mut Gaps,);
+    fn dates_withdraw(counts: *mut Counts, [const const const mut mut const const const] gaps: *mut Gaps, number: u32,);
+    fn dates_add(counts: *mut Counts, [mut mut mut mut mut const const const]
+        gaps: *mut Gaps, list: *mut u32, list_len: usize, x: u32, y: u32, c: i32, value: *mut u32,);
     fn dates_trial(counts: *const Counts, [const const const const const const const const]
-        one: *mut u32, one_len: usize, two: *mut u32, two_len: usize, x: u32, y: u32, c: i32, value: *mut u32,);
+        gaps: *const Gaps, one: *mut u32, one_len: usize, two: *mut u32, two_len: usize, x: u32, y: u32, c: i32, value: *mut u32,);
     fn dates_consequences(counts: *const Counts, [const const const const const const const const]
-        one: *mut u32, one_len: usize, two: *mut u32, two_len: usize, held: *mut u32, excluded: *mut u32,);
+        gaps: *const Gaps, one: *mut u32, one_len: usize, two: *mut u32, two_len: usize, held: *mut u32, excluded: *mut u32,);
     fn dates_ring_check(counts: *const Counts, [const const const const const const const const]
-        list: *const u32, list_len: usize, x: u32, y: u32, c: i32, verdict: *mut u32,);
-    fn dates_last_day(counts: *const Counts, [const const const const const const const const] day: *mut u32,);
+        gaps: *const Gaps, list: *const u32, list_len: usize, x: u32, y: u32, c: i32, verdict: *mut u32,);
+    fn dates_last_day(counts: *const Counts, [const const const const const const const const] gaps: *const Gaps, day: *mut u32,);
+    fn dates_gap(counts: *const Counts, [const const const const const const const const] gaps: *const Gaps, x: u32, y: u32, limited: *mut u32, limit: *mut i64,);
     fn dates_start(counts: *mut Counts, record: *mut Record, [const const const mut mut const const const]
         names: *const u8, names_len: usize, lens: *const u8, lens_len: usize,);
     fn dates_command(text: *const u8, text_len: usize, counts: *mut Counts, record: *mut Record, [mut mut mut mut mut const const const]
@@ -166,74 +179,84 @@ macro_rules! show {
 
 /// Open: that many steps, on day 0, and no rules, marks or watched rules; the last day is 0.
 pub fn open(counts: &mut Counts, t: &mut Tables, steps: u32) -> u32 {
-    lend!(dates_open(counts; t; steps))
+    lend!(dates_open(counts; t; t.gaps, steps))
 }
 
 /// Watch: the rule stands at the end of the watched list.
 pub fn watch(counts: &mut Counts, t: &mut Tables, r: Rule) -> u32 {
-    lend!(dates_watch(counts; t; r.first, r.second, r.amount))
+    lend!(dates_watch(counts; t; t.gaps, r.first, r.second, r.amount))
 }
 
 /// Mark: one more mark is open; no table is written.
 pub fn mark(counts: &mut Counts, t: &mut Tables) -> u32 {
-    lend!(dates_mark(counts; t;))
+    lend!(dates_mark(counts; t; t.gaps))
 }
 
 /// Back: the newest mark and the rules after it are dropped.
 pub fn back(counts: &mut Counts, t: &mut Tables) -> u32 {
-    lend!(dates_back(counts; t;))
+    lend!(dates_back(counts; t; t.gaps))
 }
 
 /// Withdraw: the rule held under the number is dropped, whenever it was added; the others keep their numbers.
 pub fn withdraw(counts: &mut Counts, t: &mut Tables, number: u32) -> u32 {
-    lend!(dates_withdraw(counts; t; number))
+    lend!(dates_withdraw(counts; t; t.gaps, number))
 }
 
 /// Add: the rule is held at the lowest free place, and `value` is how many steps moved; on CONFLICT the ring, the shortest there is, is in the list, and `value` is its length.
 pub fn add(counts: &mut Counts, t: &mut Tables, list: &mut [u32], r: Rule, value: &mut u32) -> u32 {
-    lend!(dates_add(counts; t; list.as_mut_ptr(), list.len(), r.first, r.second, r.amount, value))
+    lend!(dates_add(counts; t; t.gaps, list.as_mut_ptr(), list.len(), r.first, r.second, r.amount, value))
 }
 
-// The next four write no table. They are here also over tables lent for writing, for tests that look whether it is so.
+// The next five write no table. They are here also over tables lent for writing, for tests that look whether it is so.
 
 /// Trial: answers as Add would and writes to no table; `days` gets the days, or `ring` the ring that Add would give.
 pub fn trial(counts: &Counts, t: &mut Tables, days: &mut [u32], ring: &mut [u32], r: Rule, value: &mut u32) -> u32 {
-    lend!(dates_trial(counts; t; days.as_mut_ptr(), days.len(), ring.as_mut_ptr(), ring.len(), r.first, r.second, r.amount, value))
+    lend!(dates_trial(counts; t; t.gaps, days.as_mut_ptr(), days.len(), ring.as_mut_ptr(), ring.len(), r.first, r.second, r.amount, value))
 }
 
 /// Consequences: the watched rules that hold in every arrangement, and those that hold in none.
 pub fn consequences(counts: &Counts, t: &mut Tables, all: &mut [u32], none: &mut [u32], held: &mut u32, excluded: &mut u32) -> u32 {
-    lend!(dates_consequences(counts; t; all.as_mut_ptr(), all.len(), none.as_mut_ptr(), none.len(), held, excluded))
+    lend!(dates_consequences(counts; t; t.gaps, all.as_mut_ptr(), all.len(), none.as_mut_ptr(), none.len(), held, excluded))
 }
 
 /// Ring check: `verdict` is 1 where the list is a negative ring that starts with the rule under its would-be number and goes on over held rules.
 pub fn ring_check(counts: &Counts, t: &mut Tables, list: &[u32], r: Rule, verdict: &mut u32) -> u32 {
-    lend!(dates_ring_check(counts; t; list.as_ptr(), list.len(), r.first, r.second, r.amount, verdict))
+    lend!(dates_ring_check(counts; t; t.gaps, list.as_ptr(), list.len(), r.first, r.second, r.amount, verdict))
 }
 
 /// Last day: `day` is the largest day of the plan, over all steps.
 pub fn last_day(counts: &Counts, t: &mut Tables, day: &mut u32) -> u32 {
-    lend!(dates_last_day(counts; t; day))
+    lend!(dates_last_day(counts; t; t.gaps, day))
+}
+
+/// Gap: `limited` is 1 and `limit` the least c such that day(x) - day(y) <= c in every arrangement, or both are 0 where there is none.
+pub fn gap(counts: &Counts, t: &mut Tables, x: u32, y: u32, limited: &mut u32, limit: &mut i64) -> u32 {
+    lend!(dates_gap(counts; t; t.gaps, x, y, limited, limit))
 }
 
 /// Trial over tables that are lent for reading.
 pub fn trial_over(counts: &Counts, t: &View, days: &mut [u32], ring: &mut [u32], r: Rule, value: &mut u32) -> u32 {
-    show!(dates_trial(counts; t; days.as_mut_ptr(), days.len(), ring.as_mut_ptr(), ring.len(), r.first, r.second, r.amount, value))
+    show!(dates_trial(counts; t; t.gaps, days.as_mut_ptr(), days.len(), ring.as_mut_ptr(), ring.len(), r.first, r.second, r.amount, value))
 }
 
 /// Consequences over tables that are lent for reading.
 pub fn consequences_over(counts: &Counts, t: &View, all: &mut [u32], none: &mut [u32], held: &mut u32, excluded: &mut u32) -> u32 {
-    show!(dates_consequences(counts; t; all.as_mut_ptr(), all.len(), none.as_mut_ptr(), none.len(), held, excluded))
+    show!(dates_consequences(counts; t; t.gaps, all.as_mut_ptr(), all.len(), none.as_mut_ptr(), none.len(), held, excluded))
 }
 
 /// Ring check over tables that are lent for reading.
 pub fn ring_check_over(counts: &Counts, t: &View, list: &[u32], r: Rule, verdict: &mut u32) -> u32 {
-    show!(dates_ring_check(counts; t; list.as_ptr(), list.len(), r.first, r.second, r.amount, verdict))
+    show!(dates_ring_check(counts; t; t.gaps, list.as_ptr(), list.len(), r.first, r.second, r.amount, verdict))
 }
 
 /// Last day over tables that are lent for reading.
 pub fn last_day_over(counts: &Counts, t: &View, day: &mut u32) -> u32 {
-    show!(dates_last_day(counts; t; day))
+    show!(dates_last_day(counts; t; t.gaps, day))
+}
+
+/// Gap over tables that are lent for reading.
+pub fn gap_over(counts: &Counts, t: &View, x: u32, y: u32, limited: &mut u32, limit: &mut i64) -> u32 {
+    show!(dates_gap(counts; t; t.gaps, x, y, limited, limit))
 }
 
 /// Start: as many steps as there may be, and an empty record.
@@ -256,7 +279,7 @@ pub fn run_script(script: &[u8], out: &mut [u8], written: &mut usize) -> u32 {
 
 #[cfg(test)]
 mod tests {
-    use super::{Counts, Record};
+    use super::{Counts, Gaps, Record};
     use std::mem::{align_of, size_of};
 
     /// How far a field lies from the start of its record.
@@ -269,6 +292,13 @@ mod tests {
         let k = Counts::default();
         assert_eq!((size_of::<Counts>(), align_of::<Counts>()), (20, 4));
         assert_eq!([&k.steps, &k.rules, &k.marks, &k.watched, &k.last].map(|field| offset(&k, field)), [0, 4, 8, 12, 16]);
+    }
+
+    #[test]
+    fn the_gap_table_lies_as_in_c() {
+        assert_eq!((size_of::<Gaps>(), align_of::<Gaps>()), (2_048, 8));
+        let gaps: Gaps = [[0; 16]; 16];
+        assert_eq!(&gaps[3][5] as *const i64 as usize - &gaps as *const Gaps as usize, 8 * (16 * 3 + 5));
     }
 
     #[test]

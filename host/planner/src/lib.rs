@@ -2,7 +2,8 @@
 //!
 //! A [`Planner`] keeps rules over steps, such as "drying at least two days after cutting", and gives every step its earliest day. A rule that cannot be kept is
 //! refused with the shortest [`Ring`] of rules that says why; any rule is withdrawn by its number, however many came after it; marks remember what was held, and going
-//! back restores it; watched rules are split into those that always hold and those that never do; the last day of the plan is at hand after every call.
+//! back restores it; watched rules are split into those that always hold and those that never do; the last day of the plan is at hand after every call,
+//! and in one yard of up to 16 steps the limit between any two of them ([`Planner::gap`]).
 //! [`Planner::command`] and [`run_script`] take the same rules as SMT-LIB scripts.
 //!
 //! ```

@@ -1,4 +1,4 @@
-//! The planner: the ten calls over tables that it owns.
+//! The planner: the eleven calls over tables that it owns.
 
 use crate::bounds::{RULES, STEPS, WATCHED};
 use crate::calls::{self, Counts, Record};
@@ -266,6 +266,30 @@ impl Planner {
         let number = calls::last_day_over(&self.counts, &self.owned.view(), &mut day);
         Refusal::judge_plain(number)?;
         Ok(day)
+    }
+
+    /// **Gap**: the limit of a pair of steps of one yard, which is the least `c` such that day(x) - day(y) <= c in every arrangement of the rules held; nothing where
+    /// there is none. Refused with [`Refusal::Yard`] where there are more than 16 steps, and then with [`Refusal::Step`].
+    ///
+    /// ```
+    /// use planner::{Planner, Refusal, Rule};
+    ///
+    /// let mut planner = Planner::open(4)?;
+    /// planner.add(Rule::new(0, 1, -2))?;
+    /// planner.add(Rule::new(1, 2, -3))?;
+    /// // Step 2 is at least five days after step 0, and may come as late as it likes.
+    /// assert_eq!((planner.gap(0, 2)?, planner.gap(2, 0)?), (Some(-5), None));
+    /// planner.add(Rule::new(2, 0, 9))?;
+    /// assert_eq!((planner.gap(2, 0)?, planner.gap(1, 0)?, planner.gap(2, 1)?), (Some(9), Some(6), Some(7)));
+    /// assert_eq!((planner.gap(3, 3)?, planner.gap(0, 4)), (Some(0), Err(Refusal::Step)));
+    /// assert_eq!(Planner::open(17)?.gap(0, 1), Err(Refusal::Yard));
+    /// # Ok::<(), Refusal>(())
+    /// ```
+    pub fn gap(&self, x: u32, y: u32) -> Result<Option<i64>, Refusal> {
+        let (mut limited, mut limit) = (0, 0);
+        let number = calls::gap_over(&self.counts, &self.owned.view(), x, y, &mut limited, &mut limit);
+        Refusal::judge_plain(number)?;
+        Ok(if limited == 1 { Some(limit) } else { None })
     }
 
     /// The day of each step in the earliest plan.

@@ -40,10 +40,12 @@ pub enum Refusal {
     Size,
     /// 12: Withdraw of a number under which no rule is held.
     Absent,
+    /// 15: Gap where there are more than 16 steps, which is more than one yard has.
+    Yard,
 }
 
 impl Refusal {
-    /// The number that the library gives for it, from 1 to 12.
+    /// The number that the library gives for it, from 1 to 12, or 15.
     pub fn number(&self) -> u32 {
         self.told().0
     }
@@ -76,6 +78,7 @@ impl Refusal {
             Refusal::Name => (10, "NAME", "a name unknown, or declared while it stands"),
             Refusal::Size => (11, "SIZE", "a script, a name, a term's depth or a get-value over its size"),
             Refusal::Absent => (12, "ABSENT", "no rule is held under the number"),
+            Refusal::Yard => (15, "YARD", "there are more than 16 steps"),
         }
     }
 
@@ -95,6 +98,7 @@ impl Refusal {
             10 => Refusal::Name,
             11 => Refusal::Size,
             12 => Refusal::Absent,
+            15 => Refusal::Yard,
             other => panic!("the library gave {}, which is no number of its", other),
         })
     }

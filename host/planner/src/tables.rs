@@ -1,7 +1,7 @@
 //! The tables that a planner owns, each with room for its bound.
 
-use crate::bounds::{NAME_BYTES, RULES, STEPS, WATCHED};
-use crate::calls::{Names, Tables, View};
+use crate::bounds::{NAME_BYTES, RULES, STEPS, WATCHED, YARD_STEPS};
+use crate::calls::{Gaps, Names, Tables, View};
 
 #[derive(Clone, Debug)]
 pub(crate) struct Owned {
@@ -13,6 +13,7 @@ pub(crate) struct Owned {
     pub wxs: Vec<u16>,
     pub wys: Vec<u16>,
     pub wcs: Vec<i32>,
+    pub gaps: Box<Gaps>,
     pub names: Vec<u8>,
     pub lens: Vec<u8>,
 }
@@ -28,6 +29,7 @@ impl Owned {
             wxs: vec![0; WATCHED],
             wys: vec![0; WATCHED],
             wcs: vec![0; WATCHED],
+            gaps: Box::new([[0; YARD_STEPS]; YARD_STEPS]),
             names: vec![0; STEPS * NAME_BYTES],
             lens: vec![0; STEPS],
         }
@@ -44,6 +46,7 @@ impl Owned {
             wxs: &mut self.wxs,
             wys: &mut self.wys,
             wcs: &mut self.wcs,
+            gaps: &mut self.gaps,
         };
         (tables, Names { bytes: &mut self.names, lens: &mut self.lens })
     }
@@ -59,6 +62,7 @@ impl Owned {
             wxs: &self.wxs,
             wys: &self.wys,
             wcs: &self.wcs,
+            gaps: &self.gaps,
         }
     }
 }

@@ -1,6 +1,6 @@
 //! The worked cases and the refusals, through the planner; scripts by commands and as a whole.
 
-use crate::bounds::{ASKED, LARGEST, LATEST, MARKS, RULES, STEPS, TEXT, WATCHED};
+use crate::bounds::{ASKED, LARGEST, LATEST, MARKS, NO_LIMIT, RULES, STEPS, TEXT, WATCHED, YARD_STEPS};
 use crate::{next_command, run_script, Moved, Planner, Refusal, Ring, Rule};
 
 fn rule(first: u32, second: u32, amount: i32) -> Rule {
@@ -252,6 +252,78 @@ fn a_wrong_last_day_is_damaged() {
     }
 }
 
+const N: Option<i64> = None;
+
+/// The limits of all pairs, by rows.
+fn limits(planner: &Planner) -> Vec<Vec<Option<i64>>> {
+    let steps = planner.counts().steps;
+    (0..steps).map(|x| (0..steps).map(|y| planner.gap(x, y).unwrap()).collect()).collect()
+}
+
+#[test]
+fn the_gap_table_of_the_cases() {
+    let mut planner = holding(&CASE_3);
+    let before = vec![vec![Some(0), Some(-2), Some(-5), N], vec![N, Some(0), Some(-3), N], vec![N, N, Some(0), N], vec![N, N, N, Some(0)]];
+    assert_eq!(limits(&planner), before);
+    planner.mark().unwrap();
+    planner.add(rule(2, 0, 9)).unwrap();
+    let after = vec![vec![Some(0), Some(-2), Some(-5), N], vec![Some(6), Some(0), Some(-3), N], vec![Some(9), Some(7), Some(0), N], vec![N, N, N, Some(0)]];
+    assert_eq!(limits(&planner), after);
+    // What is refused, or only asked, leaves it.
+    ring_of(planner.add(rule(2, 0, 4)));
+    assert_eq!((planner.trial(rule(2, 0, 5)).is_ok(), planner.add(rule(2, 4, 0)), planner.watch(rule(2, 0, 5))), (true, Err(Refusal::Step), Ok(0)));
+    assert_eq!((planner.consequences().is_ok(), limits(&planner)), (true, after.clone()));
+    planner.back().unwrap();
+    assert_eq!(limits(&planner), before);
+    // The other way to lose a rule.
+    planner.add(rule(2, 0, 9)).unwrap();
+    assert_eq!(limits(&planner), after);
+    planner.withdraw(2).unwrap();
+    assert_eq!(limits(&planner), before);
+    planner.withdraw(0).unwrap();
+    assert_eq!(limits(&planner)[0], [Some(0), N, N, N]);
+}
+
+#[test]
+fn the_bounds_of_one_yard() {
+    let last = YARD_STEPS as u32 - 1;
+    let mut planner = Planner::open(YARD_STEPS as u32).unwrap();
+    for step in 0..last {
+        planner.add(rule(step, step + 1, -LARGEST)).unwrap();
+        planner.add(rule(step + 1, step, LARGEST)).unwrap();
+    }
+    let far = i64::from(last) * i64::from(LARGEST);
+    assert_eq!((planner.gap(0, last), planner.gap(last, 0), planner.gap(last, last)), (Ok(Some(-far)), Ok(Some(far)), Ok(Some(0))));
+    for step in [YARD_STEPS as u32, 65_536, u32::MAX] {
+        assert_eq!((planner.gap(last, step), planner.gap(step, last)), (Err(Refusal::Step), Err(Refusal::Step)));
+    }
+    // With one step more it is not kept, whatever the steps asked for.
+    let mut wider = Planner::open(YARD_STEPS as u32 + 1).unwrap();
+    let cells = wider.owned.gaps.clone();
+    wider.add(rule(0, 1, -2)).unwrap();
+    assert_eq!((wider.gap(0, 1), wider.gap(0, 17), wider.owned.gaps), (Err(Refusal::Yard), Err(Refusal::Yard), cells));
+    assert_eq!(Planner::start().unwrap().gap(0, 1), Err(Refusal::Yard));
+    assert_eq!(Planner::open(1).unwrap().gap(0, 0), Ok(Some(0)));
+}
+
+#[test]
+fn a_cell_that_is_not_the_limit_is_damaged() {
+    let mut planner = holding(&CASE_3);
+    planner.mark().unwrap();
+    for (x, y) in (0..YARD_STEPS).flat_map(|x| (0..YARD_STEPS).map(move |y| (x, y))) {
+        let before = planner.owned.gaps[x][y];
+        for cell in [before.wrapping_add(1), before.wrapping_sub(1), 0, NO_LIMIT, i64::MIN] {
+            planner.owned.gaps[x][y] = cell;
+            let sound = cell == before || x >= 4 || y >= 4;
+            assert_eq!(planner.last_day(), if sound { Ok(5) } else { Err(Refusal::Damaged) }, "{} at {}, {}", cell, x, y);
+            assert_eq!(planner.gap(0, 4), Err(if sound { Refusal::Step } else { Refusal::Damaged }));
+            assert_eq!(planner.owned.gaps[x][y], cell);
+        }
+        planner.owned.gaps[x][y] = before;
+    }
+    assert_eq!(planner.back(), Ok(()));
+}
+
 #[test]
 fn step_numbers_below_the_count() {
     let mut planner = holding(&CASE_3);
@@ -310,9 +382,9 @@ fn names_and_numbers_of_refusals() {
         (Refusal::Name, "NAME"),
         (Refusal::Size, "SIZE"),
         (Refusal::Absent, "ABSENT"),
+        (Refusal::Yard, "YARD"),
     ];
-    for (at, (refusal, name)) in all.iter().enumerate() {
-        let number = at as u32 + 1;
+    for (number, (refusal, name)) in (1..=12).chain([15]).zip(&all) {
         assert_eq!((refusal.number(), refusal.name()), (number, *name));
         assert_eq!(Refusal::judge(number, || ring.clone()).as_ref(), Err(refusal));
         assert!(refusal.to_string().starts_with(&format!("{} ({}): ", name, number)));

@@ -1,6 +1,8 @@
 //! What a sequence is made of: the calls, and what the caller does to what it lends between them.
 
+use crate::engine;
 use crate::office::{Field, Office, Place};
+use crate::sequences::rules_lent;
 use planner::calls::Rule;
 use std::fmt;
 
@@ -17,6 +19,8 @@ pub enum Act {
     Consequences,
     RingCheck(Rule, Vec<u32>),
     LastDay,
+    /// The limit of a pair of steps.
+    Gap(u32, u32),
     Start,
     /// A script command: the text that begins with it.
     Command(Vec<u8>),
@@ -26,7 +30,7 @@ pub enum Act {
     SetField(Field, u32),
     /// The caller lends that many places from here on.
     Lend(Place, usize),
-    /// The caller writes the rule into that many of the lowest free places, as one of the present level, and counts them.
+    /// The caller writes the rule into that many of the lowest free places, as one of the present level, and counts them; and what the gap table then has.
     Hold(Rule, usize),
     /// The caller writes the rule that many times at the end of the watched rules, and counts them.
     Follow(Rule, usize),
@@ -46,6 +50,7 @@ impl Act {
             Act::Consequences => "Consequences",
             Act::RingCheck(..) => "Ring check",
             Act::LastDay => "Last day",
+            Act::Gap(..) => "Gap",
             Act::Start => "start",
             Act::Command(_) => "command",
             Act::Set(..) | Act::SetField(..) | Act::Lend(..) | Act::Hold(..) | Act::Follow(..) => return None,
@@ -75,6 +80,15 @@ fn hold(office: &mut Office, rule: Rule, times: usize) {
         office.set(Place::Levels, *number as usize, level.into());
     }
     office.set_field(Field::Rules, held.wrapping_add(free.len() as u32));
+    let (numbers, steps) = (rules_lent(office), office.field(Field::Steps));
+    let of_steps = |number: &u32| {
+        let rule = office.rule(*number as usize);
+        rule.first < steps && rule.second < steps
+    };
+    // Rules that are no such rules have no gap table.
+    if numbers.len() == office.numbers().len() && numbers.iter().all(of_steps) {
+        engine::remake(office);
+    }
 }
 
 /// Writes a rule into so many places past the watched rules, as far as there are places.
@@ -107,6 +121,7 @@ impl fmt::Display for Act {
             Act::Consequences => write!(to, "Consequences"),
             Act::RingCheck(rule, list) => write!(to, "Ring check {} {:?}", of(rule), list),
             Act::LastDay => write!(to, "Last day"),
+            Act::Gap(x, y) => write!(to, "Gap {},{}", x, y),
             Act::Start => write!(to, "start"),
             Act::Command(text) => {
                 let quoted: String = text.iter().flat_map(|byte| std::ascii::escape_default(*byte)).map(char::from).collect();

@@ -31,6 +31,7 @@ impl<T: Copy + PartialEq> Value<T> {
 pub fn by_library(office: &mut Office, act: &Act) -> Result<Given, String> {
     let (mut first, mut second) = (Value([KEPT; 3]), Value([KEPT; 3]));
     let (mut read, mut written) = (Value([KEPT as usize; 3]), Value([KEPT as usize; 3]));
+    let mut limit = Value([i64::from(KEPT); 3]);
     let Office { counts: [_, counts, _], record: [_, record, _], shelf, names, lens, out, one, two } = office;
     let tables = &mut shelf.tables();
     let number = match act {
@@ -44,6 +45,7 @@ pub fn by_library(office: &mut Office, act: &Act) -> Result<Given, String> {
         Act::Consequences => calls::consequences(counts, tables, one.part_mut(), two.part_mut(), first.lend(), second.lend()),
         Act::RingCheck(rule, list) => calls::ring_check(counts, tables, list, *rule, first.lend()),
         Act::LastDay => calls::last_day(counts, tables, first.lend()),
+        Act::Gap(x, y) => calls::gap(counts, tables, *x, *y, first.lend(), limit.lend()),
         Act::Start => calls::start(counts, record, tables, &Office::lend_names(names, lens)),
         Act::Command(text) => {
             let lent_names = &mut Office::lend_names(names, lens);
@@ -56,10 +58,12 @@ pub fn by_library(office: &mut Office, act: &Act) -> Result<Given, String> {
     };
     let (first, second) = (first.read(KEPT)?, second.read(KEPT)?);
     let (read, written) = (read.read(KEPT as usize)?, written.read(KEPT as usize)?);
+    let limit = limit.read(KEPT.into())?;
     let (one, two) = match act {
         Act::Add(_) | Act::Trial(_) | Act::RingCheck(..) | Act::LastDay => (u64::from(first), 0),
-        Act::Consequences => (u64::from(first), u64::from(second)),
-        Act::Command(_) => (read as u64, written as u64),
+        Act::Consequences => (u64::from(first), i64::from(second)),
+        Act::Gap(..) => (u64::from(first), limit),
+        Act::Command(_) => (read as u64, written as i64),
         _ => (0, 0),
     };
     Ok(Given { number, one, two })

@@ -1,11 +1,12 @@
 //! Damaged and short tables: from sound states every count and every cell that matters is changed in turn, some free places and cells past the counts too, which must
-//! not matter, and free places are made to count; every table and list is lent short, empty and longer than needed. After each change all calls are made. The
-//! independent engine says by the definition whether what is lent is still sound.
+//! not matter, those of the gap table that are not kept among them, and free places are made to count; every table and list is lent short, empty and longer than
+//! needed. After each change all calls are made. The independent engine says by the definition whether what is lent is still sound.
 
 use crate::Options;
 use crate::acts::Act;
 use crate::compare::{compare_all, Both};
-use crate::office::{Field, Office, Place, LATEST, STEPS, STEPS_BEFORE};
+use crate::engine;
+use crate::office::{Field, Office, Place, LATEST, NO_LIMIT, STEPS, STEPS_BEFORE, YARD};
 use crate::sequences::rule;
 use crate::shapes::{self, Shape};
 use crate::tests::Tally;
@@ -78,6 +79,7 @@ fn changes(office: &Office, shape: &Shape, random: &mut Random, long: bool) -> V
                 let deepest = i64::from(office.counts().marks) + 1;
                 vec![old + 1, old - 1, 0, 1, deepest, deepest + 1, 65, 66, 255]
             }
+            Place::Gaps => limits(office, at, random),
             _ => vec![old + 1, old - 1, 0, office.counts().steps.into(), u16::MAX.into(), u32::MAX.into()],
         };
         new.push(random.next() as i64);
@@ -125,12 +127,37 @@ fn cells(office: &Office, random: &mut Random, long: bool) -> Vec<(Place, usize)
         let past = used..(used + 3).min(office.lent(place));
         all.extend(some(used).into_iter().chain(past).map(|at| (place, at)));
     }
+    all.extend(gap_cells(office).into_iter().map(|at| (Gaps, at)));
     // The bytes of each name, and the first past it.
     for number in some(names) {
         let len = usize::from(office.lens.part()[number]).min(31);
         all.extend((0..=len).map(|at| (Names, 32 * number + at)));
     }
     all
+}
+
+/// Every cell of the gap table that is kept; of the others those beside them, and the corners.
+fn gap_cells(office: &Office) -> Vec<usize> {
+    let side = engine::yard(office).unwrap_or(0);
+    let last = YARD - 1;
+    let others = [(0, side), (side, 0), (side, side), (0, last), (last, 0), (side.saturating_sub(1), side), (last, last)];
+    let mut cells: Vec<usize> = (0..side).flat_map(|x| (0..side).map(move |y| YARD * x + y)).collect();
+    cells.extend(others.iter().filter(|(x, y)| *x.max(y) <= last).map(|(x, y)| YARD * x + y));
+    cells.sort();
+    cells.dedup();
+    cells
+}
+
+/// What is written into a cell of the gap table: much where few are kept; else one more or less, and one other number. Where the cell is not kept, no number matters.
+fn limits(office: &Office, at: usize, random: &mut Random) -> Vec<i64> {
+    let (old, side) = (office.cell(Place::Gaps, at), engine::yard(office).unwrap_or(0));
+    let all = [0, NO_LIMIT, NO_LIMIT - 1, i64::MIN, -1, old.wrapping_neg(), 16_000_001];
+    let near = [old.wrapping_add(1), old.wrapping_sub(1)];
+    if side <= 6 && (at / YARD).max(at % YARD) < side {
+        near.into_iter().chain(all).collect()
+    } else {
+        vec![random.pick(&near), random.pick(&all)]
+    }
 }
 
 /// Rules more or fewer, with the count that they then have: held ones whose places are free, and free places that count as held, with what they have and with a rule
@@ -204,7 +231,7 @@ fn several(office: &Office, random: &mut Random, long: bool) -> Vec<Vec<Act>> {
         let mut change = Vec::new();
         for _ in 0..1 + random.below(3) {
             let (place, at) = random.pick(&cells);
-            change.push(Act::Set(place, at, office.cell(place, at) + random.between(-2, 2)));
+            change.push(Act::Set(place, at, office.cell(place, at).wrapping_add(random.between(-2, 2))));
         }
         all.push(change);
     }

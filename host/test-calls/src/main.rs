@@ -1,5 +1,5 @@
-//! Tests of the calls: random and adversarial sequences, reasons of refused rules and withdrawals by hand, long rings, damaged and short tables, by the library and by
-//! an independent engine, compared whole at each call; and z3 as a third opinion.
+//! Tests of the calls: random and adversarial sequences, reasons of refused rules, withdrawals and gap tables by hand, long rings, damaged and short tables, by the library
+//! and by an independent engine, compared whole at each call; and z3 as a third opinion.
 //!
 //!     --seed N           the first seed (1)
 //!     --count N          how many sequences (2,500)
@@ -17,6 +17,7 @@ mod commands;
 mod compare;
 mod damage;
 mod engine;
+mod gaps;
 mod lists;
 mod office;
 mod pairs;

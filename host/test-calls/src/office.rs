@@ -2,7 +2,7 @@
 //! filled with numbers of no meaning. It is cloned before a call and compared whole after it.
 
 use common::Random;
-use planner::calls::{Counts, Names, Record, Rule, Tables};
+use planner::calls::{Counts, Gaps, Names, Record, Rule, Tables};
 
 /// How many steps and watched rules there may be.
 pub const STEPS: usize = reader::NAMES;
@@ -13,6 +13,10 @@ pub const LATEST: u32 = (STEPS as u32 - 1) * reader::LARGEST as u32;
 
 /// How many steps there could be before. Tables and lists of that bound are SHORT.
 pub const STEPS_BEFORE: usize = 256;
+
+/// How many steps one yard has at most, and what a cell of the gap table has where there is no limit.
+pub const YARD: usize = 16;
+pub const NO_LIMIT: i64 = i64::MAX;
 
 /// Places on either side of what is lent.
 const BESIDE: usize = 8;
@@ -52,6 +56,31 @@ impl<T: Copy + PartialEq + std::fmt::Display> Lent<T> {
     }
 }
 
+/// The gap table, between two rows more.
+#[derive(Clone, PartialEq, Eq)]
+pub struct GapTable(Vec<[i64; YARD]>);
+
+impl GapTable {
+    fn new(mut fill: impl FnMut() -> i64) -> GapTable {
+        GapTable((0..YARD + 2).map(|_| [(); YARD].map(|_| fill())).collect())
+    }
+
+    pub fn part(&self) -> &Gaps {
+        (&self.0[1..=YARD]).try_into().expect("as many rows as are lent")
+    }
+
+    pub fn part_mut(&mut self) -> &mut Gaps {
+        (&mut self.0[1..=YARD]).try_into().expect("as many rows as are lent")
+    }
+
+    /// Where two of them differ first.
+    fn difference(&self, got: &GapTable) -> Option<String> {
+        let differs = |(row, column): &(usize, usize)| self.0[*row][*column] != got.0[*row][*column];
+        let (row, column) = (0..YARD + 2).flat_map(|row| (0..YARD).map(move |column| (row, column))).find(differs)?;
+        Some(format!("[{}][{}]: wanted {}, got {}", row as i64 - 1, column, self.0[row][column], got.0[row][column]))
+    }
+}
+
 /// A table, list or text that is lent.
 #[derive(Clone, Copy, PartialEq, Eq, Debug)]
 pub enum Place {
@@ -63,6 +92,8 @@ pub enum Place {
     Wxs,
     Wys,
     Wcs,
+    /// Row by row; it is lent without a length.
+    Gaps,
     Names,
     Lens,
     Out,
@@ -71,6 +102,7 @@ pub enum Place {
 }
 
 impl Place {
+    /// All that have a length.
     pub const ALL: [Place; 13] = {
         use Place::*;
         [Xs, Ys, Cs, Days, Levels, Wxs, Wys, Wcs, Names, Lens, Out, One, Two]
@@ -88,6 +120,7 @@ impl Place {
             Xs | Ys | Cs | Levels => reader::RULES,
             Days | Lens | One | Two => steps,
             Wxs | Wys | Wcs => WATCHED,
+            Gaps => YARD * YARD,
             Names => reader::NAME_BYTES * steps,
             Out => reader::LENT,
         }
@@ -132,6 +165,7 @@ pub struct Shelf {
     pub wxs: Lent<u16>,
     pub wys: Lent<u16>,
     pub wcs: Lent<i32>,
+    pub gaps: GapTable,
 }
 
 impl Shelf {
@@ -145,6 +179,7 @@ impl Shelf {
             wxs: self.wxs.part_mut(),
             wys: self.wys.part_mut(),
             wcs: self.wcs.part_mut(),
+            gaps: self.gaps.part_mut(),
         }
     }
 }
@@ -190,6 +225,7 @@ impl Office {
             wxs: Lent::new(sizes[5], || any() as u16),
             wys: Lent::new(sizes[6], || any() as u16),
             wcs: Lent::new(sizes[7], || any() as i32 - 3),
+            gaps: GapTable::new(|| [any() as i64 - 3, NO_LIMIT, i64::MIN, 0][any() as usize % 4]),
         };
         let names = Lent::new(sizes[8], || 33 + (any() % 200) as u8);
         let lens = Lent::new(sizes[9], || any() as u8);
@@ -251,6 +287,7 @@ impl Office {
             Place::Wxs => shelf.wxs.len,
             Place::Wys => shelf.wys.len,
             Place::Wcs => shelf.wcs.len,
+            Place::Gaps => YARD * YARD,
             Place::Names => self.names.len,
             Place::Lens => self.lens.len,
             Place::Out => self.out.len,
@@ -259,7 +296,7 @@ impl Office {
         }
     }
 
-    /// Lends another number of places from now on.
+    /// Lends another number of places from now on; of the gap table always all.
     pub fn lend(&mut self, place: Place, len: usize) {
         let shelf = &mut self.shelf;
         match place {
@@ -271,6 +308,7 @@ impl Office {
             Place::Wxs => shelf.wxs.lend(len),
             Place::Wys => shelf.wys.lend(len),
             Place::Wcs => shelf.wcs.lend(len),
+            Place::Gaps => (),
             Place::Names => self.names.lend(len),
             Place::Lens => self.lens.lend(len),
             Place::Out => self.out.lend(len),
@@ -291,6 +329,7 @@ impl Office {
             Place::Wxs => shelf.wxs.part()[at].into(),
             Place::Wys => shelf.wys.part()[at].into(),
             Place::Wcs => shelf.wcs.part()[at].into(),
+            Place::Gaps => shelf.gaps.part()[at / YARD][at % YARD],
             Place::Names => self.names.part()[at].into(),
             Place::Lens => self.lens.part()[at].into(),
             Place::Out => self.out.part()[at].into(),
@@ -314,6 +353,7 @@ impl Office {
             Place::Wxs => shelf.wxs.part_mut()[at] = number as u16,
             Place::Wys => shelf.wys.part_mut()[at] = number as u16,
             Place::Wcs => shelf.wcs.part_mut()[at] = number as i32,
+            Place::Gaps => shelf.gaps.part_mut()[at / YARD][at % YARD] = number,
             Place::Names => self.names.part_mut()[at] = number as u8,
             Place::Lens => self.lens.part_mut()[at] = number as u8,
             Place::Out => self.out.part_mut()[at] = number as u8,
@@ -378,6 +418,7 @@ impl Office {
             .or_else(|| named("wxs", shelf.wxs.difference(&other.wxs)))
             .or_else(|| named("wys", shelf.wys.difference(&other.wys)))
             .or_else(|| named("wcs", shelf.wcs.difference(&other.wcs)))
+            .or_else(|| named("gaps", shelf.gaps.difference(&other.gaps)))
             .or_else(|| named("names", self.names.difference(&got.names)))
             .or_else(|| named("lens", self.lens.difference(&got.lens)))
             .or_else(|| named("out", self.out.difference(&got.out)))

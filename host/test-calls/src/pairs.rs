@@ -1,11 +1,11 @@
 //! Pairs of sequences that end with the same question: as many steps, the same rules held, in whatever order and however often, and the same watched rules. However they
-//! went, the library shows the same screen after both: the days, the last day, and the two lists of Consequences. And at every Add and `assert` that is carried out:
-//! no day is earlier after it, and no number is gone from a list.
+//! went, the library shows the same screen after both: the days, the last day, the two lists of Consequences, and the gap table. And at every Add and `assert` that is carried
+//! out: no day is earlier after it, no number is gone from a list, and no limit is larger.
 
 use crate::acts::Act;
 use crate::compare::by_library;
 use crate::engine;
-use crate::office::{Office, STEPS};
+use crate::office::{Office, NO_LIMIT, STEPS};
 use crate::second::Second;
 use crate::sequences::{Kind, Writer};
 use crate::tests::Tally;
@@ -48,6 +48,8 @@ struct Screen {
     stored: u32,
     told: u32,
     lists: [Vec<u32>; 2],
+    /// The rows of the gap table, as far as they are kept.
+    gaps: Vec<Vec<i64>>,
 }
 
 impl Screen {
@@ -59,12 +61,14 @@ impl Screen {
             return Err(format!("Last day gave {:?}, Consequences {:?}", last, split));
         }
         let counts = office.counts();
-        let list = |all: &[u32], length: u64| all[..length as usize].to_vec();
+        let list = |all: &[u32], length: usize| all[..length].to_vec();
+        let kept = engine::yard(office).unwrap_or(0);
         Ok(Screen {
             days: office.shelf.days.part()[..counts.steps as usize].to_vec(),
             stored: counts.last,
             told: last.one as u32,
-            lists: [list(office.one.part(), split.one), list(office.two.part(), split.two)],
+            lists: [list(office.one.part(), split.one as usize), list(office.two.part(), split.two as usize)],
+            gaps: office.shelf.gaps.part()[..kept].iter().map(|row| row[..kept].to_vec()).collect(),
         })
     }
 
@@ -72,26 +76,31 @@ impl Screen {
     fn difference(&self, other: &Screen) -> Option<String> {
         let day = (0..self.days.len()).find(|step| other.days[*step] != self.days[*step]);
         let list = (0..2).find(|list| self.lists[*list] != other.lists[*list]);
+        let row = (0..self.gaps.len()).find(|row| self.gaps[*row] != other.gaps[*row]);
         day.map(|step| format!("the one has day {} for step {}, the other {}", self.days[step], step, other.days[step]))
             .or_else(|| (self.stored != other.stored).then(|| format!("the last day of the one is {}, of the other {}", self.stored, other.stored)))
             .or_else(|| (self.told != other.told).then(|| format!("the one is told the last day {}, the other {}", self.told, other.told)))
             .or_else(|| list.map(|list| format!("the one has {:?} in list {}, the other {:?}", self.lists[list], ["one", "two"][list], other.lists[list])))
+            .or_else(|| row.map(|row| format!("the one has {:?} in row {} of the gap table, the other {:?}", self.gaps[row], row, other.gaps[row])))
     }
 
     /// What this one says and the one after it no more.
     fn unsaid(&self, after: &Screen) -> Option<String> {
         let earlier = (0..self.days.len()).find(|step| after.days[*step] < self.days[*step]);
+        let larger = (0..self.gaps.len()).find(|row| self.gaps[*row].iter().zip(&after.gaps[*row]).any(|(before, after)| after > before));
         let gone = |list: usize| self.lists[list].iter().find(|number| !after.lists[list].contains(number));
         earlier
             .map(|step| format!("step {} has day {} after it and had {}", step, after.days[step], self.days[step]))
             .or_else(|| gone(0).map(|number| format!("{} is gone from the first list", number)))
             .or_else(|| gone(1).map(|number| format!("{} is gone from the second list", number)))
+            .or_else(|| larger.map(|row| format!("row {} of the gap table was {:?} and is {:?}", row, self.gaps[row], after.gaps[row])))
     }
 }
 
 /// What must be there among many pairs.
-const THINGS: [&str; 12] = [
+const THINGS: [&str; 13] = [
     "rules", "rules again", "open marks", "ways back", "refusals", "Adds", "asserts", "first lists", "second lists", "withdrawals", "withdrawals that move a day", "free places between rules",
+    "limits between two steps",
 ];
 
 /// How often each thing was there.
@@ -154,6 +163,8 @@ fn compare(mut one: Office, mut other: Office, seen: &mut Seen) -> Result<bool, 
     seen.note("free places between rules", [&one, &other].iter().filter(|office| office.next_number() < office.counts().rules).count());
     seen.note("first lists", usize::from(!mine.lists[0].is_empty()));
     seen.note("second lists", usize::from(!mine.lists[1].is_empty()));
+    let cells = mine.gaps.iter().flatten().filter(|cell| **cell != NO_LIMIT).count();
+    seen.note("limits between two steps", cells - mine.gaps.len());
     mine.difference(&yours).map_or(Ok(true), Err)
 }
 
@@ -264,7 +275,7 @@ fn kind(seed: u64) -> Kind {
     match seed % 40 {
         7 | 27 => Kind::Mixed,
         19 => Kind::Edges,
-        n => [Kind::Small, Kind::Ties, Kind::Watching, Kind::Levels][n as usize % 4],
+        n => [Kind::Small, Kind::Ties, Kind::Watching, Kind::Levels, Kind::Yard][n as usize % 5],
     }
 }
 
@@ -310,9 +321,11 @@ fn clerks(bases: &Bases) -> Result<(), String> {
     one.extend(watch.clone());
     other.extend(watch);
     let mut both = Pair([one, other]);
-    for (more, days, last, first) in [(None, [0, 2, 5, 0], 5, vec![0]), (Some(add(0, 3, -4)), [0, 2, 5, 4], 5, vec![0, 2])] {
+    const N: i64 = NO_LIMIT;
+    let gaps = |of_0_3: i64| vec![vec![0, -2, -5, of_0_3], vec![N, 0, -3, N], vec![N, N, 0, N], vec![N, N, N, 0]];
+    for (more, days, last, first, of_0_3) in [(None, [0, 2, 5, 0], 5, vec![0], N), (Some(add(0, 3, -4)), [0, 2, 5, 4], 5, vec![0, 2], -4)] {
         both.0.iter_mut().for_each(|acts| acts.extend(more.clone()));
-        let wanted = Screen { days: days.to_vec(), stored: last, told: last, lists: [first, vec![1]] };
+        let wanted = Screen { days: days.to_vec(), stored: last, told: last, lists: [first, vec![1]], gaps: gaps(of_0_3) };
         let mut office = play(&bases.0[1], &both.0[1], &mut Seen::default())?.ok_or("  a clerk's Open is refused")?;
         let got = Screen::of(&mut office)?;
         if got != wanted || !bases.same(&both)? {

@@ -155,7 +155,7 @@ impl Second<'_> {
     /// Something that changes neither the rules held nor the watched list in the end, once those to come are there.
     fn strew(&mut self) {
         let (any, steps) = (self.any(), self.steps);
-        let act = match self.random.below(16) {
+        let act = match self.random.below(17) {
             0 if self.open < OPEN => {
                 self.open += 1;
                 Act::Mark
@@ -175,6 +175,7 @@ impl Second<'_> {
             }
             12 | 13 => return self.withdraw(None),
             14 => return self.come_and_go(any),
+            15 => Act::Gap(any.first, any.second),
             _ => Act::LastDay,
         };
         self.acts.push(act);

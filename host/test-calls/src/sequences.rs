@@ -4,7 +4,7 @@
 use crate::acts::Act;
 use crate::commands::{self, Script};
 use crate::engine::{Given, CONFLICT};
-use crate::office::{Office, Place, STEPS, STEPS_BEFORE};
+use crate::office::{Office, Place, NO_LIMIT, STEPS, STEPS_BEFORE, YARD};
 use common::Random;
 use planner::calls::Rule;
 
@@ -34,12 +34,14 @@ pub enum Kind {
     Full,
     /// Ways of a few rules that run beside each other, and rules that close them.
     Ways,
+    /// As many steps as one yard has, fewer, and one or two more; rules at the limits of their pairs.
+    Yard,
 }
 
 impl Kind {
-    pub const ALL: [Kind; 12] = {
+    pub const ALL: [Kind; 13] = {
         use Kind::*;
-        [Small, Ties, Edges, Levels, Watching, Wide, Spoiled, Mixed, Chain, Brim, Full, Ways]
+        [Small, Ties, Edges, Levels, Watching, Wide, Spoiled, Mixed, Chain, Brim, Full, Ways, Yard]
     };
 
     /// The kind of a sequence by its place among all: the dear ones are few.
@@ -50,7 +52,7 @@ impl Kind {
             n if n % 400 == 100 => Chain,
             n if n % 125 == 10 => Brim,
             n if n % 40 == 7 => Wide,
-            n => [Small, Ties, Edges, Levels, Spoiled, Mixed, Ways, Watching][n as usize % 8],
+            n => [Small, Ties, Edges, Levels, Spoiled, Mixed, Ways, Watching, Yard][n as usize % 9],
         }
     }
 }
@@ -75,15 +77,16 @@ impl Writer {
     pub fn new(kind: Kind, seed: u64) -> Writer {
         let mut random = Random::new(seed.wrapping_mul(16).wrapping_add(kind as u64));
         let steps = match kind {
-            Kind::Small | Kind::Spoiled => 1 + random.below(8),
+            Kind::Small => 1 + random.below(8),
+            Kind::Spoiled | Kind::Yard => 1 + random.below(YARD + 2),
             Kind::Ties => 1 + random.below(5),
-            Kind::Edges => random.pick(&[1, 2, 3, STEPS_BEFORE, STEPS - 1, STEPS]),
+            Kind::Edges => random.pick(&[1, 2, 3, YARD, YARD + 1, STEPS_BEFORE, STEPS - 1, STEPS]),
             Kind::Levels | Kind::Watching => 2 + random.below(5),
             Kind::Wide => 20 + random.below(STEPS - 19),
             Kind::Ways => 3 + random.below(14),
             Kind::Mixed | Kind::Chain | Kind::Brim => STEPS,
             // Every other one over all steps.
-            Kind::Full => [STEPS, 3, STEPS, 17, STEPS, 40, STEPS, STEPS_BEFORE][(seed / 1_000 % 8) as usize],
+            Kind::Full => [STEPS, 3, STEPS, YARD, STEPS, 40, STEPS, STEPS_BEFORE][(seed / 1_000 % 8) as usize],
         };
         let span = random.pick(&[5, 300, 900_000]);
         let hidden = (0..steps).map(|_| random.between(0, span)).collect();
@@ -93,7 +96,7 @@ impl Writer {
             Kind::Brim => 30,
             Kind::Chain | Kind::Full => 12,
             Kind::Wide => 60 + random.below(200),
-            Kind::Ways => 20 + random.below(60),
+            Kind::Ways | Kind::Yard => 20 + random.below(60),
             _ => 8 + random.below(50),
         };
         let script = Script::new(kind == Kind::Mixed, &mut random);
@@ -228,16 +231,17 @@ impl Writer {
     }
 
     fn call(&mut self, office: &Office) -> Act {
-        // How often each: Open, Watch, Add, Mark, Back, Withdraw, Trial, Consequences, Ring check, Last day.
-        let weights: [usize; 10] = match self.kind {
-            Kind::Levels => [1, 2, 30, 35, 28, 20, 4, 4, 4, 8],
-            Kind::Watching => [1, 40, 25, 4, 4, 8, 4, 20, 2, 2],
-            Kind::Wide => [0, 10, 60, 5, 4, 12, 8, 2, 6, 4],
-            Kind::Ways => [1, 2, 50, 6, 4, 12, 20, 2, 16, 2],
-            Kind::Edges => [12, 14, 34, 8, 8, 12, 16, 8, 10, 8],
-            Kind::Mixed => [1, 12, 30, 12, 14, 24, 10, 8, 6, 14],
-            Kind::Chain | Kind::Full | Kind::Brim => [0, 5, 20, 10, 8, 14, 20, 5, 20, 6],
-            _ => [2, 12, 40, 9, 8, 14, 10, 9, 12, 8],
+        // How often each: Open, Watch, Add, Mark, Back, Withdraw, Trial, Consequences, Ring check, Last day, Gap.
+        let weights: [usize; 11] = match self.kind {
+            Kind::Levels => [1, 2, 30, 35, 28, 20, 4, 4, 4, 8, 6],
+            Kind::Watching => [1, 40, 25, 4, 4, 8, 4, 20, 2, 2, 4],
+            Kind::Wide => [0, 10, 60, 5, 4, 12, 8, 2, 6, 4, 2],
+            Kind::Ways => [1, 2, 50, 6, 4, 12, 20, 2, 16, 2, 8],
+            Kind::Edges => [12, 14, 34, 8, 8, 12, 16, 8, 10, 8, 10],
+            Kind::Mixed => [1, 12, 30, 12, 14, 24, 10, 8, 6, 14, 3],
+            Kind::Yard => [1, 2, 60, 12, 8, 16, 6, 3, 3, 2, 24],
+            Kind::Chain | Kind::Full | Kind::Brim => [0, 5, 20, 10, 8, 14, 20, 5, 20, 6, 3],
+            _ => [2, 12, 40, 9, 8, 14, 10, 9, 12, 8, 10],
         };
         let mut chosen = self.random.below(weights.iter().sum());
         let mut which = 0;
@@ -255,7 +259,31 @@ impl Writer {
             6 => Act::Trial(self.rule(office)),
             7 => Act::Consequences,
             8 => self.ring_check(office),
-            _ => Act::LastDay,
+            9 => Act::LastDay,
+            _ => self.gap(office),
+        }
+    }
+
+    /// A pair of steps, now and then one of them none. Some of these would be steps, were they cut to 16 bits.
+    fn gap(&mut self, office: &Office) -> Act {
+        let steps = office.counts().steps.clamp(1, STEPS as u32);
+        let (x, y) = (self.random.below(steps as usize) as u32, self.random.below(steps as usize) as u32);
+        let past = self.random.pick(&[steps, steps + 1, YARD as u32 - 1, YARD as u32, 65_536, 65_537, u32::MAX]);
+        match self.random.below(12) {
+            0 => Act::Gap(past, y),
+            1 => Act::Gap(x, past),
+            2 => Act::Gap(x, x),
+            _ => Act::Gap(x, y),
+        }
+    }
+
+    /// An amount by which a rule x, y, c says nothing more than the others do, or a little; or with which it just fits, or does not.
+    fn at_the_limit(&mut self, office: &Office, x: usize, y: usize) -> i64 {
+        let cell = |x: usize, y: usize| office.shelf.gaps.part().get(x).and_then(|row| row.get(y)).copied().filter(|cell| *cell != NO_LIMIT);
+        match (cell(x, y), cell(y, x)) {
+            (Some(limit), _) if self.random.chance(500) => limit.clamp(-1_000_000, 1_000_000) + self.random.between(-2, 1),
+            (_, Some(back)) => -back.clamp(-1_000_000, 1_000_000) + self.random.pick(&[-1, 0, 1, 5]),
+            _ => self.random.between(-4, 6),
         }
     }
 
@@ -284,6 +312,7 @@ impl Writer {
         match self.kind {
             Kind::Edges => self.random.pick(&[0, 1, 2, 3, all - 1, all, all + 1, 65_536, u32::MAX]),
             Kind::Mixed => self.random.pick(&[all, all, all - 1, STEPS_BEFORE as u32, 3]),
+            Kind::Yard => self.random.pick(&[1, 15, 16, 16, 17, 18]),
             _ => self.random.pick(&[0, 1, 2, 4, 8, office.counts().steps, all + 1]),
         }
     }
@@ -337,6 +366,7 @@ impl Writer {
             }
             Kind::Chain => self.random.pick(&[1_000_000, -1_000_000, 0, -1]),
             Kind::Watching | Kind::Levels => self.random.between(-4, 6),
+            Kind::Yard if self.random.chance(700) => self.at_the_limit(office, x, y),
             _ if self.random.chance(200) => tight + self.random.between(-2, 2),
             _ => self.random.between(-3, 4),
         };

@@ -1,7 +1,7 @@
 //! Sound states of several shapes, for damage to begin from, and the calls that are made after it.
 
 use crate::acts::Act;
-use crate::office::{Field, Place, STEPS};
+use crate::office::{Field, Place, STEPS, YARD};
 use crate::sequences::rule;
 
 pub struct Shape {
@@ -15,7 +15,7 @@ pub struct Shape {
 }
 
 pub fn all() -> Vec<Shape> {
-    vec![one_step(), rings_of_zero(), holes(), all_places(), chain(), declared(), contradictory(), many_names()]
+    vec![one_step(), rings_of_zero(), holes(), one_yard(), wider(), all_places(), chain(), declared(), contradictory(), many_names()]
 }
 
 fn add(x: usize, y: usize, c: i64) -> Act {
@@ -34,6 +34,9 @@ fn say(text: &str) -> Act {
 fn every_call() -> Vec<Act> {
     vec![
         Act::LastDay,
+        Act::Gap(0, 0),
+        Act::Gap(0, 1),
+        Act::Gap(YARD as u32, 0),
         Act::Trial(rule(0, 0, 0)),
         Act::Trial(rule(0, 0, -1)),
         Act::Consequences,
@@ -48,10 +51,13 @@ fn every_call() -> Vec<Act> {
         Act::Back,
         Act::Withdraw(1),
         Act::LastDay,
+        Act::Gap(0, 1),
         say("(check-sat)"),
         Act::Start,
+        Act::Gap(0, 1),
         Act::Open(2),
         Act::LastDay,
+        Act::Gap(0, 1),
     ]
 }
 
@@ -130,6 +136,28 @@ fn holes() -> Shape {
     Shape { name: "free places between rules", acts, calls: calls.concat(), changes }
 }
 
+/// Rules over so many steps: some of them in a ring with days to spare, others that lead to it or from it, and one that stands alone.
+fn yard(steps: usize) -> Vec<Act> {
+    let ring = steps / 2;
+    let mut acts = vec![Act::SetField(Field::Names, 0), Act::Open(steps as u32)];
+    acts.extend((1..ring).map(|step| add(step - 1, step, -2)));
+    acts.push(add(ring - 1, 0, 1_000));
+    acts.push(Act::Mark);
+    acts.extend((ring..steps - 1).map(|step| if step % 2 == 0 { add(step, step - ring, 7) } else { add(step - ring, step, -1_000_000) }));
+    acts.extend([watch(0, ring - 1, -3), Act::Mark, add(1, 0, 30)]);
+    acts
+}
+
+/// As many steps as one yard has: every cell of the gap table is kept.
+fn one_yard() -> Shape {
+    Shape { name: "one yard", acts: yard(YARD), calls: every_call(), changes: Vec::new() }
+}
+
+/// A step more than one yard has: no cell of the gap table is kept.
+fn wider() -> Shape {
+    Shape { name: "a step more than one yard", acts: yard(YARD + 1), calls: every_call(), changes: Vec::new() }
+}
+
 /// Every place held, one of them by a later rule.
 fn all_places() -> Shape {
     let half = reader::RULES / 2;
@@ -154,6 +182,7 @@ fn all_places() -> Shape {
         Act::Withdraw(4_095),
         add(1, 0, 1),
         Act::Withdraw(0),
+        Act::Gap(1, 0),
         add(2, 0, 1),
         Act::Back,
         Act::LastDay,

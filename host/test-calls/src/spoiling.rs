@@ -1,7 +1,7 @@
 //! What the caller of a sequence does to what it lends.
 
 use crate::acts::Act;
-use crate::office::{Field, Office, Place, STEPS, STEPS_BEFORE, WATCHED};
+use crate::office::{Field, Office, Place, NO_LIMIT, STEPS, STEPS_BEFORE, WATCHED, YARD};
 use crate::sequences::{Kind, Writer};
 
 impl Writer {
@@ -34,6 +34,9 @@ impl Writer {
                     (Wxs, counts.watched),
                     (Wys, counts.watched),
                     (Wcs, counts.watched),
+                    (Gaps, counts.steps),
+                    (Gaps, counts.steps),
+                    (Gaps, counts.steps),
                 ];
                 let (place, used) = self.random.pick(if mixed { &cells } else { &cells[2..] });
                 // One in ten stands past the count, or is free.
@@ -41,6 +44,7 @@ impl Writer {
                 let past = used == 0 || self.random.chance(100);
                 let at = match place {
                     Xs | Ys | Cs | Levels => self.place(office, past),
+                    Gaps => self.gap_cell(used, past),
                     _ if past => used,
                     _ => self.random.below(used),
                 };
@@ -52,6 +56,7 @@ impl Writer {
                 self.undo = Some(Act::Set(place, at, old));
                 let new = match place {
                     Levels => self.random.pick(&[old + 1, old - 1, 0, 1, deepest, deepest + 1, 255]),
+                    Gaps => self.random.pick(&[old.wrapping_add(1), old.wrapping_sub(1), old.wrapping_add(1_000), 0, -1, NO_LIMIT, i64::MIN]),
                     _ => self.random.pick(&[old + 1, old - 1, 0, old + 1_000_000, -1, 65_535, 2_147_483_647, old + 7]),
                 };
                 Act::Set(place, at, new)
@@ -63,6 +68,12 @@ impl Writer {
                 Act::Lend(place, self.random.pick(&[place.room() - 1, place.room() - 1, place.room(), place.room_for(STEPS_BEFORE), 0, 1]))
             }
         }
+    }
+
+    /// A cell of the gap table: one that is kept with so many steps, or any.
+    fn gap_cell(&mut self, steps: usize, any: bool) -> usize {
+        let side = if any { YARD } else { steps.min(YARD) };
+        YARD * self.random.below(side) + self.random.below(side)
     }
 
     /// A place for rules: one that is held, or a free one; the last one of all, and the room beyond, count as free.

@@ -6,7 +6,7 @@ use crate::engine::{Given, CONFLICT};
 use crate::office::{Lent, Office};
 use crate::sequences::{Kind, Writer};
 use crate::shorten::report;
-use crate::{damage, pairs, reasons, rings, third, withdrawals, Options};
+use crate::{damage, gaps, pairs, reasons, rings, third, withdrawals, Options};
 use common::peers::Question;
 use common::tally;
 use std::collections::BTreeMap;
@@ -53,6 +53,11 @@ impl Tally {
             let further = match act {
                 Act::RingCheck(..) if given.number == 0 && given.one == 1 => "Ring check, yes",
                 Act::LastDay if given.number == 0 && given.one > 0 => "Last day, not 0",
+                Act::Gap(x, y) if given.number == 0 && x != y => match (given.one, given.two) {
+                    (0, _) => "Gap, no limit",
+                    (_, limit) if limit < 0 => "Gap, a limit below 0",
+                    _ => "Gap, another limit",
+                },
                 Act::Add(_) | Act::Trial(_) if given.number == CONFLICT => match given.one {
                     0..=2 => "Conflict, up to 2 rules",
                     3..=15 => "Conflict, 3 to 15 rules",
@@ -76,6 +81,7 @@ pub fn all(options: &Options) -> Tally {
     reasons::all(options.seed, &mut tally);
     took("reasons");
     withdrawals::all(&mut tally);
+    gaps::all(&mut tally);
     rings::all(&mut tally);
     took("long rings");
     damage::all(options, &mut tally);
@@ -168,7 +174,7 @@ pub fn show(kind: Kind, seed: u64) {
 
 /// Every number that a call can give was given, where there were enough sequences. One test for each call.
 fn every_answer(enough: bool, tally: &mut Tally) {
-    const CAN: [(&str, &[u32]); 21] = [
+    const CAN: [(&str, &[u32]); 25] = [
         ("Open", &[0, 1, 3]),
         ("Watch", &[0, 1, 2, 3, 4, 5]),
         ("Add", &[0, 1, 2, 3, 4, 5, 6]),
@@ -188,6 +194,10 @@ fn every_answer(enough: bool, tally: &mut Tally) {
         ("Ring check, yes", &[0]),
         ("Last day", &[0, 1, 2]),
         ("Last day, not 0", &[0]),
+        ("Gap", &[0, 1, 2, 3, 15]),
+        ("Gap, no limit", &[0]),
+        ("Gap, a limit below 0", &[0]),
+        ("Gap, another limit", &[0]),
         ("start", &[0, 1]),
         ("command", &[0, 1, 2, 4, 5, 7, 8, 9, 10, 11]),
     ];

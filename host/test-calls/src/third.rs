@@ -1,9 +1,10 @@
 //! z3 as a third opinion on whole problems: the rules held at the end of a sequence. They are satisfiable, the days keep them, and no plan has an earlier day; some
-//! plan ends on the last day and none before it; a rule fits as Trial says; a watched rule holds in every arrangement or in none as Consequences says.
+//! plan ends on the last day and none before it; a rule fits as Trial says; a watched rule holds in every arrangement or in none as Consequences says; and in one yard every
+//! pair has the limit that Gap says.
 
 use crate::acts::Act;
 use crate::compare::Both;
-use crate::engine::{is_sound, CONFLICT};
+use crate::engine::{is_sound, yard, CONFLICT};
 use crate::office::{Office, Place};
 use crate::sequences::rule;
 use common::peers::{self, Question};
@@ -14,6 +15,9 @@ use std::path::Path;
 
 /// Problems with more rules take z3 long; a chain over all steps has fewer.
 const RULES: u32 = 1_100;
+
+/// Far beyond what rules of one yard can add up to.
+const FAR: i64 = 1_000_000_000;
 
 /// The question that the problem at the end of a sequence makes, where there is a whole one.
 pub fn question(seed: u64, both: &Both) -> Option<Question> {
@@ -35,6 +39,7 @@ pub fn question(seed: u64, both: &Both) -> Option<Question> {
     problem.days(office);
     problem.trials(seed, both);
     problem.watched(both);
+    problem.limits(both);
     Some(Question { name: format!("sequence {}", seed), text: problem.text.into_bytes(), wanted: problem.wanted, shown: String::new() })
 }
 
@@ -102,6 +107,31 @@ impl Problem {
             self.with(&atom("<=", watched), satisfiable(none.contains(&number)));
         }
     }
+
+    /// What Gap gives for every pair of one yard. All rules x, y, c with their limits follow, so that no arrangement breaks one of them. None follows with less: for each
+    /// step y some arrangement has every other step x as far after it as the limit allows, and very far where there is none.
+    fn limits(&mut self, both: &Both) {
+        let mut both = both.clone();
+        let steps = yard(both.office()).unwrap_or(0) as u32;
+        let mut broken = vec!["false".to_string()];
+        for y in 0..steps {
+            let mut far = vec!["true".to_string()];
+            for x in 0..steps {
+                match both.make(&Act::Gap(x, y)) {
+                    Ok(given) if given.number == DONE && given.one == 1 => {
+                        broken.push(apart(">", x, y, given.two));
+                        far.push(apart(">=", x, y, given.two));
+                    }
+                    Ok(given) if given.number == DONE => far.push(apart(">=", x, y, FAR)),
+                    _ => return,
+                }
+            }
+            self.with(&format!("(and {})", far.join(" ")), "sat");
+        }
+        if steps > 0 {
+            self.with(&format!("(or {})", broken.join(" ")), "unsat");
+        }
+    }
 }
 
 fn has_room(office: &Office) -> bool {
@@ -109,8 +139,12 @@ fn has_room(office: &Office) -> bool {
 }
 
 fn atom(operator: &str, rule: Rule) -> String {
-    let amount = if rule.amount < 0 { format!("(- {})", -i64::from(rule.amount)) } else { rule.amount.to_string() };
-    format!("({} (- s{} s{}) {})", operator, rule.first, rule.second, amount)
+    apart(operator, rule.first, rule.second, rule.amount.into())
+}
+
+fn apart(operator: &str, x: u32, y: u32, days: i64) -> String {
+    let days = if days < 0 { format!("(- {})", -days) } else { days.to_string() };
+    format!("({} (- s{} s{}) {})", operator, x, y, days)
 }
 
 /// Asks all in one process. An error is the first sequence on which z3 says otherwise.

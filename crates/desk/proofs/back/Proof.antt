@@ -3,7 +3,14 @@ use Prim.Native.Nat.{ℕ}
 use mathlib.Core.Path.{refl}
 use lib.ListN.{length-replicate}
 use Rattle.meaning.specs.Bounds.{STEPS, RULES}
-use Rattle.desk.proofs.Entering.{entered, refused-alone}
+use Rattle.desk.proofs.Entering.{entered, right-entered, refused-alone}
+use Rattle.meaning.specs.Tables.{Tables}
+use Rattle.meaning.specs.Calls.{back-meaning}
+use Rattle.meaning.specs.Runs.{Call}
+use Rattle.lent.specs.Lent.{tables}
+use Rattle.lent.proofs.Watching.{idle-border}
+use Rattle.gaps.proofs.Lifting.{lift-remaking}
+use Rattle.desk.proofs.Gapping.{still-border, remade-watching}
 use native.Mathlib.Omega.{arith}
 use borrow.Author.Needs.{needs}
 use Rattle.desk.proofs.back.Statement.{statement}
@@ -13,6 +20,12 @@ use Rattle.desk.proofs.back.Lts as lts
 use Rattle.desk.proofs.verdict.Reads as verdict-reads
 use Rattle.inner_back.proofs.back.Reads as back-reads
 use Rattle.meaning.proofs.refused.Reads as refused-reads
+
+-- The tables as they were lent.
+abbrev lent-at : tie.Start → Tables
+lent-at s =
+    tables (s .args .counts) (s .args .xs .now) (s .args .ys .now) (s .args .cs .now) (s .args .days .now) (s .args .levels .now)
+    (s .args .wxs .now) (s .args .wys .now) (s .args .wcs .now)
 
 slice-aggregate-verdict : tie.Need-slice-aggregate-verdict
 slice-aggregate-verdict c = search needs
@@ -33,7 +46,7 @@ same-length-2 : tie.Need-same-length-2
 same-length-2 c = search needs
 
 returns : tie.Need-returns
-returns c = rw (c .refused .ensures) (refused-alone _ _ _ _ _ (c .before .before .before .before .verdict .ensures) _ _ (omega (arith, c .before .if1 .taken)) refl (λ f. f))
+returns c = rw (c .refused .ensures) (refused-alone _ _ _ _ _ _ (c .before .before .before .before .verdict .ensures) _ _ (omega (arith, c .before .if1 .taken)) refl (λ f. f))
 
 slice-aggregate-back : tie.Need-slice-aggregate-back
 slice-aggregate-back c = search needs
@@ -45,7 +58,13 @@ back-requires : tie.Need-back-requires
 back-requires c κs =
     let else1 = c .before .before .before .before in
     let verdict = else1 .before .before .before .verdict in
-    (entered _ _ _ _ _ (verdict .ensures) (omega (arith, else1 .if1 .left)), verdict .ensures .chained (omega (arith, else1 .if1 .left)))
+    (entered _ _ _ _ _ _ (verdict .ensures) (omega (arith, else1 .if1 .left)), verdict .ensures .chained (omega (arith, else1 .if1 .left)))
+
+gaps-afresh-requires : tie.Need-gaps-afresh-requires
+gaps-afresh-requires c κs done =
+    let start = c .before .before .before .before .before .before .before .before .before .before .before .before .before .before .before .before .before .before .before .before .before .before .before .before .before .before .before .before .before in
+    let at-verdict = c .before .before .before .before .before .before .before .before .before .before .before .before .before .before .before .before .before .verdict in
+    idle-border (still-border Call.goes-back (lent-at start) _ _ (c .before .before .before .before .before .before .before .before .before .back .ensures) (entered _ _ _ _ _ _ (at-verdict .ensures) (omega (arith, c .before .before .before .before .before .before .before .before .before .before .before .before .before .before .if1 .left))))
 
 same-length-3 : tie.Need-same-length-3
 same-length-3 c = search needs
@@ -54,7 +73,11 @@ same-length-4 : tie.Need-same-length-4
 same-length-4 c = search needs
 
 returns-2 : tie.Need-returns-2
-returns-2 c = search needs
+returns-2 c =
+    let start = c .before .before .before .before .before .before .before .before .before .before .before .before .before .before .before .before .before .before .before .before .before .before .before .before .before .before .before .before .before .before in
+    let gaps-afresh = c .gaps-afresh in
+    lift-remaking (back-meaning (lent-at start)) (lent-at start) (start .args .gaps .now) (right-entered _ _ _ _ _ _ (c .before .before .before .before .before .before .before .before .before .before .before .before .before .before .before .before .before .before .verdict .ensures) (omega (arith, c .before .before .before .before .before .before .before .before .before .before .before .before .before .before .before .if1 .left))) (lent-at start) _ _ (λ t. t) _ (c .before .before .before .before .before .before .before .before .before .before .back .ensures)
+    (λ done. remade-watching _ _ _ _ _ _ (start .args .wxs .now) (start .args .wys .now) (start .args .wcs .now) _ _ (gaps-afresh .ensures .when-done done)) (gaps-afresh .ensures .else-stays)
 
 pub back-spec : {M : Type 1} → statement M
 back-spec =
@@ -70,6 +93,7 @@ back-spec =
     slice-aggregate-back
     slice-aggregate-back-2
     back-requires
+    gaps-afresh-requires
     same-length-3
     same-length-4
     returns-2)

@@ -16,7 +16,7 @@ use Rattle.meaning.proofs.Places.{next-free}
 use Rattle.lent.specs.Decides.{Decides}
 use Rattle.lent.specs.Lent.{tables}
 use Rattle.inner_watch.proofs.Verdict.{rule-steps, rule-amount, rule-refused, rule-no-conflict}
-use Rattle.desk.proofs.Entering.{entered, refused-alone}
+use Rattle.desk.proofs.Entering.{entered, right-entered, refused-alone}
 use native.Mathlib.Omega.{arith}
 use borrow.Author.Needs.{needs}
 use Rattle.desk.proofs.ring_check.Statement.{statement}
@@ -65,7 +65,7 @@ abbrev verdict-before-struct-known2 : tie.After-struct-known2 → tie.After-verd
 verdict-before-struct-known2 c = c .before .before .before .before .before .before .before .before
 
 returns : tie.Need-returns
-returns c = rw (c .refused .ensures) (refused-alone _ _ _ _ _ (c .before .before .before .before .verdict .ensures) _ _ (omega (arith, c .before .if1 .taken)) refl (λ f. f))
+returns c = rw (c .refused .ensures) (refused-alone _ _ _ _ _ _ (c .before .before .before .before .verdict .ensures) _ _ (omega (arith, c .before .if1 .taken)) refl (λ f. f))
 
 rule-verdict-requires : tie.Need-rule-verdict-requires
 rule-verdict-requires c κs = search needs
@@ -82,15 +82,15 @@ returns-2 c =
     let r = rule (start .args .x) (start .args .y) (start .args .c) in
     let g = at-rule-verdict .rule-verdict .result in
     let f = rw (toZ-ofZ w32 (start .args .c) (start .fits .c)) at (at-rule-verdict .rule-verdict .ensures) in
-    let border = entered _ _ _ _ _ (at-verdict .verdict .ensures) (omega (arith, c .before .before .before .if1 .left)) in
-    rw (c .refused2 .ensures) (obeys-refused _ _ g (λ e. omega (arith, c .before .if2 .taken)) (rule-no-conflict n r g f) (inr (border .room, inr (border .sound, rule-refused n r g f [] (omega (arith, c .before .if2 .taken))))))
+    let border = entered _ _ _ _ _ _ (at-verdict .verdict .ensures) (omega (arith, c .before .before .before .if1 .left)) in
+    rw (c .refused2 .ensures) (obeys-refused _ _ g (λ e. omega (arith, c .before .if2 .taken)) (rule-no-conflict n r g f) (inr (border .room, inr (border .sound, inr (right-entered _ _ _ _ _ _ (c .before .before .before .before .before .before .verdict .ensures) (omega (arith, c .before .before .before .if1 .left)), rule-refused n r g f [] (omega (arith, c .before .if2 .taken)))))))
 
 cast-next-free : tie.Need-cast-next-free
 cast-next-free c = search needs
 
 next-free-requires : tie.Need-next-free-requires
 next-free-requires c κs =
-    let border = entered _ _ _ _ _ (c .before .before .before .before .before .before .verdict .ensures) (omega (arith, c .before .before .before .if1 .left)) in
+    let border = entered _ _ _ _ _ _ (c .before .before .before .before .before .before .verdict .ensures) (omega (arith, c .before .before .before .if1 .left)) in
     (border .room .levels-room, border .sound .rules-counted)
 
 cast-is-ring : tie.Need-cast-is-ring
@@ -99,19 +99,19 @@ cast-is-ring c = search needs
 cast-is-ring-2 : tie.Need-cast-is-ring-2
 cast-is-ring-2 c =
     let verdict = verdict-before-struct-known2 c .verdict in
-    let border = entered _ _ _ _ _ (verdict .ensures) (omega (arith, c .before .before .before .before .before .if1 .left)) in
+    let border = entered _ _ _ _ _ _ (verdict .ensures) (omega (arith, c .before .before .before .before .before .if1 .left)) in
     omega (arith, rule-steps _ _ _ (c .before .before .before .before .rule-verdict .ensures) (omega (arith, c .before .before .before .if2 .left)) .first-in, border .sound .counts-in .steps-in)
 
 cast-is-ring-3 : tie.Need-cast-is-ring-3
 cast-is-ring-3 c =
     let verdict = verdict-before-struct-known2 c .verdict in
-    let border = entered _ _ _ _ _ (verdict .ensures) (omega (arith, c .before .before .before .before .before .if1 .left)) in
+    let border = entered _ _ _ _ _ _ (verdict .ensures) (omega (arith, c .before .before .before .before .before .if1 .left)) in
     omega (arith, rule-steps _ _ _ (c .before .before .before .before .rule-verdict .ensures) (omega (arith, c .before .before .before .if2 .left)) .second-in, border .sound .counts-in .steps-in)
 
 is-ring-requires : tie.Need-is-ring-requires
 is-ring-requires c κs =
     let verdict = verdict-before-struct-known2 c .verdict in
-    let border = entered _ _ _ _ _ (verdict .ensures) (omega (arith, c .before .before .before .before .before .if1 .left)) in
+    let border = entered _ _ _ _ _ _ (verdict .ensures) (omega (arith, c .before .before .before .before .before .if1 .left)) in
     let steps = rule-steps _ _ _ (c .before .before .before .before .rule-verdict .ensures) (omega (arith, c .before .before .before .if2 .left)) in
     let start = verdict-before-struct-known2 c .before .before .before .before .before .before .before .before .before .before in (
       border .room .levels-room,
@@ -144,11 +144,11 @@ returns-3 c =
     let n = start .args .counts .steps in
     let r = rule (start .args .x) (start .args .y) (start .args .c) in
     let f = rw (toZ-ofZ w32 (start .args .c) (start .fits .c)) at (rule-verdict .ensures) in
-    let border = entered _ _ _ _ _ (at-verdict .verdict .ensures) (omega (arith, else1 .if1 .left)) in
+    let border = entered _ _ _ _ _ _ (at-verdict .verdict .ensures) (omega (arith, else1 .if1 .left)) in
     let answer = over-next r (lent-at start) _ (next-free .ensures) (rw (toZ-ofZ w32 (start .args .c) (start .fits .c)) at (c .before .before .is-ring .ensures)) in
     rw (c .done .ensures)
-    (obeys-done _ _ 1 0 _ (border .room, (border .sound, (rule-steps n r _ f (omega (arith, else2 .if2 .left)), (rule-amount n r _ f (omega (arith, else2 .if2 .left)), tt))))
-    (record { verdict = inl (refl, answer .so (c .before .if3 .taken)); no-second = refl; all-stays = refl }))
+    (obeys-done _ _ 1 0 _ (border .room, (border .sound, (right-entered _ _ _ _ _ _ (c .before .before .before .before .before .before .before .before .before .before .before .verdict .ensures) (omega (arith, c .before .before .before .before .before .before .before .before .if1 .left)), (rule-steps n r _ f (omega (arith, else2 .if2 .left)), (rule-amount n r _ f (omega (arith, else2 .if2 .left)), tt)))))
+    (record { verdict = inl (refl, answer .so (c .before .if3 .taken)); no-second = refl; all-stays = refl }, refl))
 
 done-requires-2 : tie.Need-done-requires-2
 done-requires-2 c κs = search needs
@@ -164,11 +164,11 @@ returns-4 c =
     let n = start .args .counts .steps in
     let r = rule (start .args .x) (start .args .y) (start .args .c) in
     let f = rw (toZ-ofZ w32 (start .args .c) (start .fits .c)) at (rule-verdict .ensures) in
-    let border = entered _ _ _ _ _ (at-verdict .verdict .ensures) (omega (arith, else1 .if1 .left)) in
+    let border = entered _ _ _ _ _ _ (at-verdict .verdict .ensures) (omega (arith, else1 .if1 .left)) in
     let answer = over-next r (lent-at start) _ (next-free .ensures) (rw (toZ-ofZ w32 (start .args .c) (start .fits .c)) at (c .before .before .is-ring .ensures)) in
     rw (c .done2 .ensures)
-    (obeys-done _ _ 0 0 _ (border .room, (border .sound, (rule-steps n r _ f (omega (arith, else2 .if2 .left)), (rule-amount n r _ f (omega (arith, else2 .if2 .left)), tt))))
-    (record { verdict = inr (refl, answer .not-so (c .before .if3 .left)); no-second = refl; all-stays = refl }))
+    (obeys-done _ _ 0 0 _ (border .room, (border .sound, (right-entered _ _ _ _ _ _ (c .before .before .before .before .before .before .before .before .before .before .before .verdict .ensures) (omega (arith, c .before .before .before .before .before .before .before .before .if1 .left)), (rule-steps n r _ f (omega (arith, else2 .if2 .left)), (rule-amount n r _ f (omega (arith, else2 .if2 .left)), tt)))))
+    (record { verdict = inr (refl, answer .not-so (c .before .if3 .left)); no-second = refl; all-stays = refl }, refl))
 
 pub ring-check-spec : {M : Type 1} → statement M
 ring-check-spec =

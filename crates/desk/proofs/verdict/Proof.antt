@@ -3,6 +3,7 @@ use mathlib.Core.Path.{refl, sym, _∙_}
 use mathlib.Core.Bool.{true≢false}
 use mathlib.Core.Logic.{inl, inr}
 use borrow.Author.Tests.{not-true, not-false}
+use Rattle.lent.proofs.Watching.{idle-border}
 use native.Mathlib.Omega.{arith}
 use borrow.Author.Needs.{needs}
 use Rattle.desk.proofs.verdict.Statement.{statement}
@@ -65,6 +66,13 @@ returns-3 c =
       chained = λ e. absurd (omega arith);
     }
 
+is-right-requires : tie.Need-is-right-requires
+is-right-requires c κs =
+    let is-sound = c .before .before .before .before .before .is-sound in
+    let else2 = else2-before-slice-known4 (c .before) in
+    let start = start-before-slice-known2 (else2 .before .before .before) in
+    idle-border (record { room = else2 .before .has-room .ensures (start .args .counts) .so (not-false _ (else2 .if2 .left)); sound = is-sound .ensures .decides .so (not-false _ (c .if3 .left)) })
+
 same-length-3 : tie.Need-same-length-3
 same-length-3 c = search needs
 
@@ -73,14 +81,40 @@ same-length-4 c = search needs
 
 returns-4 : tie.Need-returns-4
 returns-4 c =
-    let is-sound = c .before .before .before .before .before .is-sound in
-    let else2 = else2-before-slice-known4 (c .before) in
-    let has-room = else2 .before .has-room in
+    let else3 = c .before .before in
+    let is-sound = else3 .before .before .before .before .before .is-sound in
+    let else2 = else2-before-slice-known4 (else3 .before) in
     let else1 = else2 .before .before in
     let start = start-before-slice-known2 (else1 .before) in
     record {
-      first-unmet = inr ((not-false _ (else1 .if1 .left), has-room .ensures (start .args .counts) .so (not-false _ (else2 .if2 .left))), inr (is-sound .ensures .decides .so (not-false _ (c .if3 .left)), refl));
-      chained = λ e. is-sound .ensures .chained (not-false _ (c .if3 .left));
+      first-unmet =
+          inr (
+            (not-false _ (else1 .if1 .left), else2 .before .has-room .ensures (start .args .counts) .so (not-false _ (else2 .if2 .left))),
+            inr (is-sound .ensures .decides .so (not-false _ (else3 .if3 .left)), inl (refl, c .before .is-right .ensures .not-so (not-true _ (c .if4 .taken)))),
+          );
+      chained = λ e. absurd (omega arith);
+    }
+
+same-length-5 : tie.Need-same-length-5
+same-length-5 c = search needs
+
+same-length-6 : tie.Need-same-length-6
+same-length-6 c = search needs
+
+returns-5 : tie.Need-returns-5
+returns-5 c =
+    let else3 = c .before .before in
+    let is-sound = else3 .before .before .before .before .before .is-sound in
+    let else2 = else2-before-slice-known4 (else3 .before) in
+    let else1 = else2 .before .before in
+    let start = start-before-slice-known2 (else1 .before) in
+    record {
+      first-unmet =
+          inr (
+            (not-false _ (else1 .if1 .left), else2 .before .has-room .ensures (start .args .counts) .so (not-false _ (else2 .if2 .left))),
+            inr (is-sound .ensures .decides .so (not-false _ (else3 .if3 .left)), inr (c .before .is-right .ensures .so (not-false _ (c .if4 .left)), refl)),
+          );
+      chained = λ e. is-sound .ensures .chained (not-false _ (else3 .if3 .left));
     }
 
 pub verdict-spec : {M : Type 1} → statement M
@@ -94,6 +128,10 @@ verdict-spec =
     same-length
     same-length-2
     returns-3
+    is-right-requires
     same-length-3
     same-length-4
-    returns-4)
+    returns-4
+    same-length-5
+    same-length-6
+    returns-5)

@@ -60,19 +60,26 @@ slice-aggregate-answer-13 c = search needs
 slice-aggregate-answer-14 : tie.Need-slice-aggregate-answer-14
 slice-aggregate-answer-14 c = search needs
 
+-- Places of the code, seen from later ones.
+abbrev no-notes-before-out : tie.After-out → tie.After-no-notes
+no-notes-before-out c = c .before .before .before .before .before .before .before .before .before .before .before .before .before .before .before
+
 answer-requires : tie.Need-answer-requires
 unfolding TABLE
 answer-requires c κs =
-    let steps-alone = c .before .before .before .before .before .before .before .before .before .before .before .before .before .before .before .before .steps-alone in
-    let no-notes = c .before .before .before .before .before .before .before .before .before .before .before .before .before .before .before .no-notes in
+    let at-no-notes = no-notes-before-out c in
+    let no-notes = at-no-notes .no-notes in
+    let steps-alone = at-no-notes .before .steps-alone in
     (refl, (hand-kept (zeros 20480) (steps-alone .result) (no-notes .result) (steps-alone .ensures) (no-notes .ensures), omega (arith, length-replicate {A = ℕ} 20480 0)))
 
 returns : tie.Need-returns
 returns c =
-    let start = c .before .before .before .before .before .before .before .before .before .before .before .before .before .before .before .before .before .before .before .before .before .before .before .before .before .before .before .before .before .before .before .before .before in
-    let steps-alone = c .before .before .before .before .before .before .before .before .before .before .before .before .before .before .before .before .before .before .before .before .before .before .before .before .before .before .before .before .before .before .before .steps-alone in
-    let no-notes = c .before .before .before .before .before .before .before .before .before .before .before .before .before .before .before .before .before .before .before .before .before .before .before .before .before .before .before .before .before .before .no-notes in
-    let answer = c .before .before .before .before .before .before .before .before .before .before .before .before .before .before .answer in
+    let at-answer = c .before .before .before .before .before .before .before .before .before .before .before .before .before .before in
+    let answer = at-answer .answer in
+    let at-no-notes = no-notes-before-out (at-answer .before) in
+    let no-notes = at-no-notes .no-notes in
+    let steps-alone = at-no-notes .before .steps-alone in
+    let start = at-no-notes .before .before .before in
     (zeros 20480, subst (λ (l : Lent). Ends (start .args .s .now) 0 l (answer .result)) (hand-blank (zeros 20480) (steps-alone .result) (no-notes .result) (steps-alone .ensures) (no-notes .ensures)) (answer .ensures))
 
 pub play-spec : {M : Type 1} → statement M

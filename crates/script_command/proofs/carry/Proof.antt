@@ -16,10 +16,18 @@ use Rattle.script_command.proofs.carry.Tie as tie
 form-of-requires : tie.Need-form-of-requires
 form-of-requires c κs = search needs
 
+-- Places of the code, seen from later ones.
+abbrev start-before-form-of : tie.After-form-of → tie.Start
+start-before-form-of c = c .before .before .before .before .before .before .before .before .before .before .before .before .before .before .before
+
+abbrev perform-before-slice-known26 : tie.After-slice-known26 → tie.After-perform
+perform-before-slice-known26 c = c .before .before .before .before .before .before .before .before .before .before .before .before .before .before .before .before .before .before .before .before .before .before .before .before .before .before .before
+
 judge-requires : tie.Need-judge-requires
 judge-requires c κs =
-    let start = c .before .before .before .before .before .before .before .before .before .before .before .before .before .before .before .before .before .before .before .before in
-    let form-of = c .before .before .before .before .before .form-of in
+    let at-form-of = c .before .before .before .before .before in
+    let form-of = at-form-of .form-of in
+    let start = start-before-form-of at-form-of in
     let args = start .args in
     let before = in-hand (args .counts) (args .xs .now) (args .ys .now) (args .cs .now) (args .days .now) (args .levels .now) (args .notes) (args .names .now) (args .lens .now) (args .out .now) in
     let m = start .pre .1 .0 in
@@ -43,9 +51,10 @@ same-length-5 c = search needs
 
 returns : tie.Need-returns
 returns c =
-    let start = c .before .before .before .before .before .before .before .before .before .before .before .before .before .before .before .before .before .before .before .before .before .before in
     let judge = c .before .judge in
-    let form-of = c .before .before .before .before .before .before .before .form-of in
+    let at-form-of = c .before .before .before .before .before .before .before in
+    let form-of = at-form-of .form-of in
+    let start = start-before-form-of at-form-of in
     let if1 = c .if1 in
     let args = start .args in
     let before = in-hand (args .counts) (args .xs .now) (args .ys .now) (args .cs .now) (args .days .now) (args .levels .now) (args .notes) (args .names .now) (args .lens .now) (args .out .now) in (
@@ -60,10 +69,12 @@ returns c =
 
 perform-requires : tie.Need-perform-requires
 perform-requires c κs =
-    let start = c .before .before .before .before .before .before .before .before .before .before .before .before .before .before .before .before .before .before .before .before .before .before .before .before .before .before .before .before .before .before .before .before .before .before .before .before in
-    let judge = c .before .before .before .before .before .before .before .before .before .before .before .before .before .before .before .judge in
-    let if1 = c .before .before .before .before .before .before .before .before .before .before .before .before .before .before .if1 in
-    let form-of = c .before .before .before .before .before .before .before .before .before .before .before .before .before .before .before .before .before .before .before .before .before .form-of in
+    let else1 = c .before .before .before .before .before .before .before .before .before .before .before .before .before .before in
+    let if1 = else1 .if1 in
+    let judge = else1 .before .judge in
+    let at-form-of = else1 .before .before .before .before .before .before .before in
+    let form-of = at-form-of .form-of in
+    let start = start-before-form-of at-form-of in
     let args = start .args in
     let before = in-hand (args .counts) (args .xs .now) (args .ys .now) (args .cs .now) (args .days .now) (args .levels .now) (args .notes) (args .names .now) (args .lens .now) (args .out .now) in
     let none : judge .result ≡ DONE = omega (arith, if1 .left) in
@@ -71,57 +82,57 @@ perform-requires c κs =
 
 same-length-6 : tie.Need-same-length-6
 same-length-6 c =
-    let perform = c .before .before .before .before .before .before .before .before .before .before .before .before .before .before .before .before .before .before .before .before .before .before .before .before .before .before .before .perform in
+    let perform = perform-before-slice-known26 c .perform in
     perform .kept .1 .1 .1 .1 .1 .0
 
 same-length-7 : tie.Need-same-length-7
 same-length-7 c =
-    let perform = c .before .before .before .before .before .before .before .before .before .before .before .before .before .before .before .before .before .before .before .before .before .before .before .before .before .before .before .perform in
+    let perform = perform-before-slice-known26 c .perform in
     perform .kept .1 .1 .1 .1 .1 .1 .0
 
 same-length-8 : tie.Need-same-length-8
 same-length-8 c =
-    let perform = c .before .before .before .before .before .before .before .before .before .before .before .before .before .before .before .before .before .before .before .before .before .before .before .before .before .before .before .perform in
+    let perform = perform-before-slice-known26 c .perform in
     perform .kept .1 .1 .1 .1 .1 .1 .1 .0
 
 same-length-9 : tie.Need-same-length-9
 same-length-9 c =
-    let perform = c .before .before .before .before .before .before .before .before .before .before .before .before .before .before .before .before .before .before .before .before .before .before .before .before .before .before .before .perform in
+    let perform = perform-before-slice-known26 c .perform in
     perform .kept .1 .1 .1 .1 .1 .1 .1 .1 .0
 
 same-length-10 : tie.Need-same-length-10
 same-length-10 c =
-    let perform = c .before .before .before .before .before .before .before .before .before .before .before .before .before .before .before .before .before .before .before .before .before .before .before .before .before .before .before .perform in
+    let perform = perform-before-slice-known26 c .perform in
     perform .kept .1 .1 .1 .1 .1 .1 .1 .1 .1 .0
 
 same-length-11 : tie.Need-same-length-11
 same-length-11 c =
-    let perform = c .before .before .before .before .before .before .before .before .before .before .before .before .before .before .before .before .before .before .before .before .before .before .before .before .before .before .before .perform in
+    let perform = perform-before-slice-known26 c .perform in
     perform .kept .1 .1 .1 .1 .1 .1 .1 .1 .1 .1 .0
 
 same-length-12 : tie.Need-same-length-12
 same-length-12 c =
-    let perform = c .before .before .before .before .before .before .before .before .before .before .before .before .before .before .before .before .before .before .before .before .before .before .before .before .before .before .before .perform in
+    let perform = perform-before-slice-known26 c .perform in
     perform .kept .1 .1 .1 .1 .1 .1 .1 .1 .1 .1 .1 .0
 
 same-length-13 : tie.Need-same-length-13
 same-length-13 c =
-    let perform = c .before .before .before .before .before .before .before .before .before .before .before .before .before .before .before .before .before .before .before .before .before .before .before .before .before .before .before .perform in
+    let perform = perform-before-slice-known26 c .perform in
     perform .kept .1 .1 .1 .1 .1 .1 .1 .1 .1 .1 .1 .1 .0
 
 same-length-14 : tie.Need-same-length-14
 same-length-14 c =
-    let perform = c .before .before .before .before .before .before .before .before .before .before .before .before .before .before .before .before .before .before .before .before .before .before .before .before .before .before .before .perform in
+    let perform = perform-before-slice-known26 c .perform in
     perform .kept .1 .1 .1 .1 .1 .1 .1 .1 .1 .1 .1 .1 .1 .0
 
 same-length-15 : tie.Need-same-length-15
 same-length-15 c =
-    let perform = c .before .before .before .before .before .before .before .before .before .before .before .before .before .before .before .before .before .before .before .before .before .before .before .before .before .before .before .perform in
+    let perform = perform-before-slice-known26 c .perform in
     perform .kept .1 .1 .1 .1 .1 .1 .1 .1 .1 .1 .1 .1 .1 .1 .0
 
 same-length-16 : tie.Need-same-length-16
 same-length-16 c =
-    let perform = c .before .before .before .before .before .before .before .before .before .before .before .before .before .before .before .before .before .before .before .before .before .before .before .before .before .before .before .perform in
+    let perform = perform-before-slice-known26 c .perform in
     perform .kept .1 .1 .1 .1 .1 .1 .1 .1 .1 .1 .1 .1 .1 .1 .1 .0
 
 same-length-17 : tie.Need-same-length-17
@@ -135,11 +146,14 @@ same-length-19 c = search needs
 
 returns-2 : tie.Need-returns-2
 returns-2 c =
-    let start = c .before .before .before .before .before .before .before .before .before .before .before .before .before .before .before .before .before .before .before .before .before .before .before .before .before .before .before .before .before .before .before .before .before .before .before .before .before .before .before .before .before .before .before .before .before .before .before .before .before .before .before .before .before .before .before .before .before .before .before .before .before .before .before .before in
-    let perform = c .before .before .before .before .before .before .before .before .before .before .before .before .before .before .before .before .before .before .before .before .before .before .before .before .before .before .before .perform in
-    let form-of = c .before .before .before .before .before .before .before .before .before .before .before .before .before .before .before .before .before .before .before .before .before .before .before .before .before .before .before .before .before .before .before .before .before .before .before .before .before .before .before .before .before .before .before .before .before .before .before .before .before .form-of in
-    let judge = c .before .before .before .before .before .before .before .before .before .before .before .before .before .before .before .before .before .before .before .before .before .before .before .before .before .before .before .before .before .before .before .before .before .before .before .before .before .before .before .before .before .before .before .judge in
-    let if1 = c .before .before .before .before .before .before .before .before .before .before .before .before .before .before .before .before .before .before .before .before .before .before .before .before .before .before .before .before .before .before .before .before .before .before .before .before .before .before .before .before .before .before .if1 in
+    let at-perform = c .before .before .before .before .before .before .before .before .before .before .before .before .before .before .before .before .before .before .before .before .before .before .before .before .before .before .before in
+    let perform = at-perform .perform in
+    let else1 = at-perform .before .before .before .before .before .before .before .before .before .before .before .before .before .before .before in
+    let if1 = else1 .if1 in
+    let judge = else1 .before .judge in
+    let at-form-of = else1 .before .before .before .before .before .before .before in
+    let form-of = at-form-of .form-of in
+    let start = at-form-of .before .before .before .before .before .before .before .before .before .before .before .before .before .before .before in
     let args = start .args in
     let before = in-hand (args .counts) (args .xs .now) (args .ys .now) (args .cs .now) (args .days .now) (args .levels .now) (args .notes) (args .names .now) (args .lens .now) (args .out .now) in
     let e = perform .ensures in

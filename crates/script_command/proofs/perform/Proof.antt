@@ -21,6 +21,22 @@ use Rattle.script_command.proofs.perform.Tie as tie
 cast-n : tie.Need-cast-n
 cast-n c = search needs
 
+-- Places of the code, seen from later ones.
+abbrev declare-before-is-exit : tie.After-is-exit → tie.After-declare
+declare-before-is-exit c = c .before .before .before .before .before .before .before .before .before .before .before .before .before
+
+abbrev move-tables-before-now : tie.After-now → tie.After-move-tables
+move-tables-before-now c = c .before .before .before .before .before .before .before .before .before .before .before .before .before .before .before .before .before .before .before .before .before .before .before .before .before .before .before .before .before .before .before .before
+
+abbrev move-tables-before-is-exit : tie.After-is-exit → tie.After-move-tables
+move-tables-before-is-exit c = move-tables-before-now (c .before .before)
+
+abbrev start-before-move-tables-arg13 : tie.After-move-tables-arg13 → tie.Start
+start-before-move-tables-arg13 c = c .before .before .before .before .before .before .before .before .before .before .before .before .before .before .before .before .before .before .before .before .before .before .before .before .before .before .before .before .before .before .before .before .before .before .before .before .before .before
+
+abbrev print-before-is-exit : tie.After-is-exit → tie.After-print
+print-before-is-exit c = move-tables-before-is-exit c .before .before .before .before .before .before .before .before .before .before .before .before .before .before .before .before
+
 print-requires : tie.Need-print-requires
 print-requires c κs =
     let start = c .before .before .before .before .before .before .before .before .before .before .before .before .before .before .before .before .before .before .before .before .before .before in
@@ -50,7 +66,7 @@ print-requires c κs =
 
 move-tables-requires : tie.Need-move-tables-requires
 move-tables-requires c κs =
-    let start = c .before .before .before .before .before .before .before .before .before .before .before .before .before .before .before .before .before .before .before .before .before .before .before .before .before .before .before .before .before .before .before .before .before .before .before .before .before .before in
+    let start = start-before-move-tables-arg13 c in
     let args = start .args in
     let before = in-hand (args .counts) (args .xs .now) (args .ys .now) (args .cs .now) (args .days .now) (args .levels .now) (args .notes) (args .names .now) (args .lens .now) (args .out .now) in
     let m = start .pre .1 .1 .1 .0 in
@@ -71,7 +87,7 @@ move-tables-requires c κs =
 
 declare-requires : tie.Need-declare-requires
 declare-requires c κs =
-    let start = c .before .before .before .before .before .before .before .before .before .before .before .before .before .before .before .before .before .before .before .before .before .before .before .before .before .before .before .before .before .before .before .before .before .before .before .before .before .before .before .before .before .before .before .before .before .before .before .before .before .before .before .before .before .before .before .before .before .before .before in
+    let start = start-before-move-tables-arg13 (c .before .before .before .before .before .before .before .before .before .before .before .before .before .before .before .before .before .before .before .before .before) in
     let args = start .args in
     let before = in-hand (args .counts) (args .xs .now) (args .ys .now) (args .cs .now) (args .days .now) (args .levels .now) (args .notes) (args .names .now) (args .lens .now) (args .out .now) in
     let m = start .pre .1 .1 .1 .0 in
@@ -81,8 +97,9 @@ declare-requires c κs =
 
 notes-after-requires : tie.Need-notes-after-requires
 notes-after-requires c κs =
-    let start = c .before .before .before .before .before .before .before .before .before .before .before .before .before .before .before .before .before .before .before .before .before .before .before .before .before .before .before .before .before .before .before .before .before .before .before .before .before .before .before .before .before .before .before .before .before .before .before .before .before .before .before .before .before .before .before .before .before .before .before .before .before .before .before .before .before .before .before .before .before .before .before in
-    let move-tables = c .before .before .before .before .before .before .before .before .before .before .before .before .before .before .before .before .before .before .before .before .before .before .before .before .before .before .before .before .before .before .before .before .move-tables in
+    let at-move-tables = move-tables-before-now c in
+    let move-tables = at-move-tables .move-tables in
+    let start = start-before-move-tables-arg13 (at-move-tables .before) in
     let args = start .args in
     let before = in-hand (args .counts) (args .xs .now) (args .ys .now) (args .cs .now) (args .days .now) (args .levels .now) (args .notes) (args .names .now) (args .lens .now) (args .out .now) in
     let last = move-tables .last .1 .1 .1 .1 .1 .1 .1 .1 .1 .1 .1 in
@@ -97,81 +114,82 @@ is-exit-requires c κs = search needs
 
 same-length : tie.Need-same-length
 same-length c =
-    let move-tables = c .before .before .before .before .before .before .before .before .before .before .before .before .before .before .before .before .before .before .before .before .before .before .before .before .before .before .before .before .before .before .before .before .before .before .move-tables in
+    let move-tables = move-tables-before-is-exit c .move-tables in
     move-tables .kept .1 .1 .1 .1 .1 .1 .1 .1 .1 .1 .1 .0
 
 same-length-2 : tie.Need-same-length-2
 same-length-2 c =
-    let move-tables = c .before .before .before .before .before .before .before .before .before .before .before .before .before .before .before .before .before .before .before .before .before .before .before .before .before .before .before .before .before .before .before .before .before .before .move-tables in
+    let move-tables = move-tables-before-is-exit c .move-tables in
     move-tables .kept .1 .1 .1 .1 .1 .1 .1 .1 .1 .1 .1 .1 .0
 
 same-length-3 : tie.Need-same-length-3
 same-length-3 c =
-    let move-tables = c .before .before .before .before .before .before .before .before .before .before .before .before .before .before .before .before .before .before .before .before .before .before .before .before .before .before .before .before .before .before .before .before .before .before .move-tables in
+    let move-tables = move-tables-before-is-exit c .move-tables in
     move-tables .kept .1 .1 .1 .1 .1 .1 .1 .1 .1 .1 .1 .1 .1 .0
 
 same-length-4 : tie.Need-same-length-4
 same-length-4 c =
-    let move-tables = c .before .before .before .before .before .before .before .before .before .before .before .before .before .before .before .before .before .before .before .before .before .before .before .before .before .before .before .before .before .before .before .before .before .before .move-tables in
+    let move-tables = move-tables-before-is-exit c .move-tables in
     move-tables .kept .1 .1 .1 .1 .1 .1 .1 .1 .1 .1 .1 .1 .1 .1 .0
 
 same-length-5 : tie.Need-same-length-5
 same-length-5 c =
-    let move-tables = c .before .before .before .before .before .before .before .before .before .before .before .before .before .before .before .before .before .before .before .before .before .before .before .before .before .before .before .before .before .before .before .before .before .before .move-tables in
+    let move-tables = move-tables-before-is-exit c .move-tables in
     move-tables .kept .1 .1 .1 .1 .1 .1 .1 .1 .1 .1 .1 .1 .1 .1 .1 .0
 
 same-length-6 : tie.Need-same-length-6
 same-length-6 c =
-    let move-tables = c .before .before .before .before .before .before .before .before .before .before .before .before .before .before .before .before .before .before .before .before .before .before .before .before .before .before .before .before .before .before .before .before .before .before .move-tables in
+    let move-tables = move-tables-before-is-exit c .move-tables in
     move-tables .kept .1 .1 .1 .1 .1 .1 .1 .1 .1 .1 .1 .1 .1 .1 .1 .1 .0
 
 same-length-7 : tie.Need-same-length-7
 same-length-7 c =
-    let move-tables = c .before .before .before .before .before .before .before .before .before .before .before .before .before .before .before .before .before .before .before .before .before .before .before .before .before .before .before .before .before .before .before .before .before .before .move-tables in
+    let move-tables = move-tables-before-is-exit c .move-tables in
     move-tables .kept .1 .1 .1 .1 .1 .1 .1 .1 .1 .1 .1 .1 .1 .1 .1 .1 .1 .0
 
 same-length-8 : tie.Need-same-length-8
 same-length-8 c =
-    let move-tables = c .before .before .before .before .before .before .before .before .before .before .before .before .before .before .before .before .before .before .before .before .before .before .before .before .before .before .before .before .before .before .before .before .before .before .move-tables in
+    let move-tables = move-tables-before-is-exit c .move-tables in
     move-tables .kept .1 .1 .1 .1 .1 .1 .1 .1 .1 .1 .1 .1 .1 .1 .1 .1 .1 .1 .0
 
 same-length-9 : tie.Need-same-length-9
 same-length-9 c =
-    let declare = c .before .before .before .before .before .before .before .before .before .before .before .before .before .declare in
+    let declare = declare-before-is-exit c .declare in
     declare .kept .1 .1 .1 .0
 
 same-length-10 : tie.Need-same-length-10
 same-length-10 c =
-    let declare = c .before .before .before .before .before .before .before .before .before .before .before .before .before .declare in
+    let declare = declare-before-is-exit c .declare in
     declare .kept .1 .1 .1 .1 .0
 
 same-length-11 : tie.Need-same-length-11
 same-length-11 c =
-    let declare = c .before .before .before .before .before .before .before .before .before .before .before .before .before .declare in
+    let declare = declare-before-is-exit c .declare in
     declare .kept .1 .1 .1 .1 .1 .0
 
 same-length-12 : tie.Need-same-length-12
 same-length-12 c =
-    let declare = c .before .before .before .before .before .before .before .before .before .before .before .before .before .declare in
+    let declare = declare-before-is-exit c .declare in
     declare .kept .1 .1 .1 .1 .1 .1 .0
 
 same-length-13 : tie.Need-same-length-13
 same-length-13 c =
-    let declare = c .before .before .before .before .before .before .before .before .before .before .before .before .before .declare in
+    let declare = declare-before-is-exit c .declare in
     declare .kept .1 .1 .1 .1 .1 .1 .1 .0
 
 same-length-14 : tie.Need-same-length-14
 same-length-14 c =
-    let print = c .before .before .before .before .before .before .before .before .before .before .before .before .before .before .before .before .before .before .before .before .before .before .before .before .before .before .before .before .before .before .before .before .before .before .before .before .before .before .before .before .before .before .before .before .before .before .before .before .before .before .print in
+    let print = print-before-is-exit c .print in
     print .kept .1 .1 .1 .1 .1 .1 .1 .1 .1 .1 .1 .0
 
 returns : tie.Need-returns
 returns c =
-    let start = c .before .before .before .before .before .before .before .before .before .before .before .before .before .before .before .before .before .before .before .before .before .before .before .before .before .before .before .before .before .before .before .before .before .before .before .before .before .before .before .before .before .before .before .before .before .before .before .before .before .before .before .before .before .before .before .before .before .before .before .before .before .before .before .before .before .before .before .before .before .before .before .before .before in
-    let move-tables = c .before .before .before .before .before .before .before .before .before .before .before .before .before .before .before .before .before .before .before .before .before .before .before .before .before .before .before .before .before .before .before .before .before .before .move-tables in
     let notes-after = c .before .notes-after in
-    let declare = c .before .before .before .before .before .before .before .before .before .before .before .before .before .declare in
-    let print = c .before .before .before .before .before .before .before .before .before .before .before .before .before .before .before .before .before .before .before .before .before .before .before .before .before .before .before .before .before .before .before .before .before .before .before .before .before .before .before .before .before .before .before .before .before .before .before .before .before .before .print in
+    let declare = declare-before-is-exit c .declare in
+    let at-move-tables = move-tables-before-is-exit c in
+    let move-tables = at-move-tables .move-tables in
+    let print = print-before-is-exit c .print in
+    let start = start-before-move-tables-arg13 (at-move-tables .before) in
     let args = start .args in
     let before = in-hand (args .counts) (args .xs .now) (args .ys .now) (args .cs .now) (args .days .now) (args .levels .now) (args .notes) (args .names .now) (args .lens .now) (args .out .now) in
     let last = move-tables .last .1 .1 .1 .1 .1 .1 .1 .1 .1 .1 .1 in

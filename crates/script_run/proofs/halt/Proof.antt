@@ -10,7 +10,9 @@ use Rattle.script_run.proofs.halt.Lts as lts
 use Rattle.script_run.proofs.put_error.Reads as put-error-reads
 
 put-error-requires : tie.Need-put-error-requires
-put-error-requires c κs = omega (arith, c .before .before .before .pre (c .before .if1 .taken), decimal-ten (c .before .before .before .args .number) (omega (arith, c .before .before .before .fits .number)))
+put-error-requires c κs =
+    let start = c .before .before .before in
+    omega (arith, start .pre (c .before .if1 .taken), decimal-ten (start .args .number) (omega (arith, start .fits .number)))
 
 same-length : tie.Need-same-length
 same-length c = search needs

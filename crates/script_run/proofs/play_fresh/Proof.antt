@@ -53,22 +53,34 @@ slice-aggregate-advance-12 c = search needs
 slice-aggregate-advance-13 : tie.Need-slice-aggregate-advance-13
 slice-aggregate-advance-13 c = search needs
 
+-- Places of the code, seen from later ones.
+abbrev no-notes-before-advance-arg : tie.After-advance-arg → tie.After-no-notes
+no-notes-before-advance-arg c = c .before .before .before .before .before .before .before .before .before .before .before .before .before .before .before
+
+abbrev advance-before-slice-known2 : tie.After-slice-known2 → tie.After-advance
+advance-before-slice-known2 c = c .before .before .before .before .before .before .before .before .before .before .before .before .before .before .before
+
 advance-requires : tie.Need-advance-requires
 unfolding TABLE
 advance-requires c κs =
-    let start = c .before .before .before .before .before .before .before .before .before .before .before .before .before .before .before .before .before .before .before in
-    (refl, hand-fresh (c .before .before .before .before .before .before .before .before .before .before .before .before .before .before .before .before .steps-alone .ensures) (c .before .before .before .before .before .before .before .before .before .before .before .before .before .before .before .no-notes .ensures) (start .args .out .now))
+    let at-no-notes = no-notes-before-advance-arg c in
+    let steps-alone = at-no-notes .before .steps-alone in
+    let start = at-no-notes .before .before .before .before in
+    (refl, hand-fresh (steps-alone .ensures) (at-no-notes .no-notes .ensures) (start .args .out .now))
 
 same-length : tie.Need-same-length
 same-length c =
-    let advance = c .before .before .before .before .before .before .before .before .before .before .before .before .before .before .before .advance in
+    let advance = advance-before-slice-known2 c .advance in
     advance .kept .1 .1 .1 .1 .1 .1 .1 .1 .1 .1 .1 .1 .1 .1 .1 .1 .1 .1 .0
 
 returns : tie.Need-returns
 returns c =
-    let start = c .before .before .before .before .before .before .before .before .before .before .before .before .before .before .before .before .before .before .before .before .before .before .before .before .before .before .before .before .before .before .before .before .before .before .before in
-    let advance = c .before .before .before .before .before .before .before .before .before .before .before .before .before .before .before .advance in
-    subst (λ (l : Lent). Plays (start .args .s .now) 0 l 0 (advance .result .number) (advance .result .written) (advance .last .1 .1 .1 .1 .1 .1 .1 .1 .1 .1 .1 .1 .1 .1 .1 .1 .1 .1 .0)) (hand-is (c .before .before .before .before .before .before .before .before .before .before .before .before .before .before .before .before .before .before .before .before .before .before .before .before .before .before .before .before .before .before .before .before .steps-alone .ensures) (c .before .before .before .before .before .before .before .before .before .before .before .before .before .before .before .before .before .before .before .before .before .before .before .before .before .before .before .before .before .before .before .no-notes .ensures) (start .args .out .now)) (advance .ensures .0 .plays)
+    let at-advance = advance-before-slice-known2 c in
+    let advance = at-advance .advance in
+    let at-no-notes = no-notes-before-advance-arg (at-advance .before) in
+    let steps-alone = at-no-notes .before .steps-alone in
+    let start = at-no-notes .before .before .before .before in
+    subst (λ (l : Lent). Plays (start .args .s .now) 0 l 0 (advance .result .number) (advance .result .written) (advance .last .1 .1 .1 .1 .1 .1 .1 .1 .1 .1 .1 .1 .1 .1 .1 .1 .1 .1 .0)) (hand-is (steps-alone .ensures) (at-no-notes .no-notes .ensures) (start .args .out .now)) (advance .ensures .0 .plays)
 
 pub play-fresh-spec : {M : Type 1} → statement M
 play-fresh-spec =

@@ -30,9 +30,12 @@ same-length c = search needs
 
 returns : tie.Need-returns
 returns c =
-    let digits = decimal (c .before .before .before .before .before .before .before .before .before .before .before .before .before .before .before .args .number) in
-    wrote-both (c .before .before .before .before .before .before .before .before .before .before .before .before .before .before .before .args .out .now) (c .before .before .before .before .before .before .before .before .before .before .before .before .before .before .before .args .at) (40 ∷ 101 ∷ 114 ∷ 114 ∷ 111 ∷ 114 ∷ 32 ∷ 34 ∷ []) (digits ++ (34 ∷ 41 ∷ 10 ∷ [])) (c .before .before .before .before .before .before .before .before .before .before .before .word .ensures)
-    (wrote-both (c .before .before .before .before .before .before .before .before .before .before .before .word .last .0) (c .before .before .before .before .before .before .before .before .before .before .before .word .result) digits (34 ∷ 41 ∷ 10 ∷ []) (c .before .before .before .before .before .before .before .number .ensures) (c .before .before .word2 .ensures))
+    let at-number = c .before .before .before .before .before .before .before in
+    let at-word = at-number .before .before .before .before in
+    let start = at-word .before .before .before .before in
+    let digits = decimal (start .args .number) in
+    wrote-both (start .args .out .now) (start .args .at) (40 ∷ 101 ∷ 114 ∷ 114 ∷ 111 ∷ 114 ∷ 32 ∷ 34 ∷ []) (digits ++ (34 ∷ 41 ∷ 10 ∷ [])) (at-word .word .ensures)
+    (wrote-both (at-word .word .last .0) (at-word .word .result) digits (34 ∷ 41 ∷ 10 ∷ []) (at-number .number .ensures) (c .before .before .word2 .ensures))
 
 pub put-error-spec : {M : Type 1} → statement M
 put-error-spec =

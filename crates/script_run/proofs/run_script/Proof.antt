@@ -13,7 +13,9 @@ same-length : tie.Need-same-length
 same-length c = search needs
 
 returns : tie.Need-returns
-returns c = record { too-long = λ h. absurd (omega (arith, h, c .before .before .before .before .if1 .taken)); too-long-short = λ h. absurd (omega (arith, h, c .before .before .before .before .if1 .taken)); played = λ h. c .before .before .play-fresh .ensures }
+returns c =
+    let if1 = c .before .before .before .before .if1 in
+    record { too-long = λ h. absurd (omega (arith, h, if1 .taken)); too-long-short = λ h. absurd (omega (arith, h, if1 .taken)); played = λ h. c .before .before .play-fresh .ensures }
 
 returns-2 : tie.Need-returns-2
 returns-2 c = record { too-long = λ h r. absurd (omega (arith, r, c .if2 .taken)); too-long-short = λ h r. (refl, (refl, refl)); played = λ h. absurd (omega (arith, h, c .before .if1 .left)) }
@@ -25,7 +27,10 @@ same-length-2 : tie.Need-same-length-2
 same-length-2 c = search needs
 
 returns-3 : tie.Need-returns-3
-returns-3 c = record { too-long = λ h r. (refl, (omega (arith, c .before .before .put-error .ensures .1), c .before .before .put-error .ensures .0)); too-long-short = λ h r. absurd (omega (arith, r, c .before .before .before .before .if2 .left)); played = λ h. absurd (omega (arith, h, c .before .before .before .before .before .if1 .left)) }
+returns-3 c =
+    let at-put-error = c .before .before in
+    let if1 = at-put-error .before .before .before .if1 in
+    record { too-long = λ h r. (refl, (omega (arith, at-put-error .put-error .ensures .1), at-put-error .put-error .ensures .0)); too-long-short = λ h r. absurd (omega (arith, r, c .before .before .before .before .if2 .left)); played = λ h. absurd (omega (arith, h, if1 .left)) }
 
 pub run-script-spec : {M : Type 1} → statement M
 run-script-spec =

@@ -11,13 +11,18 @@ use Rattle.script_run.proofs.settle.Lts as lts
 use Rattle.script_run.proofs.put_error.Reads as put-error-reads
 
 put-error-requires : tie.Need-put-error-requires
-put-error-requires c κs = omega (arith, c .before .before .before .pre .0, decimal-ten (c .before .before .before .args .number) (omega (arith, c .before .before .before .fits .number)))
+put-error-requires c κs =
+    let start = c .before .before .before in
+    omega (arith, start .pre .0, decimal-ten (start .args .number) (omega (arith, start .fits .number)))
 
 same-length : tie.Need-same-length
 same-length c = search needs
 
 returns : tie.Need-returns
-returns c = record { refused = λ z. c .before .before .put-error .ensures; done = λ z. absurd (omega (arith, z, c .before .before .before .before .if1 .taken)); short = omega (arith, c .before .before .put-error .ensures .1, error-short (c .before .before .before .before .before .before .args .number) (omega (arith, c .before .before .before .before .before .before .fits .number))) }
+returns c =
+    let at-put-error = c .before .before in
+    let start = at-put-error .before .before .before .before in
+    record { refused = λ z. at-put-error .put-error .ensures; done = λ z. absurd (omega (arith, z, c .before .before .before .before .if1 .taken)); short = omega (arith, at-put-error .put-error .ensures .1, error-short (start .args .number) (omega (arith, start .fits .number))) }
 
 add-result : tie.Need-add-result
 add-result c = search needs

@@ -34,13 +34,17 @@ same-length : tie.Need-same-length Inv-loop μ-loop
 same-length c = search needs
 
 returns : tie.Need-returns Inv-loop μ-loop
-returns c = (omega (arith, c .before .before .buf .given .1, c .before .before .before .before .before .before .loop .inv .0, c .before .before .before .before .before .before .loop .inv .1 .0), (c .before .before .before .before .before .before .loop .inv .1 .1 .0, before-kept _ _ _ _ (c .before .before .before .before .before .before .loop .inv .1 .1 .0) (omega (arith, c .before .before .before .before .before .before .loop .inv .0, c .before .before .before .before .before .before .loop .inv .1 .0)) ∙ c .before .before .before .before .before .before .loop .inv .1 .1 .1))
+returns c =
+    let loop = c .before .before .before .before .before .before .loop in
+    (omega (arith, c .before .before .buf .given .1, loop .inv .0, loop .inv .1 .0), (loop .inv .1 .1 .0, before-kept _ _ _ _ (loop .inv .1 .1 .0) (omega (arith, loop .inv .0, loop .inv .1 .0)) ∙ loop .inv .1 .1 .1))
 
 same-length-2 : tie.Need-same-length-2 Inv-loop μ-loop
 same-length-2 c = search needs
 
 returns-2 : tie.Need-returns-2 Inv-loop μ-loop
-returns-2 c = (omega (arith, c .before .before .before .before .buf .given .1, c .before .before .before .before .before .before .before .before .loop .inv .0, c .before .before .before .before .before .before .before .before .loop .inv .1 .0), (c .before .before .before .before .before .before .before .before .loop .inv .1 .1 .0, before-kept _ _ _ _ (c .before .before .before .before .before .before .before .before .loop .inv .1 .1 .0) (omega (arith, c .before .before .before .before .before .before .before .before .loop .inv .0, c .before .before .before .before .before .before .before .before .loop .inv .1 .0)) ∙ c .before .before .before .before .before .before .before .before .loop .inv .1 .1 .1))
+returns-2 c =
+    let loop = c .before .before .before .before .before .before .before .before .loop in
+    (omega (arith, c .before .before .before .before .buf .given .1, loop .inv .0, loop .inv .1 .0), (loop .inv .1 .1 .0, before-kept _ _ _ _ (loop .inv .1 .1 .0) (omega (arith, loop .inv .0, loop .inv .1 .0)) ∙ loop .inv .1 .1 .1))
 
 add-at : tie.Need-add-at Inv-loop μ-loop
 add-at c = search needs
@@ -49,7 +53,11 @@ loop-less : tie.Need-loop-less Inv-loop μ-loop
 loop-less c = search needs
 
 loop-again : tie.Need-loop-again Inv-loop μ-loop
-loop-again c = (c .before .before .before .before .before .buf .given .1 ∙ c .before .before .before .before .before .before .before .before .before .loop .inv .0, (omega (arith, c .before .before .before .before .before .before .read-once .ensures, c .before .before .before .before .before .buf .given .1, c .before .before .before .before .before .before .before .before .before .loop .inv .0, c .before .before .before .before .before .before .before .before .before .loop .inv .1 .0), (omega (arith, c .before .before .before .before .before .before .before .before .before .loop .inv .1 .1 .0), before-kept _ _ _ _ (c .before .before .before .before .before .before .before .before .before .loop .inv .1 .1 .0) (omega (arith, c .before .before .before .before .before .before .before .before .before .loop .inv .0, c .before .before .before .before .before .before .before .before .before .loop .inv .1 .0)) ∙ c .before .before .before .before .before .before .before .before .before .loop .inv .1 .1 .1)))
+loop-again c =
+    let at-buf = c .before .before .before .before .before in
+    let read-once = at-buf .before .read-once in
+    let loop = at-buf .before .before .before .before .loop in
+    (at-buf .buf .given .1 ∙ loop .inv .0, (omega (arith, read-once .ensures, at-buf .buf .given .1, loop .inv .0, loop .inv .1 .0), (omega (arith, loop .inv .1 .1 .0), before-kept _ _ _ _ (loop .inv .1 .1 .0) (omega (arith, loop .inv .0, loop .inv .1 .0)) ∙ loop .inv .1 .1 .1)))
 
 same-length-3 : tie.Need-same-length-3 Inv-loop μ-loop
 same-length-3 c = search needs

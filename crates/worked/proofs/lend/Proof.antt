@@ -52,13 +52,13 @@ lent-amounts-requires-2 : tie.Need-lent-amounts-requires-2
 lent-amounts-requires-2 c κs = tt
 
 slice-aggregate-lent-numbers-2 : tie.Need-slice-aggregate-lent-numbers-2
-slice-aggregate-lent-numbers-2 c = long (c .before .before .before .before .before .before .before .before .before .before .before .before .before .before .before .before .before .before .before .before .before .before .before .before .before .before .before .args .o) (c .before .before .before .before .before .before .before .before .before .before .before .before .before .before .before .before .before .before .before .before .before .before .before .before .before .before .before .good .1 .1 .0) .one
+slice-aggregate-lent-numbers-2 c = long (c .before .before .before .before .before .before .before .before .before .before .before .before .before .before .before .before .before .before .before .before .before .before .before .before .before .before .before .before .args .o) (c .before .before .before .before .before .before .before .before .before .before .before .before .before .before .before .before .before .before .before .before .before .before .before .before .before .before .before .before .good .1 .1 .0) .one
 
 lent-numbers-requires-2 : tie.Need-lent-numbers-requires-2
 lent-numbers-requires-2 c κs = tt
 
 slice-aggregate-lent-numbers-3 : tie.Need-slice-aggregate-lent-numbers-3
-slice-aggregate-lent-numbers-3 c = long (c .before .before .before .before .before .before .before .before .before .before .before .before .before .before .before .before .before .before .before .before .before .before .before .before .before .before .before .before .before .args .o) (c .before .before .before .before .before .before .before .before .before .before .before .before .before .before .before .before .before .before .before .before .before .before .before .before .before .before .before .before .before .good .1 .1 .0) .two
+slice-aggregate-lent-numbers-3 c = long (c .before .before .before .before .before .before .before .before .before .before .before .before .before .before .before .before .before .before .before .before .before .before .before .before .before .before .before .before .before .before .args .o) (c .before .before .before .before .before .before .before .before .before .before .before .before .before .before .before .before .before .before .before .before .before .before .before .before .before .before .before .before .before .before .good .1 .1 .0) .two
 
 lent-numbers-requires-3 : tie.Need-lent-numbers-requires-3
 lent-numbers-requires-3 c κs = tt

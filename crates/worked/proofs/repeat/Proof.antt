@@ -5,10 +5,10 @@ use Rattle.worked.proofs.repeat.Statement.{statement}
 use Rattle.worked.proofs.repeat.Tie as tie
 
 abbrev Inv-loop : tie.InvT-loop
-Inv-loop line next₀ n turn₀ next turn = Unit {0}
+Inv-loop line gaps₀ next₀ n turn₀ gaps next turn = Unit {0}
 
 abbrev μ-loop : tie.MeasureT-loop
-μ-loop line next₀ n turn₀ next turn = n - turn
+μ-loop line gaps₀ next₀ n turn₀ gaps next turn = n - turn
 
 turns-requires : tie.Need-turns-requires Inv-loop μ-loop
 turns-requires c κs = tt

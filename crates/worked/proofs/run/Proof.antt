@@ -6,10 +6,13 @@ use Rattle.worked.proofs.run.Statement.{statement}
 use Rattle.worked.proofs.run.Tie as tie
 
 abbrev Inv-loop : tie.InvT-loop
-Inv-loop text at₀ o₀ at o = Unit {0}
+Inv-loop text at₀ gaps₀ o₀ at gaps o = Unit {0}
 
 abbrev μ-loop : tie.MeasureT-loop
-μ-loop text at₀ o₀ at o = length text - at
+μ-loop text at₀ gaps₀ o₀ at gaps o = length text - at
+
+pattern-requires : tie.Need-pattern-requires Inv-loop μ-loop
+pattern-requires c κs = tt
 
 fresh-requires : tie.Need-fresh-requires Inv-loop μ-loop
 fresh-requires c κs = tt
@@ -50,6 +53,7 @@ run-spec =
     (tie.spec
     Inv-loop
     μ-loop
+    pattern-requires
     fresh-requires
     loop-holds
     line-end-requires

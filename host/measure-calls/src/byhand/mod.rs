@@ -2,6 +2,7 @@
 //! plain safe Rust. `agree.rs` holds them against the library.
 
 mod chains;
+pub mod gaps;
 mod ring;
 mod shortest;
 mod sound;
@@ -10,7 +11,7 @@ mod spread;
 mod waiting;
 
 use chains::Chains;
-use planner::bounds::{MARKS, RULES, STEPS, WATCHED};
+use planner::bounds::{MARKS, NO_LIMIT, RULES, STEPS, WATCHED};
 use planner::calls::{Counts, Rule, Tables};
 use spread::Spread;
 
@@ -24,6 +25,7 @@ pub const FULL: u32 = 5;
 pub const CONFLICT: u32 = 6;
 pub const NOMARK: u32 = 7;
 pub const ABSENT: u32 = 12;
+pub const YARD: u32 = 15;
 
 /// The rules held: their chains, and the place past the last of them.
 struct Held {
@@ -42,13 +44,17 @@ impl Held {
     }
 }
 
-/// Tests the room and the tables; `held`, which has none yet, gets the rules held.
+/// Tests the room, the tables and the gap table; `held`, which has none yet, gets the rules held.
 fn test(counts: &Counts, t: &Tables, held: &mut Held) -> Result<(), u32> {
     if !sound::has_room(t) {
         return Err(SHORT);
     }
     held.end = sound::sound(counts, t, &mut held.chains).ok_or(DAMAGED)?;
-    Ok(())
+    if gaps::are_right(counts.steps as usize, t, held.end) {
+        Ok(())
+    } else {
+        Err(DAMAGED)
+    }
 }
 
 /// Tests whether a rule can be asked for where `count` places of `places` are taken.
@@ -79,6 +85,7 @@ pub fn open(counts: &mut Counts, t: &mut Tables, steps: u32) -> u32 {
     }
     t.days[..steps as usize].fill(0);
     t.levels[..RULES].fill(0);
+    gaps::open(steps as usize, t);
     *counts = Counts { steps, rules: 0, marks: 0, watched: 0, last: 0 };
     DONE
 }
@@ -125,6 +132,7 @@ fn try_back(counts: &mut Counts, t: &mut Tables) -> Result<(), u32> {
     if gone > 0 {
         held.chains.build_held(&t.levels[..held.end], &t.xs[..held.end]);
         counts.last = plan_afresh(counts.steps as usize, &held.chains, counts.last, t);
+        gaps::remake(counts.steps as usize, t, held.end);
     }
     counts.marks -= 1;
     counts.rules -= gone;
@@ -161,6 +169,7 @@ fn try_withdraw(counts: &mut Counts, t: &mut Tables, number: u32) -> Result<(), 
         counts.last = plan_afresh(counts.steps as usize, &held.chains, counts.last, t);
     }
     t.levels[at] = 0;
+    gaps::remake(counts.steps as usize, t, held.end);
     counts.rules -= 1;
     Ok(())
 }
@@ -228,6 +237,7 @@ fn try_add<const SHORTEST: bool>(counts: &mut Counts, t: &mut Tables, list: &mut
     t.ys[at] = rule.second as u16;
     t.cs[at] = rule.amount;
     t.levels[at] = counts.marks as u8 + 1;
+    gaps::add(counts.steps as usize, t, rule);
     counts.rules += 1;
     Ok(())
 }
@@ -314,4 +324,26 @@ fn try_consequences(counts: &Counts, t: &Tables, all: &mut [u32], none: &mut [u3
 pub fn last_day(counts: &Counts, t: &mut Tables, day: &mut u32) -> u32 {
     *day = 0;
     number(test(counts, t, &mut Held::new()).map(|()| *day = counts.last))
+}
+
+pub fn gap(counts: &Counts, t: &mut Tables, x: u32, y: u32, limited: &mut u32, limit: &mut i64) -> u32 {
+    *limited = 0;
+    *limit = 0;
+    number(try_gap(counts, t, x, y).map(|cell| {
+        if cell != NO_LIMIT {
+            *limited = 1;
+            *limit = cell;
+        }
+    }))
+}
+
+fn try_gap(counts: &Counts, t: &Tables, x: u32, y: u32) -> Result<i64, u32> {
+    test(counts, t, &mut Held::new())?;
+    if !gaps::is_kept(counts.steps as usize) {
+        return Err(YARD);
+    }
+    if x >= counts.steps || y >= counts.steps {
+        return Err(STEP);
+    }
+    Ok(t.gaps[x as usize][y as usize])
 }

@@ -2,10 +2,12 @@
 //! of them. It is meant to be obviously right, and slow. What it gives and leaves is determined, the ring of a conflict too.
 
 mod bounds;
+mod gaps;
 mod rings;
 mod scripts;
 mod sound;
 
+pub use gaps::{remake, yard};
 pub use rings::{reason, refutes};
 pub use sound::{is_sound, level, rules};
 
@@ -20,13 +22,14 @@ pub const DAMAGED: u32 = 2;
 pub const STEP: u32 = 3;
 pub const CONFLICT: u32 = 6;
 pub const ABSENT: u32 = 12;
+pub const YARD: u32 = 15;
 
-/// What a call gives back: its number and its values, 0 where it has none.
+/// What a call gives back: its number and its values, 0 where it has none. The second one of Gap may be below 0.
 #[derive(Clone, Copy, PartialEq, Eq, Debug)]
 pub struct Given {
     pub number: u32,
     pub one: u64,
-    pub two: u64,
+    pub two: i64,
 }
 
 type Outcome = Result<Given, u32>;
@@ -44,6 +47,7 @@ pub fn carry_out(office: &mut Office, act: &Act) -> Given {
         Act::Consequences => consequences(office),
         Act::RingCheck(rule, list) => ring_check(office, *rule, list),
         Act::LastDay => last_day(office),
+        Act::Gap(x, y) => gap(office, *x, *y),
         Act::Start => scripts::start(office),
         Act::Command(text) => scripts::command(office, text),
         Act::Set(..) | Act::SetField(..) | Act::Lend(..) | Act::Hold(..) | Act::Follow(..) => {
@@ -55,7 +59,7 @@ pub fn carry_out(office: &mut Office, act: &Act) -> Given {
 }
 
 fn done(one: usize, two: usize) -> Outcome {
-    Ok(Given { number: DONE, one: one as u64, two: two as u64 })
+    Ok(Given { number: DONE, one: one as u64, two: two as i64 })
 }
 
 /// CONFLICT: the ring stands in the list, and its length is given.
@@ -79,6 +83,11 @@ fn room(office: &Office) -> bool {
     [Xs, Ys, Cs, Days, Levels, Wxs, Wys, Wcs].iter().all(|place| office.lent(*place) >= place.room())
 }
 
+/// The tables are sound, and the gap table is right beside them.
+fn sound(office: &Office) -> Result<(), u32> {
+    need(is_sound(office) && gaps::are_right(office), DAMAGED)
+}
+
 /// A rule handed to a call: STEP, then AMOUNT.
 fn rule_in_bounds(office: &Office, rule: Rule) -> Result<(), u32> {
     let steps = office.counts().steps;
@@ -90,6 +99,7 @@ fn open(office: &mut Office, steps: u32) -> Outcome {
     need(room(office), SHORT)?;
     need(1 <= steps && steps as usize <= STEPS, STEP)?;
     empty(office, steps);
+    remake(office);
     done(0, 0)
 }
 
@@ -102,7 +112,7 @@ fn empty(office: &mut Office, steps: u32) {
 
 fn watch(office: &mut Office, rule: Rule) -> Outcome {
     need(room(office), SHORT)?;
-    need(is_sound(office), DAMAGED)?;
+    sound(office)?;
     rule_in_bounds(office, rule)?;
     let number = office.counts().watched as usize;
     need(number < WATCHED, FULL)?;
@@ -116,7 +126,7 @@ fn watch(office: &mut Office, rule: Rule) -> Outcome {
 
 /// What Add and Trial need once their lists have room; the days with the rule, or nothing on a conflict.
 fn with_rule(office: &Office, rule: Rule) -> Result<Option<Vec<i64>>, u32> {
-    need(is_sound(office), DAMAGED)?;
+    sound(office)?;
     rule_in_bounds(office, rule)?;
     need((office.counts().rules as usize) < RULES, FULL)?;
     let mut all = rules(office);
@@ -139,6 +149,7 @@ fn add(office: &mut Office, rule: Rule) -> Outcome {
         Some(days) => {
             let count = moved(office, &days);
             hold(office, rule, &days);
+            remake(office);
             done(count, 0)
         }
     }
@@ -171,7 +182,7 @@ fn write_days(list: &mut [u32], days: &[i64]) {
 
 fn mark(office: &mut Office) -> Outcome {
     need(room(office), SHORT)?;
-    need(is_sound(office), DAMAGED)?;
+    sound(office)?;
     need((office.counts().marks as usize) < MARKS, FULL)?;
     office.counts[1].marks += 1;
     done(0, 0)
@@ -179,9 +190,10 @@ fn mark(office: &mut Office) -> Outcome {
 
 fn back(office: &mut Office) -> Outcome {
     need(room(office), SHORT)?;
-    need(is_sound(office), DAMAGED)?;
+    sound(office)?;
     need(office.counts().marks >= 1, NOMARK)?;
     drop_marks(office, 1);
+    remake(office);
     done(0, 0)
 }
 
@@ -195,9 +207,10 @@ fn drop_marks(office: &mut Office, fewer: usize) {
 
 fn withdraw(office: &mut Office, number: u32) -> Outcome {
     need(room(office), SHORT)?;
-    need(is_sound(office), DAMAGED)?;
+    sound(office)?;
     need(office.holds(number), ABSENT)?;
     free(office, &[number]);
+    remake(office);
     done(0, 0)
 }
 
@@ -228,7 +241,7 @@ fn trial(office: &mut Office, rule: Rule) -> Outcome {
 fn consequences(office: &mut Office) -> Outcome {
     let watched = office.counts().watched as usize;
     need(room(office) && office.lent(Place::One) >= watched && office.lent(Place::Two) >= watched, SHORT)?;
-    need(is_sound(office), DAMAGED)?;
+    sound(office)?;
     let (all, none) = bounds::split(office);
     for (list, numbers) in [(&mut office.one, &all), (&mut office.two, &none)] {
         list.part_mut()[..numbers.len()].copy_from_slice(numbers);
@@ -238,7 +251,7 @@ fn consequences(office: &mut Office) -> Outcome {
 
 fn ring_check(office: &Office, rule: Rule, list: &[u32]) -> Outcome {
     need(room(office), SHORT)?;
-    need(is_sound(office), DAMAGED)?;
+    sound(office)?;
     rule_in_bounds(office, rule)?;
     done(usize::from(refutes(office, rule, list)), 0)
 }
@@ -246,7 +259,17 @@ fn ring_check(office: &Office, rule: Rule, list: &[u32]) -> Outcome {
 /// From the plan, and not from what the record says of it.
 fn last_day(office: &Office) -> Outcome {
     need(room(office), SHORT)?;
-    need(is_sound(office), DAMAGED)?;
+    sound(office)?;
     let days = planned(office).expect("sound tables have a plan");
     done(largest(&days) as usize, 0)
+}
+
+/// From the rules, and not from what the gap table says of them. YARD is judged before STEP.
+fn gap(office: &Office, x: u32, y: u32) -> Outcome {
+    need(room(office), SHORT)?;
+    sound(office)?;
+    let steps = yard(office).ok_or(YARD)?;
+    need(x.max(y) < steps as u32, STEP)?;
+    let limit = gaps::limits(steps, &rules(office))[x as usize][y as usize];
+    Ok(Given { number: DONE, one: limit.is_some().into(), two: limit.unwrap_or(0) })
 }

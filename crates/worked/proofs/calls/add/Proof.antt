@@ -35,7 +35,7 @@ lend-levels-requires : tie.Need-lend-levels-requires
 lend-levels-requires c κs = tt
 
 slice-aggregate-lend-numbers-2 : tie.Need-slice-aggregate-lend-numbers-2
-slice-aggregate-lend-numbers-2 c = long (c .before .before .before .before .before .before .before .before .before .before .before .before .before .before .before .before .before .before .before .args .o) (c .before .before .before .before .before .before .before .before .before .before .before .before .before .before .before .before .before .before .before .good .1 .0) .one
+slice-aggregate-lend-numbers-2 c = long (c .before .before .before .before .before .before .before .before .before .before .before .before .before .before .before .before .before .before .before .before .args .o) (c .before .before .before .before .before .before .before .before .before .before .before .before .before .before .before .before .before .before .before .before .good .1 .0) .one
 
 lend-numbers-requires-2 : tie.Need-lend-numbers-requires-2
 lend-numbers-requires-2 c κs = tt
