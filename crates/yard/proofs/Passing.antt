@@ -10,9 +10,9 @@ use lib.Seq.{getD-set-same, getD-set-other}
 use Rattle.meaning.specs.Bounds.{RULES, YARD-STEPS}
 use Rattle.meaning.specs.Rules.{Rule}
 use Rattle.meaning.specs.Tables.{at, taken}
-use Rattle.meaning.proofs.Places.{taken-of-none, taken-free, taken-held, taken-all-held}
-use Rattle.lent.specs.Lent.{held-by, AllHeld, Biased}
-use Rattle.lent.proofs.Cells.{taken-past, taken-no-fewer}
+use Rattle.meaning.proofs.Places.{taken-of-none, taken-free, taken-held}
+use Rattle.lent.specs.Lent.{held-by, Biased}
+use Rattle.lent.proofs.Cells.{taken-past}
 use Rattle.gaps.specs.Slacks.{NONE}
 use Rattle.yard.specs.Squares.{way}
 use Rattle.yard.specs.Tables.{blank-row, Blank, NoMore, Least}
@@ -118,14 +118,6 @@ module _ {i : ℕ} {R : ℕ → Rule} {levels : List ℕ} {seen : ℕ} {square :
       tell (no h) =
           let end : i ≡ RULES = omega (arith, s .within) in
           absurd (omega (arith, fewer, s .seen-are, ap (λ (j : ℕ). taken j levels) end))
-
-  -- Where the first m are held and not so many have been seen, one of these is next.
-  pub place-first : (m : ℕ) → AllHeld m levels → seen < m → i < m
-  place-first m held fewer = tell (decLt i m)
-    where
-      tell : Dec (i < m) → i < m
-      tell (yes h) = h
-      tell (no h) = absurd (omega (arith, fewer, s .seen-are, taken-all-held m levels held, taken-no-fewer m i levels (omega arith)))
 
   -- Where all have been seen, they are the rules held.
   pub passing-all : taken RULES levels ≤ seen → Least R (held-by levels) (way square)

@@ -22,6 +22,9 @@ use meaning::Counts;
 // The slack of a pair of which nothing is known.
 const NONE: u64 = 1125899906842624;
 
+// So many places are read at a time; the number of all places is a multiple of it.
+const GROUP: usize = 4;
+
 // One row of slacks, and all of them.
 type Row = [u64; meaning::YARD_STEPS];
 
@@ -83,28 +86,29 @@ fn blank() -> Square
     square
 }
 
-// The square of the least amounts that single rules give, of m rules held, counted from BIAS below 0. Places are read until all of the rules have been seen; where these are the
-// first, no level is.
+// The square of the least amounts that single rules give, of m rules held, counted from BIAS below 0. Places are read, a group at a time, until all of the rules have been seen.
 fn least(m: usize, xs: &[u16], ys: &[u16], cs: &[i32], levels: &[u8]) -> Square
     requires { ⌜ Leasable m (now xs) (now ys) (now cs) (now levels) ⌝ }
     ensures { λ r. ⌜ Least (rule-at (columns (now (xs .entry)) (now (ys .entry)) (now (cs .entry)))) (held-by (now (levels .entry))) (way r) ⌝ }
 {
-    let full = lent::all_held(levels, m);
     let start = blank();
     let mut square = start;
     let mut seen = 0;
     let mut i = 0;
     while seen < m {
-        if full || levels[i] != 0 {
-            let x = lent::number_at(xs, i);
-            let y = lent::number_at(ys, i);
-            let w = lent::amount_at(cs, i);
-            if w < square[x][y] {
-                square[x][y] = w;
+        let end = i + GROUP;
+        for k in i..end {
+            if levels[k] != 0 {
+                let x = lent::number_at(xs, k);
+                let y = lent::number_at(ys, k);
+                let w = lent::amount_at(cs, k);
+                if w < square[x][y] {
+                    square[x][y] = w;
+                }
+                seen += 1;
             }
-            seen += 1;
         }
-        i += 1;
+        i = end;
     }
     square
 }
