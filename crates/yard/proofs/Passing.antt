@@ -1,4 +1,4 @@
--- Places passed one by one: the square has the least slack of each pair, of the rules that were passed.
+-- Places passed one by one: the square has the least amount of each pair, of the rules that were passed.
 use Prim.Native.Nat.{ℕ, _+_, _≤_, _<_}
 use native.Mathlib.Omega.{arith}
 use native.Mathlib.Decide.{ℕ-discrete, decLt}
@@ -11,11 +11,11 @@ use Rattle.meaning.specs.Bounds.{RULES, YARD-STEPS}
 use Rattle.meaning.specs.Rules.{Rule}
 use Rattle.meaning.specs.Tables.{at, taken}
 use Rattle.meaning.proofs.Places.{taken-of-none, taken-free, taken-held}
-use Rattle.lent.specs.Lent.{columns, held-by}
+use Rattle.lent.specs.Lent.{held-by, Biased}
 use Rattle.lent.proofs.Cells.{taken-past}
-use Rattle.gaps.specs.Slacks.{NONE, Spares, Slacks}
-use Rattle.yard.specs.Squares.{way, Bounded}
-use Rattle.yard.specs.Tables.{blank-row, Blank, Single}
+use Rattle.gaps.specs.Slacks.{NONE}
+use Rattle.yard.specs.Squares.{way}
+use Rattle.yard.specs.Tables.{blank-row, Blank, NoMore, Least}
 
 -- ---- one cell of a square
 
@@ -71,37 +71,28 @@ module _ {square : List (List ℕ)} (blank : Blank square) where
     columns = λ x h. ap length (blank .row-is x h) ∙ length-set (replicate YARD-STEPS NONE) x 0 ∙ length-replicate YARD-STEPS NONE;
   }
 
-  blank-bounded : Bounded square
-  blank-bounded x y h g = tell (blank-way x y h g)
-    where
-      tell : ((x ≡ y) × (way square x y ≡ 0)) ⊎ ((x ≡ y → ⊥) × (way square x y ≡ NONE)) → way square x y ≤ NONE
-      tell (inl (e, is)) = omega (arith, is)
-      tell (inr (d, is)) = omega (arith, is)
-
--- ---- the slacks of the rules that were passed
+-- ---- the least amounts of the rules that were passed
 
 -- The places held below i.
 abbrev pub passed : ℕ → List ℕ → ℕ → Type 0
 passed i levels j = (j < i) × held-by levels j
 
--- The square has the least slacks of the rules in the places below i; seen says how many these are.
-pub record Passing (i : ℕ) (R : ℕ → Rule) (levels : List ℕ) (p : ℕ → ℕ) (seen : ℕ) (square : List (List ℕ)) : Type 0 where
+-- The square has the least amounts of the rules in the places below i; seen says how many these are.
+pub record Passing (i : ℕ) (R : ℕ → Rule) (levels : List ℕ) (seen : ℕ) (square : List (List ℕ)) : Type 0 where
   pub within : i ≤ RULES
   pub seen-are : seen ≡ taken i levels
   pub shaped : Shaped square
-  pub bounded : Bounded square
-  pub slacks : Slacks YARD-STEPS R (passed i levels) p (way square)
+  pub least : Least R (passed i levels) (way square)
 
 -- Before the first place.
-pub passing-none : (R : ℕ → Rule) (levels : List ℕ) (p : ℕ → ℕ) {square : List (List ℕ)} → Blank square → Passing 0 R levels p 0 square
-passing-none R levels p {square} blank = record {
+pub passing-none : (R : ℕ → Rule) (levels : List ℕ) {square : List (List ℕ)} → Blank square → Passing 0 R levels 0 square
+passing-none R levels {square} blank = record {
   within = omega arith;
   seen-are = sym (taken-of-none levels);
   shaped = blank-shaped blank;
-  bounded = blank-bounded blank;
-  slacks = record {
+  least = record {
     self = λ v h. self v h (blank-way blank v v h h);
-    under = λ i w h spares. absurd (omega (arith, h .0));
+    under = λ i h. absurd (omega (arith, h .0));
     given = λ x y h g. given x y (blank-way blank x y h g);
   };
 }
@@ -113,11 +104,11 @@ passing-none R levels p {square} blank = record {
     given :
         (x y : ℕ) → ((x ≡ y) × (way square x y ≡ 0)) ⊎ ((x ≡ y → ⊥) × (way square x y ≡ NONE)) →
         (way square x y ≡ NONE) ⊎ ((x ≡ y) × (way square x y ≡ 0))
-        ⊎ ((i : ℕ) × passed 0 levels i × (R i .first ≡ x) × (R i .second ≡ y) × Spares R p i (way square x y))
+        ⊎ ((i : ℕ) × passed 0 levels i × (R i .first ≡ x) × (R i .second ≡ y) × Biased (R i .amount) (way square x y))
     given x y (inl (e, is)) = inr (inl (e, is))
     given x y (inr (d, is)) = inl is
 
-module _ {i : ℕ} {R : ℕ → Rule} {levels : List ℕ} {p : ℕ → ℕ} {seen : ℕ} {square : List (List ℕ)} (s : Passing i R levels p seen square) where
+module _ {i : ℕ} {R : ℕ → Rule} {levels : List ℕ} {seen : ℕ} {square : List (List ℕ)} (s : Passing i R levels seen square) where
   -- Where not all have been seen, a place is left.
   pub place-left : seen < taken RULES levels → i < RULES
   place-left fewer = tell (decLt i RULES)
@@ -129,14 +120,11 @@ module _ {i : ℕ} {R : ℕ → Rule} {levels : List ℕ} {p : ℕ → ℕ} {see
           absurd (omega (arith, fewer, s .seen-are, ap (λ (j : ℕ). taken j levels) end))
 
   -- Where all have been seen, they are the rules held.
-  pub passing-all : taken RULES levels ≤ seen → Single R (held-by levels) p square
+  pub passing-all : taken RULES levels ≤ seen → Least R (held-by levels) (way square)
   passing-all all = record {
-    slacks = record {
-      self = s .slacks .self;
-      under = λ j w h spares. s .slacks .under j w (below j h (decLt j i), h) spares;
-      given = λ x y h g. given x y (s .slacks .given x y h g);
-    };
-    bounded = s .bounded;
+    self = s .least .self;
+    under = λ j h. s .least .under j (below j h (decLt j i), h);
+    given = λ x y h g. given x y (s .least .given x y h g);
   }
     where
       below : (j : ℕ) → held-by levels j → Dec (j < i) → j < i
@@ -146,24 +134,23 @@ module _ {i : ℕ} {R : ℕ → Rule} {levels : List ℕ} {p : ℕ → ℕ} {see
       given :
           (x y : ℕ) →
           (way square x y ≡ NONE) ⊎ ((x ≡ y) × (way square x y ≡ 0))
-          ⊎ ((j : ℕ) × passed i levels j × (R j .first ≡ x) × (R j .second ≡ y) × Spares R p j (way square x y)) →
+          ⊎ ((j : ℕ) × passed i levels j × (R j .first ≡ x) × (R j .second ≡ y) × Biased (R j .amount) (way square x y)) →
           (way square x y ≡ NONE) ⊎ ((x ≡ y) × (way square x y ≡ 0))
-          ⊎ ((j : ℕ) × held-by levels j × (R j .first ≡ x) × (R j .second ≡ y) × Spares R p j (way square x y))
+          ⊎ ((j : ℕ) × held-by levels j × (R j .first ≡ x) × (R j .second ≡ y) × Biased (R j .amount) (way square x y))
       given x y (inl e) = inl e
       given x y (inr (inl e)) = inr (inl e)
-      given x y (inr (inr (j, h, first, second, spares))) = inr (inr (j, h .1, first, second, spares))
+      given x y (inr (inr (j, h, first, second, biased))) = inr (inr (j, h .1, first, second, biased))
 
   -- A free place is passed.
-  pub passing-free : i < RULES → at levels i ≡ 0 → Passing (i + 1) R levels p seen square
+  pub passing-free : i < RULES → at levels i ≡ 0 → Passing (i + 1) R levels seen square
   passing-free inside free = record {
     within = omega arith;
     seen-are = s .seen-are ∙ sym (taken-free i levels free);
     shaped = s .shaped;
-    bounded = s .bounded;
-    slacks = record {
-      self = s .slacks .self;
-      under = λ j w h spares. s .slacks .under j w (lower j h (ℕ-discrete j i), h .1) spares;
-      given = λ x y h g. given x y (s .slacks .given x y h g);
+    least = record {
+      self = s .least .self;
+      under = λ j h. s .least .under j (lower j h (ℕ-discrete j i), h .1);
+      given = λ x y h g. given x y (s .least .given x y h g);
     };
   }
     where
@@ -174,59 +161,56 @@ module _ {i : ℕ} {R : ℕ → Rule} {levels : List ℕ} {p : ℕ → ℕ} {see
       given :
           (x y : ℕ) →
           (way square x y ≡ NONE) ⊎ ((x ≡ y) × (way square x y ≡ 0))
-          ⊎ ((j : ℕ) × passed i levels j × (R j .first ≡ x) × (R j .second ≡ y) × Spares R p j (way square x y)) →
+          ⊎ ((j : ℕ) × passed i levels j × (R j .first ≡ x) × (R j .second ≡ y) × Biased (R j .amount) (way square x y)) →
           (way square x y ≡ NONE) ⊎ ((x ≡ y) × (way square x y ≡ 0))
-          ⊎ ((j : ℕ) × passed (i + 1) levels j × (R j .first ≡ x) × (R j .second ≡ y) × Spares R p j (way square x y))
+          ⊎ ((j : ℕ) × passed (i + 1) levels j × (R j .first ≡ x) × (R j .second ≡ y) × Biased (R j .amount) (way square x y))
       given x y (inl e) = inl e
       given x y (inr (inl e)) = inr (inl e)
       given x y (inr (inr (j, h, first, second, too))) = inr (inr (j, (omega (arith, h .0), h .1), first, second, too))
 
-  -- A held place is passed, whose rule has w days to spare.
-  module _ (inside : i < RULES) (some : 0 < at levels i) (w : ℕ) (spares : Spares R p i w) where
-    -- A rule has one slack only.
-    one-slack : (v : ℕ) → Spares R p i v → v ≡ w
-    one-slack v too = omega (arith, too, spares)
-
+  -- A held place is passed, whose rule has the amount w.
+  module _ (inside : i < RULES) (some : 0 < at levels i) (w : ℕ) (biased : Biased (R i .amount) w) where
     seen-one : seen + 1 ≡ taken (i + 1) levels
     seen-one = omega (arith, s .seen-are, taken-held i levels some)
 
-    -- What is at most the slacks before, and at most w for the pair of the rule, is under the slacks after.
+    -- What is at most the least amounts before, and at most w for the pair of the rule, is no more than those after.
     under-more :
         (W : ℕ → ℕ → ℕ) → ((x y : ℕ) → W x y ≤ way square x y) → W (R i .first) (R i .second) ≤ w →
-        (j v : ℕ) → passed (i + 1) levels j → Spares R p j v → W (R j .first) (R j .second) ≤ v
-    under-more W lower here j v h too = tell (ℕ-discrete j i)
+        (j : ℕ) → passed (i + 1) levels j → NoMore (R j .amount) (W (R j .first) (R j .second))
+    under-more W lower here j h = tell (ℕ-discrete j i)
       where
-        tell : Dec (j ≡ i) → W (R j .first) (R j .second) ≤ v
+        tell : Dec (j ≡ i) → NoMore (R j .amount) (W (R j .first) (R j .second))
         tell (yes e) =
-            let is : v ≡ w = one-slack v (subst (λ (k : ℕ). Spares R p k v) e too) in
-            subst (λ (k : ℕ). W (R k .first) (R k .second) ≤ v) (sym e) (omega (arith, here, is))
-        tell (no d) = omega (arith, lower (R j .first) (R j .second), s .slacks .under j v (omega (arith, h .0), h .1) too)
+            subst (λ (k : ℕ). NoMore (R k .amount) (W (R k .first) (R k .second))) (sym e)
+            (record { lower = omega (arith, here, biased .is); narrow = omega (arith, here, biased .narrow) })
+        tell (no d) =
+            let before = s .least .under j (omega (arith, h .0), h .1) in
+            record { lower = omega (arith, lower (R j .first) (R j .second), before .lower); narrow = omega (arith, lower (R j .first) (R j .second), before .narrow) }
 
-    -- It has no less to spare than those before.
-    pub passing-keeps : way square (R i .first) (R i .second) ≤ w → Passing (i + 1) R levels p (seen + 1) square
+    -- It is no less than those before.
+    pub passing-keeps : way square (R i .first) (R i .second) ≤ w → Passing (i + 1) R levels (seen + 1) square
     passing-keeps no-less = record {
       within = omega arith;
       seen-are = seen-one;
       shaped = s .shaped;
-      bounded = s .bounded;
-      slacks = record {
-        self = s .slacks .self;
+      least = record {
+        self = s .least .self;
         under = under-more (way square) (λ x y. omega arith) no-less;
-        given = λ x y h g. given x y (s .slacks .given x y h g);
+        given = λ x y h g. given x y (s .least .given x y h g);
       };
     }
       where
         given :
             (x y : ℕ) →
             (way square x y ≡ NONE) ⊎ ((x ≡ y) × (way square x y ≡ 0))
-            ⊎ ((j : ℕ) × passed i levels j × (R j .first ≡ x) × (R j .second ≡ y) × Spares R p j (way square x y)) →
+            ⊎ ((j : ℕ) × passed i levels j × (R j .first ≡ x) × (R j .second ≡ y) × Biased (R j .amount) (way square x y)) →
             (way square x y ≡ NONE) ⊎ ((x ≡ y) × (way square x y ≡ 0))
-            ⊎ ((j : ℕ) × passed (i + 1) levels j × (R j .first ≡ x) × (R j .second ≡ y) × Spares R p j (way square x y))
+            ⊎ ((j : ℕ) × passed (i + 1) levels j × (R j .first ≡ x) × (R j .second ≡ y) × Biased (R j .amount) (way square x y))
         given x y (inl e) = inl e
         given x y (inr (inl e)) = inr (inl e)
         given x y (inr (inr (j, h, first, second, too))) = inr (inr (j, (omega (arith, h .0), h .1), first, second, too))
 
-    -- It has less.
+    -- It is less.
     module _ (less : w < way square (R i .first) (R i .second)) (first-in : R i .first < YARD-STEPS) (second-in : R i .second < YARD-STEPS) where
       abbrev x₁ : ℕ
       x₁ = R i .first
@@ -261,48 +245,44 @@ module _ {i : ℕ} {R : ℕ → Rule} {levels : List ℕ} {p : ℕ → ℕ} {see
       lower x y (yes e) = omega (arith, same-cell x y e, was x y e, less)
       lower x y (no d) = omega (arith, there x y d)
 
-      bound : (x y : ℕ) → x < YARD-STEPS → y < YARD-STEPS → Dec ((x ≡ x₁) × (y ≡ y₁)) → way new x y ≤ NONE
-      bound x y h g d = omega (arith, lower x y d, s .bounded x y h g)
-
       self : (v : ℕ) → v < YARD-STEPS → Dec ((v ≡ x₁) × (v ≡ y₁)) → way new v v ≡ 0
-      self v h (yes e) = absurd (omega (arith, was v v e, less, s .slacks .self v h))
-      self v h (no d) = there v v d ∙ s .slacks .self v h
+      self v h (yes e) = absurd (omega (arith, was v v e, less, s .least .self v h))
+      self v h (no d) = there v v d ∙ s .least .self v h
 
       given :
           (x y : ℕ) → Dec ((x ≡ x₁) × (y ≡ y₁)) →
           (way square x y ≡ NONE) ⊎ ((x ≡ y) × (way square x y ≡ 0))
-          ⊎ ((j : ℕ) × passed i levels j × (R j .first ≡ x) × (R j .second ≡ y) × Spares R p j (way square x y)) →
+          ⊎ ((j : ℕ) × passed i levels j × (R j .first ≡ x) × (R j .second ≡ y) × Biased (R j .amount) (way square x y)) →
           (way new x y ≡ NONE) ⊎ ((x ≡ y) × (way new x y ≡ 0))
-          ⊎ ((j : ℕ) × passed (i + 1) levels j × (R j .first ≡ x) × (R j .second ≡ y) × Spares R p j (way new x y))
+          ⊎ ((j : ℕ) × passed (i + 1) levels j × (R j .first ≡ x) × (R j .second ≡ y) × Biased (R j .amount) (way new x y))
       given x y (yes e) before =
-          inr (inr (i, (omega arith, (inside, some)), sym (e .0), sym (e .1), subst (Spares R p i) (sym (same-cell x y e)) spares))
+          inr (inr (i, (omega arith, (inside, some)), sym (e .0), sym (e .1), subst (Biased (R i .amount)) (sym (same-cell x y e)) biased))
       given x y (no d) (inl e) = inl (there x y d ∙ e)
       given x y (no d) (inr (inl (e, is))) = inr (inl (e, there x y d ∙ is))
       given x y (no d) (inr (inr (j, h, first, second, too))) =
-          inr (inr (j, (omega (arith, h .0), h .1), first, second, subst (Spares R p j) (sym (there x y d)) too))
+          inr (inr (j, (omega (arith, h .0), h .1), first, second, subst (Biased (R j .amount)) (sym (there x y d)) too))
 
-      pub passing-lowers : Passing (i + 1) R levels p (seen + 1) (put square (R i .first) (R i .second) w)
+      pub passing-lowers : Passing (i + 1) R levels (seen + 1) (put square (R i .first) (R i .second) w)
       passing-lowers = record {
         within = omega arith;
         seen-are = seen-one;
         shaped = put-shaped (s .shaped) x₁ y₁ w first-in second-in;
-        bounded = λ x y h g. bound x y h g (is-here x y);
-        slacks = record {
+        least = record {
           self = λ v h. self v h (is-here v v);
           under = under-more (way new) (λ x y. lower x y (is-here x y)) (omega (arith, here));
-          given = λ x y h g. given x y (is-here x y) (s .slacks .given x y h g);
+          given = λ x y h g. given x y (is-here x y) (s .least .given x y h g);
         };
       }
 
--- A held place is passed, and the cell of its rule is lowered where the rule has less to spare.
+-- A held place is passed, and the cell of its rule is lowered where the rule has less.
 pub passing-held :
-    {i : ℕ} {R : ℕ → Rule} {levels : List ℕ} {p : ℕ → ℕ} {seen : ℕ} {square : List (List ℕ)} → Passing i R levels p seen square →
-    i < RULES → 0 < at levels i → (w : ℕ) → Spares R p i w → R i .first < YARD-STEPS → R i .second < YARD-STEPS →
+    {i : ℕ} {R : ℕ → Rule} {levels : List ℕ} {seen : ℕ} {square : List (List ℕ)} → Passing i R levels seen square →
+    i < RULES → 0 < at levels i → (w : ℕ) → Biased (R i .amount) w → R i .first < YARD-STEPS → R i .second < YARD-STEPS →
     (x y : ℕ) → x ≡ R i .first → y ≡ R i .second → (new : List (List ℕ)) → ((w < way square x y) × (new ≡ put square x y w)) ⊎ ((way square x y ≤ w) × (new ≡ square)) →
-    Passing (i + 1) R levels p (seen + 1) new
-passing-held {i} {R} {levels} {p} {seen} {square} s inside some w spares first-in second-in x y first second new (inl (less, is)) =
-    subst (Passing (i + 1) R levels p (seen + 1)) (sym (is ∙ (λ k. put square (first k) (second k) w)))
-    (passing-lowers s inside some w spares (subst (λ (v : ℕ). w < v) (λ k. way square (first k) (second k)) less) first-in second-in)
-passing-held {i} {R} {levels} {p} {seen} {square} s inside some w spares first-in second-in x y first second new (inr (no-less, is)) =
-    subst (Passing (i + 1) R levels p (seen + 1)) (sym is)
-    (passing-keeps s inside some w spares (subst (λ (v : ℕ). v ≤ w) (λ k. way square (first k) (second k)) no-less))
+    Passing (i + 1) R levels (seen + 1) new
+passing-held {i} {R} {levels} {seen} {square} s inside some w biased first-in second-in x y first second new (inl (less, is)) =
+    subst (Passing (i + 1) R levels (seen + 1)) (sym (is ∙ (λ k. put square (first k) (second k) w)))
+    (passing-lowers s inside some w biased (subst (λ (v : ℕ). w < v) (λ k. way square (first k) (second k)) less) first-in second-in)
+passing-held {i} {R} {levels} {seen} {square} s inside some w biased first-in second-in x y first second new (inr (no-less, is)) =
+    subst (Passing (i + 1) R levels (seen + 1)) (sym is)
+    (passing-keeps s inside some w biased (subst (λ (v : ℕ). v ≤ w) (λ k. way square (first k) (second k)) no-less))

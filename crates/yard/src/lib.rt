@@ -1,6 +1,7 @@
 // The gap table made afresh, brought up to date and tested.
 ghost use mathlib.Core.Path.{_≡_};
-ghost use Prim.Native.Nat.{ℕ, _<_, _≤_};
+ghost use Prim.Native.Nat.{ℕ, _+_, _<_, _≤_};
+ghost use mathlib.Core.List.{[]};
 ghost use lib.ListN.{length, getD};
 ghost use lib.IntN.{pos};
 ghost use Rattle.meaning.specs.Bounds.{YARD-STEPS};
@@ -14,12 +15,15 @@ ghost use Rattle.gaps.specs.Gaps.{cell, InYard, Right, Remade};
 ghost use Rattle.gaps.specs.Slacks.{NONE, Near, SmallerOf, Raised};
 ghost use Rattle.yard.specs.Cells.{limit};
 ghost use Rattle.yard.specs.Squares.{way, RowBounded, Bounded, RowStaged, Closed};
-ghost use Rattle.yard.specs.Tables.{Made, TableMade, Blank, Slackable, Single, Fresh, Agrees, SameRow};
+ghost use Rattle.yard.specs.Tables.{Made, TableMade, Blank, Leasable, Least, Slackable, SlackOf, RowKept, RowSlack, Single, Fresh, Agrees, SameRow};
 use gaps::Gaps;
 use meaning::Counts;
 
 // The slack of a pair of which nothing is known.
 const NONE: u64 = 1125899906842624;
+
+// So many places are read at a time; the number of all places is a multiple of it.
+const GROUP: usize = 4;
 
 // One row of slacks, and all of them.
 type Row = [u64; meaning::YARD_STEPS];
@@ -82,29 +86,86 @@ fn blank() -> Square
     square
 }
 
-// The square of the slacks that single rules give, of m rules held. Places are read until all of them have been seen.
-fn slacks(m: usize, xs: &[u16], ys: &[u16], cs: &[i32], days: &[u32], levels: &[u8]) -> Square
-    requires { ⌜ Slackable m (now xs) (now ys) (now cs) (now days) (now levels) ⌝ }
-    ensures { λ r. ⌜
-        Single (rule-at (columns (now (xs .entry)) (now (ys .entry)) (now (cs .entry)))) (held-by (now (levels .entry))) (at (now (days .entry))) r ⌝ }
+// The square of the least amounts that single rules give, of m rules held, counted from BIAS below 0. Places are read, a group at a time, until all of the rules have been seen.
+fn least(m: usize, xs: &[u16], ys: &[u16], cs: &[i32], levels: &[u8]) -> Square
+    requires { ⌜ Leasable m (now xs) (now ys) (now cs) (now levels) ⌝ }
+    ensures { λ r. ⌜ Least (rule-at (columns (now (xs .entry)) (now (ys .entry)) (now (cs .entry)))) (held-by (now (levels .entry))) (way r) ⌝ }
 {
     let start = blank();
     let mut square = start;
     let mut seen = 0;
     let mut i = 0;
     while seen < m {
-        if levels[i] != 0 {
-            let x = lent::number_at(xs, i);
-            let y = lent::number_at(ys, i);
-            let w = lent::slack(xs, ys, cs, days, i);
-            if w < square[x][y] {
-                square[x][y] = w;
+        let end = i + GROUP;
+        for k in i..end {
+            if levels[k] != 0 {
+                let x = lent::number_at(xs, k);
+                let y = lent::number_at(ys, k);
+                let w = lent::amount_at(cs, k);
+                if w < square[x][y] {
+                    square[x][y] = w;
+                }
+                seen += 1;
             }
-            seen += 1;
         }
-        i += 1;
+        i = end;
     }
     square
+}
+
+// The slack of a pair whose least amount is w, counted from BIAS below 0, where its steps have the days dx, counted so too, and dy.
+fn slack_of(w: u64, dx: u64, dy: u64) -> u64
+    requires { ⌜ dy < 4294967296 ⌝ }
+    requires { ⌜ (w < NONE → dx ≤ dy + w) ⌝ }
+    ensures { λ r. ⌜ SlackOf w dx dy r ⌝ }
+{
+    if NONE <= w {
+        return NONE;
+    }
+    dy + w - dx
+}
+
+// The row of slacks of step x, from its row of least amounts. A step has its own day, so that its own cell becomes 0.
+fn slack_row(x: usize, days: &[u32], row: Row) -> Row
+    requires { ⌜ x < YARD-STEPS ⌝ }
+    requires { ⌜ YARD-STEPS ≤ length (now days) ⌝ }
+    requires { ⌜ RowKept x (now days) row ⌝ }
+    ensures { λ r. ⌜ RowSlack x (now (days .entry)) row r ⌝ }
+{
+    let dx = lent::day_at(days, x) + lent::BIAS;
+    let mut old = row;
+    old[x] = lent::BIAS;
+    let mut new = old;
+    for y in 0..meaning::YARD_STEPS {
+        let z = slack_of(old[y], dx, lent::day_at(days, y));
+        new[y] = z;
+    }
+    new
+}
+
+// The square of slacks, from that of least amounts.
+fn slacked(days: &[u32], square: Square) -> Square
+    requires { ⌜ YARD-STEPS ≤ length (now days) ⌝ }
+    requires { ⌜ ((x : ℕ) → x < YARD-STEPS → RowKept x (now days) (getD square x [])) ⌝ }
+    ensures { λ r. ⌜ ((x : ℕ) → x < YARD-STEPS → RowSlack x (now (days .entry)) (getD square x []) (getD r x [])) ⌝ }
+{
+    let mut new = square;
+    for x in 0..meaning::YARD_STEPS {
+        let row = new[x];
+        let next = slack_row(x, days, row);
+        new[x] = next;
+    }
+    new
+}
+
+// The square of the slacks that single rules give, of m rules held. All rules of a pair have the days of its steps in common, so the least slack is that of the least amount.
+fn slacks(m: usize, xs: &[u16], ys: &[u16], cs: &[i32], days: &[u32], levels: &[u8]) -> Square
+    requires { ⌜ Slackable m (now xs) (now ys) (now cs) (now days) (now levels) ⌝ }
+    ensures { λ r. ⌜
+        Single (rule-at (columns (now (xs .entry)) (now (ys .entry)) (now (cs .entry)))) (held-by (now (levels .entry))) (at (now (days .entry))) r ⌝ }
+{
+    let square = least(m, xs, ys, cs, levels);
+    slacked(days, square)
 }
 
 // The square of the slacks of n steps with all ways, of m rules held.
