@@ -5,3 +5,4 @@ pub mod Determined
 pub mod Mixing
 pub mod Possible
 pub mod ByCalls
+pub mod Beside

@@ -2,3 +2,4 @@
 pub mod Records
 pub mod Mixed
 pub mod ByCalls
+pub mod MixedBeside
