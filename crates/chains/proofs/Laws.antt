@@ -350,36 +350,6 @@ module _ (n m : ℕ) (levels xs heads nexts : List ℕ) (few : m ≤ RULES) (hel
 
 -- Every rule that H holds of is older than rule m.
 module _ (n : ℕ) (H : ℕ → Type 0) (m : ℕ) (xs : List ℕ) (first-in : at xs m < n) (older : (k : ℕ) → H k → k < m) (heads nexts heads′ nexts′ : List ℕ) where
-  -- With rule m put on its chain, they are the chains of these and of m.
-  pub lent-more : m < RULES → Pushed m xs heads nexts heads′ nexts′ → LentChains n H xs heads nexts → LentChains n (plus H m) xs heads′ nexts′
-  lent-more in-rules p lent =
-      lent-chains n (plus H m) xs heads′ nexts′ on only
-      (omega (arith, lent .heads-room, ap length (p .heads-are), length-set heads (at xs m) (m + 1)))
-      (omega (arith, lent .nexts-room, ap length (p .nexts-are), length-set nexts m (at heads (at xs m))))
-      (rw (p .heads-are, p .nexts-are) (chains-more n H number m xs heads nexts first-in older (p .head-place) (p .next-place) (chains-lent n H xs heads nexts lent)))
-    where
-      here : at nexts′ m ≡ at heads (at xs m)
-      here = ap (λ (l : List ℕ). at l m) (p .nexts-are) ∙ getD-set-same nexts m (at heads (at xs m)) 0 (p .next-place)
-
-      other : (k : ℕ) → (k ≡ m → ⊥) → at nexts′ k ≡ at nexts k
-      other k apart = ap (λ (l : List ℕ). at l k) (p .nexts-are) ∙ getD-set-other nexts m k (at heads (at xs m)) 0 apart
-
-      -- A head leads to a rule that is on a chain, so it is a link.
-      head-link : (l : ℕ) → at heads (at xs m) ≡ l → l < OFF
-      head-link zero e = omega arith
-      head-link (suc k) e = omega (arith, lent .chained .head-held (at xs m) k first-in e .0)
-
-      on : (k : ℕ) → plus H m k → linked nexts′ k
-      on k (inl is) = (omega (arith, is, in-rules), omega (arith, ap (at nexts′) is, here, head-link (at heads (at xs m)) refl))
-      on k (inr held) = (lent .on k held .0, omega (arith, other k (λ e. omega (arith, e, older k held)), lent .on k held .1))
-
-      only : (k : ℕ) → linked nexts′ k → plus H m k
-      only k h = by-place (ℕ-discrete k m)
-        where
-          by-place : Dec (k ≡ m) → plus H m k
-          by-place (yes e) = inl e
-          by-place (no apart) = inr (lent .only k (h .0, omega (arith, h .1, other k apart)))
-
   -- With rule m taken off its chain, chains of these and of m are the chains of these.
   pub lent-less : Dropped m xs heads nexts heads′ nexts′ → LentChains n (plus H m) xs heads nexts → LentChains n H xs heads′ nexts′
   lent-less d lent =
@@ -413,11 +383,6 @@ module _ (n : ℕ) (H : ℕ → Type 0) (m : ℕ) (xs : List ℕ) (first-in : at
 
 module _ (n m : ℕ) (xs : List ℕ) (first-in : at xs m < n) (heads nexts heads′ nexts′ : List ℕ) where
   -- The same of the first m rules.
-  pub first-more : m < RULES → Pushed m xs heads nexts heads′ nexts′ → LentChains n (first m) xs heads nexts → LentChains n (first (m + 1)) xs heads′ nexts′
-  first-more in-rules p lent =
-      lent-agree n (plus (first m) m) (first (m + 1)) xs xs heads′ nexts′ (one-more m) (or-last m) (λ k h. refl)
-      (lent-more n (first m) m xs first-in (λ k l. l) heads nexts heads′ nexts′ in-rules p lent)
-
   pub first-less : Dropped m xs heads nexts heads′ nexts′ → LentChains n (first (m + 1)) xs heads nexts → LentChains n (first m) xs heads′ nexts′
   first-less d lent =
       lent-less n (first m) m xs first-in (λ k l. l) heads nexts heads′ nexts′ d

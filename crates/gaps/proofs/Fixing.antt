@@ -4,7 +4,7 @@ use native.Mathlib.Omega.{arith}
 use mathlib.Core.Path.{_≡_, refl, sym, _∙_, ap, subst}
 use mathlib.Core.List.{List}
 use mathlib.Core.Logic.{_⊎_, inl, inr}
-use lib.IntN.{ℤ, pos, negℤ, negsuc}
+use lib.IntN.{ℤ, pos, negℤ}
 use Rattle.meaning.specs.Rules.{Rule}
 use Rattle.meaning.specs.Reckoning.{up, dn}
 use Rattle.meaning.specs.Tables.{Tables}
@@ -12,7 +12,7 @@ use Rattle.meaning.specs.Promise.{Given, Need, Meaning, Obeys}
 use Rattle.meaning.specs.Calls.{WithList, WithLists, open-meaning, watch-meaning, add-meaning, mark-meaning, back-meaning, withdraw-meaning, trial-meaning, consequences-meaning, ring-check-meaning, last-day-meaning}
 use Rattle.meaning.proofs.Determined.{Same, Fixed, FixedOnConflict, same-whole, determined, open-fixed, watch-fixed, add-fixed, mark-fixed, back-fixed, withdraw-fixed, trial-fixed, consequences-fixed, ring-check-fixed, last-day-fixed, add-conflict-fixed, trial-conflict-fixed}
 use Rattle.gaps.specs.Gaps.{Gaps, Limit, NoLimit, Remade}
-use Rattle.gaps.specs.Beside.{Beside, beside, with-gaps, asks-right, leaving, remaking, open-beside, watch-beside, add-beside, mark-beside, back-beside, withdraw-beside, trial-beside, consequences-beside, ring-check-beside, last-day-beside, GapTold, gap-meaning, gap-beside}
+use Rattle.gaps.specs.Beside.{Beside, beside, with-gaps, asks-right, leaving, remaking, open-beside, watch-beside, add-beside, mark-beside, back-beside, withdraw-beside, trial-beside, consequences-beside, ring-check-beside, last-day-beside, gap-meaning, gap-beside}
 use Rattle.gaps.proofs.Limits.{le-both}
 use Rattle.gaps.proofs.Squares.{remade-same}
 

@@ -1,19 +1,18 @@
 -- After any sequence of calls every cell that is kept is the limit, or says that there is none; and the tables are as sequences of calls without the gap table leave them.
-use Prim.Native.Nat.{ℕ, _≤_, _<_}
+use Prim.Native.Nat.{ℕ, _<_}
 use native.Mathlib.Omega.{arith}
 use native.Mathlib.Decide.{ℕ-discrete}
 use mathlib.Core.Path.{_≡_, refl, sym, _∙_, ap, subst}
-use mathlib.Core.List.{List, [], _∷_}
+use mathlib.Core.List.{List}
 use mathlib.Core.Logic.{_⊎_, inl, inr}
 use Rattle.meaning.specs.Bounds.{DONE, CONFLICT, YARD-STEPS}
-use Rattle.meaning.specs.Rules.{Rule}
-use Rattle.meaning.specs.Tables.{Tables, Room, with-watched, with-mark}
-use Rattle.meaning.specs.Promise.{Given, Meaning, Obeys, bare}
-use Rattle.meaning.specs.Calls.{WithList, WithLists, with-list, with-lists, open-meaning, watch-meaning, add-meaning, mark-meaning, back-meaning, withdraw-meaning, trial-meaning, consequences-meaning, ring-check-meaning, last-day-meaning}
+use Rattle.meaning.specs.Tables.{Tables, with-watched, with-mark}
+use Rattle.meaning.specs.Promise.{Given, Meaning, Obeys}
+use Rattle.meaning.specs.Calls.{WithList, with-list, with-lists, open-meaning, watch-meaning, add-meaning, mark-meaning, back-meaning, withdraw-meaning, trial-meaning, consequences-meaning, ring-check-meaning, last-day-meaning}
 use Rattle.meaning.specs.Runs.{Call, Made, Run}
 use Rattle.meaning.proofs.Sequences.{Kept, run-kept}
-use Rattle.gaps.specs.Gaps.{Gaps, InYard, Right, Remade}
-use Rattle.gaps.specs.Beside.{Beside, beside, leaving, remaking, asks-right, open-beside, gap-meaning, gap-beside}
+use Rattle.gaps.specs.Gaps.{Gaps, Right, Remade}
+use Rattle.gaps.specs.Beside.{Beside, beside, leaving, remaking, gap-meaning, gap-beside}
 use Rattle.gaps.specs.Runs.{MadeBeside, RunBeside}
 use Rattle.gaps.proofs.Lifting.{dropped, drop-leaving, drop-remaking}
 

@@ -1,14 +1,14 @@
 -- A promise over the tables and the same promise with the gap table beside them: from the one to the other where the gap table is right, and back.
-use Prim.Native.Nat.{ℕ, _≤_, _<_}
+use Prim.Native.Nat.{ℕ}
 use native.Mathlib.Omega.{arith}
-use mathlib.Core.Path.{_≡_, refl, sym, _∙_, ap, subst}
+use mathlib.Core.Path.{_≡_, refl, ap}
 use mathlib.Core.List.{List, [], _∷_}
-use mathlib.Core.Logic.{_⊎_, inl, inr}
+use mathlib.Core.Logic.{inl, inr}
 use Rattle.meaning.specs.Bounds.{DONE, DAMAGED}
 use Rattle.meaning.specs.Tables.{Tables}
-use Rattle.meaning.specs.Promise.{Given, Need, needs, First, Meaning, Obeys, bare}
+use Rattle.meaning.specs.Promise.{Given, Need, needs, First, Meaning, Obeys}
 use Rattle.gaps.specs.Gaps.{Gaps, Right, Remade}
-use Rattle.gaps.specs.Beside.{Beside, beside, third, with-gaps, asks-right, leaving, remaking}
+use Rattle.gaps.specs.Beside.{beside, third, with-gaps, asks-right, leaving, remaking}
 
 -- ---- the third need
 
@@ -51,10 +51,6 @@ module _ {S : Type 0} (m : Meaning S) (asks : List Need) (left : S → Gaps → 
     on-conflict = λ e. (x .on-conflict e .0 .0, x .on-conflict e .1);
     when-refused = λ nd nc. let refused = x .when-refused nd nc in (refused .0, λ i. refused .1 i .lent);
   }
-
-  -- What is in the gap table afterwards.
-  pub gaps-done : Obeys (with-gaps asks m left a) (beside s a) g (beside s′ b) → g .number ≡ DONE → left s′ b
-  gaps-done x e = x .when-done e .1
 
 module _ {S : Type 0} (m : Meaning S) (t : Tables) (a : Gaps) (right : Right t a) (s s′ : S) (g : Given) where
   -- A call that leaves the gap table.

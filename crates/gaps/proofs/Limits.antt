@@ -7,7 +7,7 @@ use lib.IntN.{ℤ, pos, _+ℤ_}
 use lib.Signed.{_≤ℤ_}
 use Rattle.meaning.specs.Bounds.{NO-LIMIT}
 use Rattle.meaning.specs.Rules.{Rule, rule, Always}
-use Rattle.meaning.proofs.Whole.{le→, →le, →eq, add-is, keeps→, →keeps}
+use Rattle.meaning.proofs.Whole.{le→, →eq, add-is, keeps→, →keeps}
 use Rattle.meaning.proofs.Theory.{arrangement-same}
 use Rattle.gaps.specs.Gaps.{Says}
 
@@ -16,9 +16,6 @@ use Rattle.gaps.specs.Gaps.{Says}
 -- Two whole numbers neither of which is larger are one.
 pub le-both : (a b : ℤ) → a ≤ℤ b → b ≤ℤ a → a ≡ b
 le-both a b h g = →eq a b (omega (arith, le→ a b h, le→ b a g))
-
-pub le-over : (a b c : ℤ) → a ≤ℤ b → b ≤ℤ c → a ≤ℤ c
-le-over a b c h g = →le a c (omega (arith, le→ a b h, le→ b c g))
 
 -- ---- a cell is fixed
 

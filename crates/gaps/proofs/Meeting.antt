@@ -1,25 +1,25 @@
 -- With the gap table too no promise is empty: every input whose gap table is a square, as each is that is lent, has an outcome that its call's promise allows.
-use Prim.Native.Nat.{ℕ, zero, suc, _≤_, _<_}
+use Prim.Native.Nat.{ℕ, suc, _≤_, _<_}
 use native.Mathlib.Omega.{arith}
 use native.Mathlib.Decide.{ℕ-discrete, decLe, decLt}
-use mathlib.Core.Path.{_≡_, refl, sym, _∙_}
+use mathlib.Core.Path.{_≡_, refl}
 use mathlib.Core.List.{List, [], _∷_}
-use mathlib.Core.Logic.{_⊎_, inl, inr}
-use lib.IntN.{ℤ, pos, negsuc, negℤ}
+use mathlib.Core.Logic.{inl, inr}
+use lib.IntN.{ℤ, pos, negsuc}
 use lib.ListN.{length}
-use Rattle.meaning.specs.Bounds.{STEPS, RULES, MARKS, WATCHED, DONE, SHORT, DAMAGED, STEP, AMOUNT, FULL, CONFLICT, NOMARK, ABSENT, YARD, YARD-STEPS}
+use Rattle.meaning.specs.Bounds.{STEPS, RULES, MARKS, WATCHED, DONE, SHORT, DAMAGED, STEP, FULL, CONFLICT, NOMARK, ABSENT, YARD, YARD-STEPS}
 use Rattle.meaning.specs.Rules.{Rule, Fits}
 use Rattle.meaning.specs.Tables.{Tables, Room, Sound}
 use Rattle.meaning.specs.Promise.{Given, Need, needs, First, Meaning, Obeys, bare, gave}
-use Rattle.meaning.specs.Calls.{WithList, WithLists, with-list, with-lists, rules-of, held-in, rule-needs, open-meaning, watch-meaning, add-meaning, mark-meaning, back-meaning, withdraw-meaning, trial-meaning, consequences-meaning, ring-check-meaning, last-day-meaning}
+use Rattle.meaning.specs.Calls.{with-list, with-lists, rules-of, held-in, rule-needs, open-meaning, watch-meaning, add-meaning, mark-meaning, back-meaning, withdraw-meaning, trial-meaning, consequences-meaning, ring-check-meaning, last-day-meaning}
 use Rattle.meaning.specs.Runs.{Call, Made}
-use Rattle.meaning.proofs.Needs.{AllMet, done-met, obeys-done, obeys-refused}
+use Rattle.meaning.proofs.Needs.{done-met, obeys-done, obeys-refused}
 use Rattle.meaning.proofs.Needs as needs-of
 use Rattle.meaning.proofs.Decided.{room?, sound?}
 use Rattle.meaning.proofs.Possible.{Outcome, open-possible, watch-possible, add-possible, mark-possible, back-possible, withdraw-possible, trial-possible, consequences-possible, ring-check-possible, last-day-possible}
-use Rattle.meaning.proofs.Sequences.{Kept, call-keeps, opened-kept}
-use Rattle.gaps.specs.Gaps.{Gaps, Square, cell, Says, InYard, Right, Remade}
-use Rattle.gaps.specs.Beside.{Beside, beside, third, with-gaps, asks-right, leaving, remaking, open-beside, watch-beside, add-beside, mark-beside, back-beside, withdraw-beside, trial-beside, consequences-beside, ring-check-beside, last-day-beside, GapTold, gap-meaning, gap-beside}
+use Rattle.meaning.proofs.Sequences.{call-keeps, opened-kept}
+use Rattle.gaps.specs.Gaps.{Gaps, Square, cell, Says, Right, Remade}
+use Rattle.gaps.specs.Beside.{Beside, beside, with-gaps, asks-right, open-beside, watch-beside, add-beside, mark-beside, back-beside, withdraw-beside, trial-beside, consequences-beside, ring-check-beside, last-day-beside, GapTold, gap-meaning, gap-beside}
 use Rattle.gaps.proofs.Lifting.{lifted}
 use Rattle.gaps.proofs.Right.{right?, limit-cell}
 use Rattle.gaps.proofs.Squares.{remade-some}

@@ -6,13 +6,12 @@ use mathlib.Core.Logic.{_⊎_, inl, inr}
 use lib.IntN.{ℤ, pos, _+ℤ_, ℤ-discrete}
 use lib.Signed.{_≤ℤ_, _<ℤ_}
 use Rattle.meaning.specs.Bounds.{NO-LIMIT, LARGEST}
-use Rattle.meaning.specs.Rules.{Rule, rule, InSteps, InBounds, Arrangement, Plan, Always, more, plus, largest}
+use Rattle.meaning.specs.Rules.{Rule, rule, InSteps, InBounds, Arrangement, Plan, Always, more, plus}
 use Rattle.meaning.specs.Reckoning.{up, dn}
 use Rattle.meaning.proofs.Whole.{le→, lt→, add-is, keeps→, →keeps, plan→}
-use Rattle.meaning.proofs.LastDay.{largest-over}
 use Rattle.meaning.proofs.More.{more-all, arrangement-new, arrangement-old}
-use Rattle.gaps.specs.Gaps.{Gaps, cell, Limit, NoLimit, Says, InYard}
-use Rattle.gaps.specs.Slacks.{Spares, NEAR, Near, SmallerOf, Raised}
+use Rattle.gaps.specs.Gaps.{cell, Limit, NoLimit, Says}
+use Rattle.gaps.specs.Slacks.{Spares, NEAR, Near, SmallerOf}
 use Rattle.gaps.proofs.Closing.{picked, picked-yes, picked-no, parts-few, up-most, Holds, →holds, holds-over, Closed, Tells, tells-says}
 use Rattle.gaps.proofs.Stages.{min-either}
 use Rattle.gaps.proofs.Limits.{always-over}
@@ -301,49 +300,3 @@ module _
   raised-says i j in-i in-j c smaller =
       tells-says n (more R k r) (plus H k) q none (NEAR + last + (last + LARGEST) + (NEAR + last)) W raised-closed plan
       (more-all (InSteps n) R H k r (new .steps-in) (λ v held. bounds v held .steps-in)) i j in-i in-j c (raised-tells i j in-i in-j c smaller)
-
-  -- The way back over the new rule, from its second step to its first, is not below 0: so the column of its first step and the row of its second stay.
-  around : (C (r .second) (r .first) ≡ pos NO-LIMIT → ⊥) → dn (r .amount) + dn (C (r .second) (r .first)) ≤ up (r .amount) + up (C (r .second) (r .first))
-  around e = told (is (r .second) (r .first) (new .steps-in .second-in) (new .steps-in .first-in))
-    where
-      told : Is (r .second) (r .first) → dn (r .amount) + dn (C (r .second) (r .first)) ≤ up (r .amount) + up (C (r .second) (r .first))
-      told (inl (f, w, no-limit)) = absurd (e f)
-      told (inr (f, w, few, limit)) = omega (arith, w, spare-is)
-
-  pub raised-column : (i : ℕ) (c : ℤ) → SmallerOf (C i (r .first)) (C i (r .first)) (r .amount) (C (r .second) (r .first)) c → c ≡ C i (r .first)
-  raised-column i c (inl (far, same)) = same
-  raised-column i c (inr (e, f, inl (less, same))) =
-      absurd (omega (
-        arith,
-        around f,
-        lt→ (C i (r .first) +ℤ r .amount +ℤ C (r .second) (r .first)) (C i (r .first)) less,
-        add-is (C i (r .first)) (r .amount),
-        add-is (C i (r .first) +ℤ r .amount) (C (r .second) (r .first)),
-      ))
-  raised-column i c (inr (e, f, inr (less, same))) = same
-
-  pub raised-row : (j : ℕ) (c : ℤ) → SmallerOf (C (r .second) j) (C (r .second) (r .first)) (r .amount) (C (r .second) j) c → c ≡ C (r .second) j
-  raised-row j c (inl (far, same)) = same
-  raised-row j c (inr (e, f, inl (less, same))) =
-      absurd (omega (
-        arith,
-        around e,
-        lt→ (C (r .second) (r .first) +ℤ r .amount +ℤ C (r .second) j) (C (r .second) j) less,
-        add-is (C (r .second) (r .first)) (r .amount),
-        add-is (C (r .second) (r .first) +ℤ r .amount) (C (r .second) j),
-      ))
-  raised-row j c (inr (e, f, inr (less, same))) = same
-
--- The same of a gap table that is raised, over any plan of all rules.
-pub raised-cells :
-    (n : ℕ) (R : ℕ → Rule) (H : ℕ → Type 0) (k : ℕ) (r : Rule) (q : ℕ → ℕ) → (H k → ⊥) → ((i : ℕ) → H i → InBounds n (R i)) → InBounds n r →
-    Plan (more R k r) (plus H k) q → (before after : Gaps) →
-    ((i j : ℕ) → InYard n i j → Says R H i j (cell before i j)) → ((i j : ℕ) → InYard n i j → Near (cell before i j)) →
-    Raised n (r .first) (r .second) (r .amount) before after → (i j : ℕ) → InYard n i j → Says (more R k r) (plus H k) i j (cell after i j)
-raised-cells n R H k r q free bounds new plan before after says near raised i j yard =
-    raised-says n R H k r q (largest n q) (cell before) free bounds new plan (largest-over n q)
-    (λ x y in-x in-y. says x y (inside x y in-x in-y)) (λ x y in-x in-y. near x y (inside x y in-x in-y))
-    i j (yard .row-in) (yard .column-in) (cell after i j) (raised .smaller i j yard)
-  where
-    inside : (x y : ℕ) → x < n → y < n → InYard n x y
-    inside x y in-x in-y = record { one-yard = yard .one-yard; row-in = in-x; column-in = in-y }

@@ -2,7 +2,7 @@
 -- table raised it is right again.
 use Prim.Native.Nat.{ℕ, _-_, _*_, _≤_, _<_}
 use native.Mathlib.Decide.{decLe, decLt}
-use mathlib.Core.Path.{_≡_, sym, subst}
+use mathlib.Core.Path.{subst}
 use mathlib.Core.List.{List}
 use lib.IntN.{ℤ, ℤ-discrete}
 use Rattle.meaning.specs.Bounds.{YARD-STEPS, RULES, LARGEST}
@@ -15,11 +15,11 @@ use Rattle.meaning.proofs.DayBound.{day-bound}
 use Rattle.meaning.proofs.Places.{held?, next-free, next-below, with-rule-held}
 use Rattle.meaning.proofs.Put.{put-more}
 use Rattle.gaps.specs.Gaps.{Gaps, cell, Says, InYard, Right, Remade}
-use Rattle.gaps.specs.Slacks.{Slacks, stages, cell-of, Near, SmallerOf, Raised}
+use Rattle.gaps.specs.Slacks.{Slacks, stages, cell-of, Near, Raised}
 use Rattle.gaps.proofs.Stages.{slacks-say, slacks-near}
 use Rattle.gaps.proofs.Limits.{says-unique, says-same}
 use Rattle.gaps.proofs.Making.{slacks-exist}
-use Rattle.gaps.proofs.Raising.{raised-says, raised-column, raised-row}
+use Rattle.gaps.proofs.Raising.{raised-says}
 
 -- Slacks of single rules exist over the days of sound tables.
 pub slacks-of : (t : Tables) → Sound t → (W : ℕ → ℕ → ℕ) × Slacks (t .counts .steps) (rules-of t) (held-in t) (at (t .days)) W
@@ -29,20 +29,19 @@ slacks-of t sound = slacks-exist (t .counts .steps) RULES (rules-of t) (held-in 
 pub sound-days : (t : Tables) → Sound t → (v : ℕ) → v < t .counts .steps → at (t .days) v ≤ (t .counts .steps - 1) * LARGEST
 sound-days t sound = day-bound (t .counts .steps) (rules-of t) (held-in t) (at (t .days)) (sound .rules-good) (sound .days-earliest)
 
--- A gap table whose cells are made of the last stage of the slacks is right.
-pub made-right :
-    (t : Tables) → Sound t → (W : ℕ → ℕ → ℕ) → Slacks (t .counts .steps) (rules-of t) (held-in t) (at (t .days)) W → (gaps : Gaps) →
-    ((x y : ℕ) → InYard (t .counts .steps) x y → cell gaps x y ≡ cell-of (at (t .days)) x y (stages (t .counts .steps) W x y)) → Right t gaps
-made-right t sound W slacks gaps made x y yard =
-    subst (Says (rules-of t) (held-in t) x y) (sym (made x y yard))
-    (slacks-say (t .counts .steps) (rules-of t) (held-in t) (at (t .days)) W slacks (sound .rules-good) (yard .one-yard) (sound-days t sound) (sound .days-earliest .plan)
-    x y (yard .row-in) (yard .column-in))
+-- The cell of the slack of a pair, after all stages, says what is so.
+pub slack-says :
+    (t : Tables) → Sound t → (W : ℕ → ℕ → ℕ) → Slacks (t .counts .steps) (rules-of t) (held-in t) (at (t .days)) W → (x y : ℕ) → InYard (t .counts .steps) x y →
+    Says (rules-of t) (held-in t) x y (cell-of (at (t .days)) x y (stages (t .counts .steps) W x y))
+slack-says t sound W slacks x y yard =
+    slacks-say (t .counts .steps) (rules-of t) (held-in t) (at (t .days)) W slacks (sound .rules-good) (yard .one-yard) (sound-days t sound) (sound .days-earliest .plan)
+    x y (yard .row-in) (yard .column-in)
 
 -- Every pair of one yard has a cell that says what is so, and it is near.
 pub limit-cell : (t : Tables) → Sound t → (x y : ℕ) → InYard (t .counts .steps) x y → (z : ℤ) × Says (rules-of t) (held-in t) x y z × Near z
 limit-cell t sound x y yard = (
   cell-of (at (t .days)) x y (stages (t .counts .steps) W x y),
-  slacks-say (t .counts .steps) (rules-of t) (held-in t) (at (t .days)) W slacks (sound .rules-good) (yard .one-yard) (sound-days t sound) (sound .days-earliest .plan) x y (yard .row-in) (yard .column-in),
+  slack-says t sound W slacks x y yard,
   slacks-near (t .counts .steps) (rules-of t) (held-in t) (at (t .days)) W slacks (sound .rules-good) (yard .one-yard) (sound-days t sound) x y (yard .row-in) (yard .column-in),
 )
   where
@@ -129,34 +128,3 @@ raised-remade r t days room sound steps amount not-full earliest before after ri
   as-many = raised .as-many;
   as-long = raised .as-long;
 }
-
--- Where a rule that fits is added, the column of its first step and the row of its second stay as they were: the table can be raised in place.
-module _
-    (r : Rule) (t : Tables) (days : List ℕ) (sound : Sound t) (steps : InSteps (t .counts .steps) r) (amount : InAmount (r .amount))
-    (earliest : Earliest (t .counts .steps) (rules-and r t) (held-and t) (at days)) (before : Gaps) (right : Right t before) (yard : t .counts .steps ≤ YARD-STEPS) where
-  inside : (i j : ℕ) → i < t .counts .steps → j < t .counts .steps → InYard (t .counts .steps) i j
-  inside i j in-i in-j = record { one-yard = yard; row-in = in-i; column-in = in-j }
-
-  new : InBounds (t .counts .steps) r
-  new = record { steps-in = steps; amount-in = amount }
-
-  days-few : (v : ℕ) → v < t .counts .steps → at days v ≤ (t .counts .steps - 1) * LARGEST
-  days-few =
-      day-bound (t .counts .steps) (rules-and r t) (held-and t) (at days)
-      (more-all (InBounds (t .counts .steps)) (rules-of t) (held-in t) (next t) r new (sound .rules-good)) earliest
-
-  pub column-stays :
-      (i : ℕ) (c : ℤ) → SmallerOf (cell before i (r .first)) (cell before i (r .first)) (r .amount) (cell before (r .second) (r .first)) c →
-      c ≡ cell before i (r .first)
-  column-stays =
-      raised-column (t .counts .steps) (rules-of t) (held-in t) (next t) r (at days) ((t .counts .steps - 1) * LARGEST) (cell before) (next-free t)
-      (sound .rules-good) new (earliest .plan) days-few (λ i j in-i in-j. right i j (inside i j in-i in-j))
-      (λ i j in-i in-j. right-near t sound before right i j (inside i j in-i in-j))
-
-  pub row-stays :
-      (j : ℕ) (c : ℤ) → SmallerOf (cell before (r .second) j) (cell before (r .second) (r .first)) (r .amount) (cell before (r .second) j) c →
-      c ≡ cell before (r .second) j
-  row-stays =
-      raised-row (t .counts .steps) (rules-of t) (held-in t) (next t) r (at days) ((t .counts .steps - 1) * LARGEST) (cell before) (next-free t)
-      (sound .rules-good) new (earliest .plan) days-few (λ i j in-i in-j. right i j (inside i j in-i in-j))
-      (λ i j in-i in-j. right-near t sound before right i j (inside i j in-i in-j))

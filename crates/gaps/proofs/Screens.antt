@@ -1,10 +1,8 @@
 -- The gap table, the watched rules and the screen: a watched rule stands in the first list of Consequences exactly when its limit is at most its amount; and two clerks who ask the same question
 -- see the same gap table.
 use Prim.Native.Nat.{ℕ, _≤_, _<_}
-use native.Mathlib.Omega.{arith}
-use mathlib.Core.Path.{_≡_, refl, sym, _∙_, subst}
-use mathlib.Core.List.{List}
-use mathlib.Core.Logic.{_⊎_, inl, inr, _↔_}
+use mathlib.Core.Path.{_≡_, subst}
+use mathlib.Core.Logic.{inl, inr, _↔_}
 use lib.IntN.{ℤ, pos}
 use lib.Signed.{_≤ℤ_}
 use Rattle.meaning.specs.Bounds.{YARD-STEPS, NO-LIMIT}
@@ -16,7 +14,7 @@ use Rattle.meaning.specs.Screen.{SameQuestion, SplitOf, first-list, SameScreen}
 use Rattle.meaning.proofs.Sequences.{Kept, kept-splits, run-kept}
 use Rattle.meaning.proofs.Screens.{always-among, same-screen}
 use Rattle.meaning.proofs.Lists.{all-in}
-use Rattle.gaps.specs.Gaps.{Gaps, cell, Limit, NoLimit, Says, InYard, Right}
+use Rattle.gaps.specs.Gaps.{Gaps, cell, Limit, Says, InYard, Right}
 use Rattle.gaps.specs.Runs.{RunBeside}
 use Rattle.gaps.proofs.Limits.{says-unique, always-limit}
 use Rattle.gaps.proofs.Keeping.{run-right}

@@ -28,10 +28,6 @@ remade-same t before a b one two =
     same x y (yes yard) = says-unique {R = rules-of t} {H = held-in t} {x = x} {y = y} (one .right x y yard) (two .right x y yard)
     same x y (no outside) = one .others x y outside ∙ sym (two .others x y outside)
 
--- A square stays one.
-pub remade-square : (t : Tables) (before after : Gaps) → Remade t before after → Square before → Square after
-remade-square t before after remade square = record { rows = remade .as-many ∙ square .rows; columns = λ x h. remade .as-long x ∙ square .columns x h }
-
 -- ---- a table of given cells
 
 -- The first n values of f, as a list.

@@ -87,21 +87,6 @@ staged-next n R H p none k most W in-k s = record {
     small x y in-x in-y known (inr (h, e)) =
         omega (arith, e, s .small x k in-x in-k (omega (arith, e)), s .small k y in-k in-y (omega (arith, e)))
 
--- The pair of a step with itself keeps the slack 0 in every stage.
-pub stages-self : (n : ℕ) (W : ℕ → ℕ → ℕ) → ((v : ℕ) → v < n → W v v ≡ 0) → (k v : ℕ) → v < n → stages k W v v ≡ 0
-unfolding stages
-stages-self n W self zero v below = self v below
-stages-self n W self (suc k) v below = omega (arith, stages-self n W self k v below)
-
--- So stage k leaves the column and the row of the step k as they are: a stage can be made in place.
-pub stages-column : (n : ℕ) (W : ℕ → ℕ → ℕ) → ((v : ℕ) → v < n → W v v ≡ 0) → (k x : ℕ) → k < n → stages (suc k) W x k ≡ stages k W x k
-unfolding stages
-stages-column n W self k x below = omega (arith, stages-self n W self k k below)
-
-pub stages-row : (n : ℕ) (W : ℕ → ℕ → ℕ) → ((v : ℕ) → v < n → W v v ≡ 0) → (k y : ℕ) → k < n → stages (suc k) W k y ≡ stages k W k y
-unfolding stages
-stages-row n W self k y below = omega (arith, stages-self n W self k k below)
-
 -- The bound of the slacks that are known, after k stages.
 unfoldable pub bound : ℕ → ℕ
 bound zero = 33554432
@@ -167,18 +152,6 @@ module _ (n : ℕ) (R : ℕ → Rule) (H : ℕ → Type 0) (p : ℕ → ℕ) (W 
   unfolding stages bound
   staged-all zero h = staged-none
   staged-all (suc k) h = staged-next n R H p NONE k (bound k) (stages k W) (omega arith) (staged-all k (omega arith))
-
-  -- No slack is ever above NONE.
-  pub stages-most : (k x y : ℕ) → x < n → y < n → stages k W x y ≤ NONE
-  unfolding stages
-  stages-most zero x y in-x in-y = told (slacks .given x y in-x in-y)
-    where
-      told :
-          (W x y ≡ NONE) ⊎ ((x ≡ y) × (W x y ≡ 0)) ⊎ ((i : ℕ) × H i × (R i .first ≡ x) × (R i .second ≡ y) × Spares R p i (W x y)) → W x y ≤ NONE
-      told (inl e) = omega arith
-      told (inr (inl (e, z))) = omega arith
-      told (inr (inr (i, held, e, f, spares))) = omega (arith, spares-few i (W x y) held spares)
-  stages-most (suc k) x y in-x in-y = omega (arith, stages-most k x y in-x in-y)
 
   -- After n stages they are closed.
   pub slacks-closed : Closed n R H p NONE 2199023255552 (stages n W)

@@ -17,9 +17,8 @@ use Rattle.lent.specs.Idle.{unwatched}
 use Rattle.lent.specs.Promises.{Border}
 use Rattle.gaps.specs.Gaps.{Gaps, cell, Says, InYard, Right, Remade}
 use Rattle.gaps.specs.Slacks.{Slacks, stages, cell-of, SmallerOf, Raised}
-use Rattle.gaps.proofs.Stages.{slacks-say}
 use Rattle.gaps.proofs.Limits.{says-unique}
-use Rattle.gaps.proofs.Right.{sound-days}
+use Rattle.gaps.proofs.Right.{slack-says}
 use Rattle.yard.specs.Cells.{limit}
 use Rattle.yard.specs.Squares.{way, Closed}
 use Rattle.yard.specs.Tables.{TableMade, Slackable, Single, Fresh, Agrees}
@@ -170,19 +169,13 @@ raised-all few m = record {
 
 -- ---- what is so
 
--- Beside sound tables of one yard the cell of a pair's slack says what is so.
-module _ (t : Tables) (sound : Sound t) (W : ℕ → ℕ → ℕ) (slacks : Slacks (t .counts .steps) (rules-of t) (held-in t) (at (t .days)) W) (few : t .counts .steps ≤ YARD-STEPS) where
-  slack-says : (x y : ℕ) → InYard (t .counts .steps) x y → Says (rules-of t) (held-in t) x y (cell-of (at (t .days)) x y (stages (t .counts .steps) W x y))
-  slack-says x y in-yard =
-      slacks-say (t .counts .steps) (rules-of t) (held-in t) (at (t .days)) W slacks (sound .rules-good) few (sound-days t sound) (sound .days-earliest .plan) x y (in-yard .row-in) (in-yard .column-in)
-
--- So what is written is right, and what is compared tells whether it is.
+-- The cell of a pair's slack says what is so: what is written is right, and what is compared tells whether it is.
 pub written-remade :
     (t : Tables) → Sound t → (before after : Gaps) → Written (t .counts .steps) (rules-of t) (held-in t) (at (t .days)) before after → Remade t before after
 written-remade t sound before after w = record {
   right =
       λ x y in-yard.
-      subst (Says (rules-of t) (held-in t) x y) (sym (w .cells x y in-yard)) (slack-says t sound (w .singles) (w .slacks (in-yard .one-yard)) (in-yard .one-yard) x y in-yard);
+      subst (Says (rules-of t) (held-in t) x y) (sym (w .cells x y in-yard)) (slack-says t sound (w .singles) (w .slacks (in-yard .one-yard)) x y in-yard);
   others = w .others;
   as-many = w .as-many;
   as-long = w .as-long;
@@ -197,4 +190,4 @@ compared-right t sound gaps r w =
     (w .tells)
   where
     says : (x y : ℕ) → InYard (t .counts .steps) x y → Says (rules-of t) (held-in t) x y (cell-of (at (t .days)) x y (stages (t .counts .steps) (w .singles) x y))
-    says x y in-yard = slack-says t sound (w .singles) (w .slacks (in-yard .one-yard)) (in-yard .one-yard) x y in-yard
+    says x y in-yard = slack-says t sound (w .singles) (w .slacks (in-yard .one-yard)) x y in-yard
