@@ -11,7 +11,7 @@
 #include <sys/mman.h>
 #include <ucontext.h>
 
-enum { STACK = 98304, MOST = 46000, GUARD = 65536, HANDED = 80, PAINT = 0xA5, LAST = DATES_STEPS - 1, YARD_LAST = DATES_YARD_STEPS - 1 };
+enum { STACK = 98304, MOST = 46000, MOST_COMMAND = 81920, GUARD = 65536, HANDED = 80, PAINT = 0xA5, LAST = DATES_STEPS - 1, YARD_LAST = DATES_YARD_STEPS - 1 };
 
 static dates_tables t;
 static dates_tables script;
@@ -112,16 +112,17 @@ int main(void)
     }
     fill();
     for (i = 0; i < sizeof calls / sizeof calls[0]; i++) {
-        size_t bytes;
+        size_t bytes, most;
+        most = calls[i].call == do_command || calls[i].call == do_pop ? MOST_COMMAND : MOST;
         bytes = used(memory + GUARD, calls[i].call);
         printf("%s: %lu bytes of stack\n", calls[i].name, (unsigned long)bytes);
         if (calls[i].call == do_ring_check) ring_check = bytes;
         if (calls[i].call == do_mark) mark = bytes;
-        if (bytes <= MOST && number == calls[i].gives) {
+        if (bytes <= most && number == calls[i].gives) {
             passed++;
         } else {
             failed++;
-            printf("FAILED: %s gave %u, or took more than %d bytes\n", calls[i].name, (unsigned)number, MOST);
+            printf("FAILED: %s gave %u, or took more than %lu bytes\n", calls[i].name, (unsigned)number, (unsigned long)most);
         }
     }
     if (mark > 0 && ring_check <= mark + HANDED) {

@@ -3,3 +3,4 @@ pub mod Reach
 pub mod Linking
 pub mod Answering
 pub mod Going
+pub mod Rows

@@ -1,21 +1,17 @@
 // Adding the rules of an asserted term, from left to right, up to the first conflict.
 ghost use mathlib.Core.Path.{_≡_};
-ghost use mathlib.Core.List.{[], map};
+ghost use mathlib.Core.Bool.{true};
 ghost use Prim.Native.Nat.{ℕ, _+_, _≤_, _<_};
 ghost use lib.ListN.{length};
-ghost use Rattle.meaning.specs.Bounds.{RULES, DONE};
+ghost use Rattle.meaning.specs.Bounds.{RULES};
 ghost use Rattle.meaning.specs.Rules.{InBounds, rule};
-ghost use Rattle.meaning.specs.Promise.{First};
-ghost use Rattle.text.specs.Table.{TABLE};
-ghost use Rattle.lent.specs.Lent.{columns, held-by};
+ghost use Rattle.meaning.specs.Tables.{taken, lowest-free};
+ghost use Rattle.lent.specs.Lent.{columns, held-by, AllHeld};
 ghost use Rattle.lent.specs.Idle.{unwatched};
 ghost use Rattle.lent.specs.Promises.{Border};
 ghost use Rattle.chains.specs.Chains.{LentChains};
-ghost use Rattle.names.specs.Names.{Shelved, Indexed, AllDifferent};
-ghost use Rattle.atoms.specs.Atoms.{rules-at};
-ghost use Rattle.script_meaning.specs.Record.{KnownIn, step-in};
-ghost use Rattle.script_meaning.specs.Effect.{resolved, AddsAll};
-ghost use Rattle.script_meaning.specs.Commands.{term-needs};
+ghost use Rattle.script_meaning.specs.Effect.{AddsAll};
+ghost use Rattle.asserts.specs.Rows.{rows-from, RowsFine};
 ghost use Rattle.asserts.specs.Within.{Within};
 ghost use Rattle.asserts.specs.One.{AddsOne};
 use meaning::Counts;
@@ -24,6 +20,20 @@ use meaning::Counts;
 pub struct Added {
     pub counts: Counts,
     pub clash: bool,
+}
+
+// The lowest free place, where so many are held; where these are known to be the first, it is the one behind them.
+fn place_for(levels: &[u8], rules: usize, packed: bool) -> usize
+    requires { ⌜ RULES ≤ length (now levels) ⌝ }
+    requires { ⌜ rules ≤ RULES ⌝ }
+    requires { ⌜ rules ≡ taken RULES (now levels) ⌝ }
+    requires { ⌜ (packed ≡ true → AllHeld rules (now levels)) ⌝ }
+    ensures { λ r. ⌜ r ≡ lowest-free RULES (now (levels .entry)) ⌝ }
+{
+    if packed {
+        return rules;
+    }
+    lent::next_free(levels, rules)
 }
 
 // Adds one rule and puts it on its chain; where it does not fit nothing changes. It and the rules held speak of steps below e alone, so no other step is looked at.
@@ -40,19 +50,22 @@ fn add_one(
     y: u16,
     c: i32,
     e: u32,
+    packed: bool,
 ) -> Added
     requires { ⌜ Border (unwatched counts (now xs) (now ys) (now cs) (now days) (now levels)) ⌝ }
     requires { ⌜ LentChains (counts .steps) (held-by (now levels)) (now xs) (now heads) (now nexts) ⌝ }
     requires { ⌜ InBounds e (rule x y c) ⌝ }
     requires { ⌜ counts .rules < RULES ⌝ }
     requires { ⌜ Within e counts (now levels) (columns (now xs) (now ys) (now cs)) ⌝ }
+    requires { ⌜ (packed ≡ true → AllHeld (counts .rules) (now levels)) ⌝ }
     ensures { λ r. ⌜
         AddsOne (rule x y c) (unwatched counts (now (xs .entry)) (now (ys .entry)) (now (cs .entry)) (now (days .entry)) (now (levels .entry)))
         (r .clash) (unwatched (r .counts) (now (xs .exit)) (now (ys .exit)) (now (cs .exit)) (now (days .exit)) (now (levels .exit))) ⌝ }
     ensures { λ r. ⌜ LentChains (r .counts .steps) (held-by (now (levels .exit))) (now (xs .exit)) (now (heads .exit)) (now (nexts .exit)) ⌝ }
+    ensures { λ r. ⌜ (packed ≡ true → AllHeld (r .counts .rules) (now (levels .exit))) ⌝ }
 {
     let n = e as usize;
-    let m = lent::next_free(levels, counts.rules as usize);
+    let m = place_for(levels, counts.rules as usize, packed);
     let fitted = inner_add::fit(n, m, xs, ys, cs, days, heads, nexts, x, y, c, counts.last);
     if fitted.fits {
         levels[m] = (counts.marks + 1) as u8;
@@ -68,17 +81,12 @@ fn add_one(
     }
 }
 
-// Adds the rules of the atoms from place at on, up to the first that does not fit. The names and the rules held speak of steps below e alone.
+// Adds the rules of the first k rows, up to the first that does not fit. These and the rules held speak of steps below e alone.
 pub fn add_rules(
-    s: &[u8],
-    tab: &[u8; text::PLACES],
-    at: usize,
-    n: usize,
-    names: &[u8],
-    lens: &[u8],
-    hashes: &[u16],
-    name_heads: &[u16],
-    name_nexts: &[u16],
+    k: usize,
+    row_xs: &[u16],
+    row_ys: &[u16],
+    row_cs: &[i32],
     counts: Counts,
     xs: &mut [u16],
     ys: &mut [u16],
@@ -88,40 +96,26 @@ pub fn add_rules(
     heads: &mut [u16],
     nexts: &mut [u16],
     e: u32,
+    packed: bool,
 ) -> Added
-    requires { ⌜ now tab ≡ TABLE ⌝ }
-    requires { ⌜ at ≤ length (now s) ⌝ }
-    requires { ⌜ Shelved n (now names) (now lens) ⌝ }
-    requires { ⌜ Indexed n (now names) (now lens) (now hashes) (now «name_heads») (now «name_nexts») ⌝ }
-    requires { ⌜ AllDifferent n (now names) (now lens) ⌝ }
-    requires { ⌜ n ≤ e ⌝ }
-    requires { ⌜ First (term-needs (KnownIn n (now names) (now lens)) (rules-at (now s) at) []) DONE ⌝ }
-    requires { ⌜ counts .rules + length (rules-at (now s) at) ≤ RULES ⌝ }
+    requires { ⌜ k ≤ length (now «row_xs») ⌝ }
+    requires { ⌜ k ≤ length (now «row_ys») ⌝ }
+    requires { ⌜ k ≤ length (now «row_cs») ⌝ }
+    requires { ⌜ RowsFine e (columns (now «row_xs») (now «row_ys») (now «row_cs»)) k ⌝ }
+    requires { ⌜ counts .rules + k ≤ RULES ⌝ }
     requires { ⌜ Border (unwatched counts (now xs) (now ys) (now cs) (now days) (now levels)) ⌝ }
     requires { ⌜ LentChains (counts .steps) (held-by (now levels)) (now xs) (now heads) (now nexts) ⌝ }
     requires { ⌜ Within e counts (now levels) (columns (now xs) (now ys) (now cs)) ⌝ }
+    requires { ⌜ (packed ≡ true → AllHeld (counts .rules) (now levels)) ⌝ }
     ensures { λ r. ⌜
-        AddsAll (map (resolved (step-in n (now (names .entry)) (now (lens .entry)))) (rules-at (now (s .entry)) at))
+        AddsAll (rows-from (columns (now («row_xs» .entry)) (now («row_ys» .entry)) (now («row_cs» .entry))) 0 k)
         (unwatched counts (now (xs .entry)) (now (ys .entry)) (now (cs .entry)) (now (days .entry)) (now (levels .entry)))
         (r .clash) (unwatched (r .counts) (now (xs .exit)) (now (ys .exit)) (now (cs .exit)) (now (days .exit)) (now (levels .exit))) ⌝ }
     ensures { λ r. ⌜ LentChains (r .counts .steps) (held-by (now (levels .exit))) (now (xs .exit)) (now (heads .exit)) (now (nexts .exit)) ⌝ }
 {
-    let mut i = at;
+    let mut i = 0usize;
     let mut held = counts;
-    loop {
-        let a = atoms::next_atom(s, tab, i);
-        if !a.some {
-            return Added {
-                counts: held,
-                clash: false,
-            };
-        }
-        let xa = a.xa;
-        let xb = a.xb;
-        let ya = a.ya;
-        let yb = a.yb;
-        let x = names::find(names, lens, hashes, name_heads, name_nexts, n, s, xa, xb) as u16;
-        let y = names::find(names, lens, hashes, name_heads, name_nexts, n, s, ya, yb) as u16;
+    while i < k {
         let added = add_one(
             held,
             xs,
@@ -131,15 +125,20 @@ pub fn add_rules(
             levels,
             heads,
             nexts,
-            x,
-            y,
-            a.amount,
+            row_xs[i],
+            row_ys[i],
+            row_cs[i],
             e,
+            packed,
         );
         if added.clash {
             return added;
         }
         held = added.counts;
-        i = a.next;
+        i += 1;
+    }
+    Added {
+        counts: held,
+        clash: false,
     }
 }

@@ -10,12 +10,10 @@ use Rattle.meaning.specs.Tables.{Tables}
 use Rattle.meaning.specs.Promise.{Given, First, Obeys}
 use Rattle.gaps.specs.Gaps.{Gaps, Right}
 use Rattle.gaps.proofs.Keeping.{wide-right, opened-without, made-without, made-right, gap-stays}
-use Rattle.form.specs.Form.{form}
 use Rattle.script_meaning.specs.Record.{Lent}
-use Rattle.script_meaning.specs.Commands.{own, start-meaning, command-meaning}
+use Rattle.script_meaning.specs.Commands.{start-meaning, command-meaning}
 use Rattle.script_meaning.specs.Mixed.{on-tables, MixedRun, MixedOf}
 use Rattle.script_meaning.proofs.Granted.{granted}
-use Rattle.script_meaning.proofs.Naming.{declared-in-form}
 use Rattle.script_meaning.proofs.Keeping.{does-fine}
 use Rattle.export_record.specs.MixedBeside.{MixedBeside}
 
@@ -30,8 +28,7 @@ started-steps l g after x done = ap (λ (t : Tables). t .counts .steps) (x .when
 commanded-steps : (text : List ℕ) (l : Lent) (g : Given) (after : Lent) → Obeys (command-meaning text l) l g after → g .number ≡ DONE → after .tables .counts .steps ≡ STEPS
 commanded-steps text l g after x done =
     let r = granted text l (subst (First (command-meaning text l .asks)) done (x .first-unmet)) in
-    does-fine (form (own text)) (own text) 0 (g .two) l after (record { room = r .room .start-room; sound = r .sound }) (λ a b e. declared-in-form (own text) a b e) (r .met) (x .when-done done .done)
-    .sound .all-steps
+    does-fine text 0 (g .two) l after (record { room = r .room .start-room; sound = r .sound }) (r .met) (x .when-done done .done) .sound .all-steps
 
 -- So after either the gap table is right where it was.
 stays-right :

@@ -6,15 +6,13 @@ use mathlib.Core.Logic.{_⊎_}
 use lib.Dec.{eqb}
 use lib.IntN.{ℤ}
 use Rattle.meaning.specs.declared.Counts.{Counts}
-use Rattle.meaning.specs.Bounds.{STEPS, DONE, SHORT, DAMAGED, SYNTAX}
+use Rattle.meaning.specs.Bounds.{STEPS, DONE, SHORT, DAMAGED}
 use Rattle.meaning.specs.Tables.{Tables}
 use Rattle.meaning.specs.Promise.{Meaning, needs, no-conflict}
 use Rattle.lent.specs.Lent.{tables}
-use Rattle.span.specs.Span.{span}
-use Rattle.form.specs.Form.{form}
 use Rattle.script_meaning.specs.declared.Notes.{Notes}
 use Rattle.script_meaning.specs.Record.{Lent, ScriptRoom, ScriptSound}
-use Rattle.script_meaning.specs.Commands.{own, command-needs, start-meaning, command-meaning}
+use Rattle.script_meaning.specs.Commands.{text-needs, start-meaning, command-meaning}
 use Rattle.export_record.specs.declared.Record.{Record}
 
 -- Each flag is 0 or 1.
@@ -54,9 +52,7 @@ start-by-c before = record {
 -- **Command** over the record: it is DAMAGED too where a flag is neither 0 nor 1.
 abbrev pub command-by-c : List ℕ → LentByC → Meaning LentByC
 command-by-c text before = record {
-  asks =
-      needs SHORT (ScriptRoom 0 (seen before)) ∷ needs DAMAGED (FlagsFit (before .kept) × ScriptSound (seen before)) ∷ needs SYNTAX (1 ≤ span text)
-      ∷ command-needs (form (own text)) (own text) (seen before);
+  asks = needs SHORT (ScriptRoom 0 (seen before)) ∷ needs DAMAGED (FlagsFit (before .kept) × ScriptSound (seen before)) ∷ text-needs text (seen before);
   done = Fitting (command-meaning text (seen before) .done);
   conflict = no-conflict;
 }

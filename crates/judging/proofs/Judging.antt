@@ -1,97 +1,130 @@
--- The first need of each command that is not met, from the record, the counts and what its own judging came to.
+-- What a command needs where it stands, and the room that it needs, depend on its kind alone, on the counts and on the record: judging a kind is judging every command of
+-- that kind. Levels are told cut, far above what may be open.
 use Prim.Native.Nat.{ℕ, _+_, _≤_, _<_}
 use native.Mathlib.Omega.{arith}
-use mathlib.Core.Path.{_≡_, refl, sym, ap, _∙_}
-use mathlib.Core.Bool.{true, false, true≢false}
-use mathlib.Core.List.{List, [], _∷_}
-use mathlib.Core.Logic.{inl, inr}
+use native.Mathlib.Decide.{decLe}
+use mathlib.Core.Path.{_≡_, refl, sym, _∙_, subst, subst₂, subst₃}
+use mathlib.Core.Bool.{Bool, true, false, true≢false}
+use mathlib.Core.List.{List, [], _∷_, _++_}
+use mathlib.Core.Logic.{_⊎_, inl, inr}
+use lib.ListN.{length}
+use borrow.Author.Tests.{lt-leb}
 use Rattle.meaning.specs.declared.Counts.{Counts}
-use Rattle.meaning.specs.Bounds.{RULES, MARKS, DONE, AMOUNT, FULL, NOMARK, MODE, NAME}
-use Rattle.meaning.specs.Rules.{InAmount}
+use Rattle.meaning.specs.Bounds.{STEPS, RULES, MARKS, DONE, FULL, NOMARK, MODE}
 use Rattle.meaning.specs.Promise.{Need, needs, First}
-use Rattle.text.specs.Lexicon.{bytes}
-use Rattle.form.specs.declared.Command.the-variants.{SetLogic, Declare, Assert, Push, Pop, CheckSat, GetValue}
-use Rattle.atoms.specs.Atoms.{Named, rules-at}
+use Rattle.text.specs.Lexicon.{cut}
+use Rattle.text.proofs.Numbers.{cut-small}
+use Rattle.reading.specs.declared.Kind.{Kind}
+use Rattle.reading.specs.Tree.{said-by, Command}
+use Rattle.reading.specs.Heard.{kind-of}
 use Rattle.script_meaning.specs.declared.Notes.{Notes}
-use Rattle.script_meaning.specs.Record.{Lent, KnownIn}
-use Rattle.script_meaning.specs.Effect.{asked}
-use Rattle.script_meaning.specs.Commands.{term-needs, name-needs}
-use Rattle.script_meaning.proofs.Needed.{rules-met, rules-passed}
-use Rattle.judging.specs.declared.Judged.{Judged}
-use Rattle.judging.specs.Judged.{JudgedName, JudgedRules, Judges}
+use Rattle.script_meaning.specs.Record.{Lent}
+use Rattle.script_meaning.specs.Commands.{mode-needs, room-needs}
+use Rattle.judging.specs.Judged.{Judges}
 
--- A need in front changes nothing where it is met, and decides where it is not.
-behind : (n : Need) (l m : List Need) (g : ℕ) → (First l g → First m g) → First (n ∷ l) g → First (n ∷ m) g
-behind n l m g f (inl refused) = inl refused
-behind n l m g f (inr met) = inr (met .0, f (met .1))
+-- ---- needs of a kind
 
--- Where a rule's need is not met, what is needed behind the rules does not matter.
-rules-refused : (K : List ℕ → Type 0) (rs : List Named) (rest : List Need) (g : ℕ) → (g ≡ DONE → ⊥) → First (term-needs K rs []) g → First (term-needs K rs rest) g
-rules-refused K [] rest g d h = absurd (d h)
-rules-refused K (r ∷ rs) rest g d h =
-    let some = term-needs K rs [] in
-    let all = term-needs K rs rest in
-    let amount = needs AMOUNT (InAmount (r .amount)) in
-    let second = needs NAME (K (r .second)) in
-    behind (needs NAME (K (r .first))) (second ∷ amount ∷ some) (second ∷ amount ∷ all) g
-    (behind second (amount ∷ some) (amount ∷ all) g (behind amount some all g (rules-refused K rs rest g d))) h
+-- The logic is set.
+abbrev logic-need : Notes → List Need
+logic-need n = needs MODE (n .logic ≡ true) ∷ []
 
--- Where the rules have all they need, what is needed behind them decides.
-rules-fine : (K : List ℕ → Type 0) (rs : List Named) (rest : List Need) (g : ℕ) → First (term-needs K rs []) DONE → First rest g → First (term-needs K rs rest) g
-rules-fine K rs rest g h = rules-passed K rs rest g (rules-met K rs [] h .0)
+abbrev kind-mode : Kind → Notes → List Need
+kind-mode Kind.SetLogic n = needs MODE (n .logic ≡ false) ∷ []
+kind-mode (Kind.Declare a b) n = logic-need n
+kind-mode (Kind.Assert k) n = logic-need n
+kind-mode (Kind.Push k) n = logic-need n
+kind-mode (Kind.Pop k) n = logic-need n
+kind-mode Kind.CheckSat n = logic-need n
+kind-mode (Kind.GetValue k) n = needs MODE (n .logic ≡ true) ∷ needs MODE (n .sat ≡ true) ∷ []
+kind-mode Kind.Exit n = []
 
--- The logic is not set in what is lent.
-pub not-set : (notes : Notes) → notes .logic ≡ false → (l : Lent) → l .notes ≡ notes → l .notes .logic ≡ true → ⊥
-not-set notes is l en e = true≢false (sym e ∙ ap (λ (n : Notes). n .logic) en ∙ is)
+abbrev kind-room : Kind → Counts → Notes → List Need
+kind-room Kind.SetLogic m n = []
+kind-room (Kind.Declare a b) m n = needs FULL (n .names < STEPS) ∷ []
+kind-room (Kind.Assert k) m n = needs FULL (n .broken ≡ 0 → m .rules + k ≤ RULES) ∷ []
+kind-room (Kind.Push k) m n = needs FULL (m .marks + k ≤ MARKS) ∷ []
+kind-room (Kind.Pop k) m n = needs NOMARK (k ≤ m .marks) ∷ []
+kind-room Kind.CheckSat m n = []
+kind-room (Kind.GetValue k) m n = []
+kind-room Kind.Exit m n = []
 
-module _ (s : List ℕ) (counts : Counts) (notes : Notes) (names lens : List ℕ) where
-  pub set-twice : notes .logic ≡ true → Judges SetLogic s counts notes names lens MODE
-  set-twice set l ec en ea el = rw en (inl (refl, λ e. true≢false (sym set ∙ e)))
+-- They are those of the command.
+mode-of-kind : (c : Command) (l : Lent) (g : ℕ) → First (kind-mode (kind-of c) (l .notes)) g → First (mode-needs c l) g
+mode-of-kind Command.set-logic l g h = h
+mode-of-kind Command.check-sat l g h = h
+mode-of-kind Command.exit l g h = h
+mode-of-kind (Command.declare w) l g h = h
+mode-of-kind (Command.assert t) l g h = h
+mode-of-kind (Command.push n) l g h = h
+mode-of-kind (Command.pop n) l g h = h
+mode-of-kind (Command.get-value ws) l g h = h
 
-  pub set-once : notes .logic ≡ false → Judges SetLogic s counts notes names lens DONE
-  set-once unset l ec en ea el = rw en (inr (unset, refl))
+-- One need for another, where each gives the other.
+instead : (k : ℕ) {P Q : Type 0} (g : ℕ) → (P → Q) → (Q → P) → First (needs k P ∷ []) g → First (needs k Q ∷ []) g
+instead k g to back (inl (is, unmet)) = inl (is, λ q. unmet (back q))
+instead k g to back (inr (met, done)) = inr (to met, done)
 
-  module _ (set : notes .logic ≡ true) where
-    pub declare-judged : (a b g : ℕ) → JudgedName (notes .names) names lens (bytes s a b) g → Judges (Declare a b) s counts notes names lens g
-    declare-judged a b g h l ec en ea el = rw (en, ea, el) (inr (set, h))
+-- A number that is small when cut is the number itself.
+uncut : (n most : ℕ) → most < 10000000 → cut n ≤ most → cut n ≡ n
+uncut n most small h = by-size (decLe n 10000000)
+  where
+    by-size : Dec (n ≤ 10000000) → cut n ≡ n
+    by-size (yes within) = cut-small n within
+    by-size (no past) =
+        let large : 10000000 ≤ most = rw (lt-leb n 10000000 (omega arith)) at h in
+        absurd (omega arith)
 
-    pub check-fine : Judges CheckSat s counts notes names lens DONE
-    check-fine l ec en ea el = rw en (inr (set, refl))
+room-of-kind : (c : Command) (l : Lent) (g : ℕ) → l .tables .counts .marks ≤ MARKS → First (kind-room (kind-of c) (l .tables .counts) (l .notes)) g → First (room-needs c l) g
+room-of-kind Command.set-logic l g few h = h
+room-of-kind Command.check-sat l g few h = h
+room-of-kind Command.exit l g few h = h
+room-of-kind (Command.declare w) l g few h = h
+room-of-kind (Command.assert t) l g few h = h
+room-of-kind (Command.push n) l g few h =
+    instead FULL g
+    (λ fits. omega (arith, fits, uncut (said-by n) MARKS (omega arith) (omega (arith, fits))))
+    (λ fits. omega (arith, fits, cut-small (said-by n) (omega (arith, fits))))
+    h
+room-of-kind (Command.pop n) l g few h =
+    instead NOMARK g
+    (λ fits. omega (arith, fits, uncut (said-by n) MARKS (omega arith) (omega (arith, fits, few))))
+    (λ fits. omega (arith, fits, cut-small (said-by n) (omega (arith, fits, few))))
+    h
+room-of-kind (Command.get-value ws) l g few h = h
 
-    pub push-full : (k : ℕ) → MARKS < counts .marks + k → Judges (Push k) s counts notes names lens FULL
-    push-full k h l ec en ea el = rw (en, ec) (inr (set, inl (refl, λ fits. omega arith)))
+-- ---- judging a kind
 
-    pub push-fine : (k : ℕ) → counts .marks + k ≤ MARKS → Judges (Push k) s counts notes names lens DONE
-    push-fine k h l ec en ea el = rw (en, ec) (inr (set, inr (h, refl)))
+pub judges-mode : {kind : Kind} (k : Kind) (notes : Notes) (g : ℕ) → kind ≡ k → First (kind-mode k notes) g → (counts : Counts) → Judges mode-needs kind counts notes g
+judges-mode {kind} k notes g known first counts c l is same-counts same-notes =
+    mode-of-kind c l g (subst₂ (λ (k : Kind) (n : Notes). First (kind-mode k n) g) (sym known ∙ is) (sym same-notes) first)
 
-    pub pop-none : (k : ℕ) → counts .marks < k → Judges (Pop k) s counts notes names lens NOMARK
-    pop-none k h l ec en ea el = rw (en, ec) (inr (set, inl (refl, λ open-marks. omega arith)))
+pub judges-room :
+    {kind : Kind} (k : Kind) (counts : Counts) (notes : Notes) (g : ℕ) → counts .marks ≤ MARKS → kind ≡ k → First (kind-room k counts notes) g → Judges room-needs kind counts notes g
+judges-room {kind} k counts notes g few known first c l is same-counts same-notes =
+    let few-there : l .tables .counts .marks ≤ MARKS = subst (λ (m : Counts). m .marks ≤ MARKS) (sym same-counts) few in
+    room-of-kind c l g few-there (subst₃ (λ (k : Kind) (m : Counts) (n : Notes). First (kind-room k m n) g) (sym known ∙ is) (sym same-counts) (sym same-notes) first)
 
-    pub pop-fine : (k : ℕ) → k ≤ counts .marks → Judges (Pop k) s counts notes names lens DONE
-    pop-fine k h l ec en ea el = rw (en, ec) (inr (set, inr (h, refl)))
+-- The logic is set, or it is not.
+pub logic-first : (notes : Notes) {g : ℕ} → (notes .logic ≡ true → g ≡ DONE) × (notes .logic ≡ false → g ≡ MODE) → First (needs MODE (notes .logic ≡ true) ∷ []) g
+logic-first notes {g} told = by-logic (notes .logic) (told .0) (told .1)
+  where
+    by-logic : (b : Bool) → (b ≡ true → g ≡ DONE) → (b ≡ false → g ≡ MODE) → First (needs MODE (b ≡ true) ∷ []) g
+    by-logic true set unset = inr (refl, set refl)
+    by-logic false set unset = inl (unset refl, λ h. true≢false (sym h))
 
-    pub no-sat : (i : ℕ) → notes .sat ≡ false → Judges (GetValue i) s counts notes names lens MODE
-    no-sat i unset l ec en ea el = rw en (inr (set, inl (refl, λ e. true≢false (sym e ∙ unset))))
+pub no-sat : (notes : Notes) → (notes .sat ≡ true → ⊥) → First (needs MODE (notes .logic ≡ true) ∷ needs MODE (notes .sat ≡ true) ∷ []) MODE
+no-sat notes unsat = by-logic (notes .logic)
+  where
+    by-logic : (b : Bool) → First (needs MODE (b ≡ true) ∷ needs MODE (notes .sat ≡ true) ∷ []) MODE
+    by-logic true = inr (refl, inl (refl, unsat))
+    by-logic false = inl (refl, λ h. true≢false (sym h))
 
-    pub values-judged :
-        (i g : ℕ) → notes .sat ≡ true → First (name-needs (KnownIn (notes .names) names lens) (asked s i)) g →
-        Judges (GetValue i) s counts notes names lens g
-    values-judged i g sat h l ec en ea el = rw (en, ea, el) (inr (set, inr (sat, h)))
-
-    -- The rules of an asserted term were judged.
-    module _ (i : ℕ) (j : Judged) (judged : JudgedRules (KnownIn (notes .names) names lens) (rules-at s i) j) where
-      pub assert-refused : (j .number ≡ DONE → ⊥) → Judges (Assert i) s counts notes names lens (j .number)
-      assert-refused d l ec en ea el = rw (en, ea, el, ec) (inr (set, rules-refused _ (rules-at s i) _ (j .number) d (judged .first-unmet)))
-
-      module _ (fine : j .number ≡ DONE) where
-        met : First (term-needs (KnownIn (notes .names) names lens) (rules-at s i) []) DONE
-        met = rw fine at (judged .first-unmet)
-
-        pub assert-full : notes .broken ≡ 0 → RULES < counts .rules + j .rules → Judges (Assert i) s counts notes names lens FULL
-        assert-full whole full l ec en ea el =
-            rw (en, ea, el, ec)
-            (inr (set, rules-fine _ (rules-at s i) _ FULL met (inl (refl, λ fits. absurd (omega (arith, fits whole, judged .counted fine))))))
-
-        pub assert-fine : (notes .broken ≡ 0 → counts .rules + j .rules ≤ RULES) → Judges (Assert i) s counts notes names lens DONE
-        assert-fine fits l ec en ea el =
-            rw (en, ea, el, ec) (inr (set, rules-fine _ (rules-at s i) _ DONE met (inr ((λ whole. omega (arith, fits whole, judged .counted fine)), refl))))
+-- After a `sat` the logic alone is asked for.
+pub values-first :
+    (notes : Notes) {g : ℕ} → notes .sat ≡ true → (notes .logic ≡ true → g ≡ DONE) × (notes .logic ≡ false → g ≡ MODE) →
+    First (needs MODE (notes .logic ≡ true) ∷ needs MODE (notes .sat ≡ true) ∷ []) g
+values-first notes {g} sat told = behind (logic-first notes told)
+  where
+    behind : First (needs MODE (notes .logic ≡ true) ∷ []) g → First (needs MODE (notes .logic ≡ true) ∷ needs MODE (notes .sat ≡ true) ∷ []) g
+    behind (inl unmet) = inl unmet
+    behind (inr (set, done)) = inr (set, inr (sat, done))

@@ -9,12 +9,11 @@ use lib.ListN.{length, take, drop, replicate, length-replicate, length-append, t
 use lib.Seq.{take-take}
 use Rattle.meaning.specs.Bounds.{ROOM, TEXT, DONE, SHORT}
 use Rattle.meaning.proofs.Needs.{first-same}
-use Rattle.form.specs.Form.{form}
 use Rattle.write.specs.Written.{over}
 use Rattle.write.proofs.Laws.{over-append, part-written}
 use Rattle.script_meaning.specs.Record.{Lent}
-use Rattle.script_meaning.specs.Commands.{command-needs}
-use Rattle.script_meaning.specs.Whole.{command-at, after-command, Plays, blank, RunsScript}
+use Rattle.script_meaning.specs.Commands.{text-needs}
+use Rattle.script_meaning.specs.Whole.{rest, read-at, after-command, Plays, blank, RunsScript}
 use Rattle.script_meaning.specs.Traces.{with-out}
 use Rattle.script_meaning.proofs.Fixing.{does-same}
 use Rattle.script_meaning.proofs.Ending.{plays-same}
@@ -36,15 +35,14 @@ module _ (s : List ℕ) where
   -- However a script plays from a place on, so it plays from every place that is reached from there.
   reaches-rest : (i : ℕ) (l : Lent) (k j : ℕ) (m : Lent) (v g w : ℕ) (out : List ℕ) → Reaches s i l k j m v → Plays s i l k g w out → Plays s j m v g w out
   reaches-rest i l k j m v g w out (Reaches.there _ _ _) plays = plays
-  reaches-rest i l k j m v g w out (Reaches.carried _ _ l₁ _ u _ _ _ some room long met does stays on) (Plays.at-end _ _ _ over-here) = absurd (some over-here)
-  reaches-rest i l k j m v g w out (Reaches.carried _ _ l₁ _ u _ _ _ some room long met does stays on) (Plays.no-room _ _ _ some′ full′) = absurd (omega (arith, full′, room))
-  reaches-rest i l k j m v g w out (Reaches.carried _ _ l₁ _ u _ _ _ some room long met does stays on) (Plays.no-command _ _ _ some′ room′ none′) = absurd (omega (arith, none′, long))
-  reaches-rest i l k j m v g w out (Reaches.carried _ _ l₁ _ u _ _ _ some room long met does stays on) (Plays.refused _ _ _ f′ some′ room′ spans′ unmet′ refuses′) =
-      absurd (refuses′ (first-same (command-needs (form (command-at s i)) (command-at s i) l) g DONE unmet′ met))
-  reaches-rest i l k j m v g w out (Reaches.carried _ _ l₁ _ u _ _ _ some room long met does stays on) (Plays.exited _ _ m′ _ n′ some′ room′ spans′ met′ does′ exit′) =
+  reaches-rest i l k j m v g w out (Reaches.carried _ _ l₁ _ u _ _ _ some room met does stays on) (Plays.at-end _ _ _ over-here) = absurd (some over-here)
+  reaches-rest i l k j m v g w out (Reaches.carried _ _ l₁ _ u _ _ _ some room met does stays on) (Plays.no-room _ _ _ some′ full′) = absurd (omega (arith, full′, room))
+  reaches-rest i l k j m v g w out (Reaches.carried _ _ l₁ _ u _ _ _ some room met does stays on) (Plays.refused _ _ _ f′ some′ room′ unmet′ refuses′) =
+      absurd (refuses′ (first-same (text-needs (rest s i) l) g DONE unmet′ met))
+  reaches-rest i l k j m v g w out (Reaches.carried _ _ l₁ _ u _ _ _ some room met does stays on) (Plays.exited _ _ m′ _ n′ some′ room′ met′ does′ exit′) =
       absurd (true≢false (sym exit′ ∙ stays))
-  reaches-rest i l k j m v g w out (Reaches.carried _ _ l₁ _ u _ _ _ some room long met does stays on) (Plays.goes-on _ _ l₂ _ n′ _ _ _ some′ room′ spans′ met′ does′ stays′ onward′) =
-      let same = does-same (form (command-at s i)) (command-at s i) k l u n′ l₁ l₂ does does′ in
+  reaches-rest i l k j m v g w out (Reaches.carried _ _ l₁ _ u _ _ _ some room met does stays on) (Plays.goes-on _ _ l₂ _ n′ _ _ _ some′ room′ met′ does′ stays′ onward′) =
+      let same = does-same (read-at s i) k l u n′ l₁ l₂ does does′ in
       reaches-rest (after-command s i) l₁ (k + u) j m v g w out on
       (subst (λ (x : ℕ). Plays s (after-command s i) l₁ (k + x) g w out) (sym (same .0)) (subst (λ (x : Lent). Plays s (after-command s i) x (k + n′) g w out) (sym (same .1)) onward′))
 

@@ -3,7 +3,7 @@
 ghost use mathlib.Core.Path.{_≡_};
 ghost use Prim.Native.Nat.{_≤_, _<_};
 ghost use lib.ListN.{length};
-ghost use Rattle.meaning.specs.Bounds.{ROOM, TEXT};
+ghost use Rattle.meaning.specs.Bounds.{RULES, ROOM, TEXT};
 ghost use Rattle.text.specs.Table.{TABLE};
 ghost use Rattle.script_command.specs.Carrying.{in-hand, Maintained};
 ghost use Rattle.program.specs.Handing.{status, Ends, Played, Answered, Runs};
@@ -45,6 +45,9 @@ fn show(out: &[u8], w: usize) -> usize
 fn answer(
     s: &[u8],
     tab: &[u8; text::PLACES],
+    row_xs: &mut [u16],
+    row_ys: &mut [u16],
+    row_cs: &mut [i32],
     counts: Counts,
     notes: Notes,
     xs: &mut [u16],
@@ -63,6 +66,9 @@ fn answer(
     out: &mut [u8],
 ) -> u32
     requires { ⌜ now tab ≡ TABLE ⌝ }
+    requires { ⌜ RULES ≤ length (now «row_xs») ⌝ }
+    requires { ⌜ length (now «row_xs») ≤ length (now «row_ys») ⌝ }
+    requires { ⌜ length (now «row_xs») ≤ length (now «row_cs») ⌝ }
     requires { ⌜ Maintained (notes .names) (in-hand counts (now xs) (now ys) (now cs) (now days) (now levels) notes (now names) (now lens) (now out)) (now heads) (now nexts) (now kept) (now hashes) (now «name_heads») (now «name_nexts») ⌝ }
     requires { ⌜ ROOM ≤ length (now out) ⌝ }
     ensures { λ r. ⌜ Ends (now (s .entry)) 0 (in-hand counts (now (xs .entry)) (now (ys .entry)) (now (cs .entry)) (now (days .entry)) (now (levels .entry)) notes (now (names .entry)) (now (lens .entry)) (now (out .entry))) r ⌝ }
@@ -75,6 +81,9 @@ fn answer(
             s,
             tab,
             at,
+            row_xs,
+            row_ys,
+            row_cs,
             held,
             noted,
             xs,
@@ -126,9 +135,15 @@ fn play(s: &[u8]) -> u32
     let mut name_heads = [0u16; names::BUCKETS];
     let mut name_nexts = [0u16; meaning::STEPS];
     let mut out = [0u8; ANSWERS];
+    let mut row_xs = [0u16; meaning::RULES];
+    let mut row_ys = [0u16; meaning::RULES];
+    let mut row_cs = [0i32; meaning::RULES];
     answer(
         s,
         &tab,
+        &mut row_xs,
+        &mut row_ys,
+        &mut row_cs,
         counts,
         notes,
         &mut xs,

@@ -1,9 +1,7 @@
 -- The parts of the test put together.
-use Prim.Native.Nat.{ℕ, zero, suc, _-_, _≤_}
-use mathlib.Core.Bool.{Bool, cond}
-use lib.Dec.{eqb, eqb·suc-zero}
+use Prim.Native.Nat.{ℕ, _-_, _≤_}
 use native.Mathlib.Omega.{arith}
-use mathlib.Core.Path.{_≡_, refl, sym, ap}
+use mathlib.Core.Path.{_≡_}
 use mathlib.Core.List.{List}
 use lib.ListN.{length}
 use lib.Seq.{take-all}
@@ -46,15 +44,3 @@ record-fine-of l h = record {
   names-fine = λ k i. record { short = h .names-short k i; in-form = h .names-in-form k i };
   different = h .names-different;
 }
-
--- The bytes read, by the number.
-abbrev pub read : ℕ → ℕ → ℕ
-read number size = cond (eqb number 0) size 0
-
-pub read-all : (number size : ℕ) → number ≡ 0 → size ≡ read number size
-read-all zero size e = refl
-read-all (suc k) size e = absurd (omega (arith, e))
-
-pub read-none : (number size : ℕ) → (number ≡ 0 → ⊥) → 0 ≡ read number size
-read-none zero size not-0 = absurd (not-0 refl)
-read-none (suc k) size not-0 = sym (ap (λ (b : Bool). cond b size 0) (eqb·suc-zero k))

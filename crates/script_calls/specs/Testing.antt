@@ -8,7 +8,6 @@ use Rattle.meaning.specs.declared.Counts.{Counts}
 use Rattle.meaning.specs.Bounds.{STEPS, NAME-BYTES, DONE, CONFLICT}
 use Rattle.meaning.specs.Promise.{First}
 use Rattle.chains.specs.Chains.{LentChains}
-use Rattle.span.specs.Span.{span}
 use Rattle.script_meaning.specs.Commands.{command-meaning}
 use Rattle.meaning.specs.Tables.{at}
 use Rattle.lent.specs.Lent.{held-by}
@@ -60,10 +59,9 @@ pub record StandTested (l : Lent) (r : Bool) (heads nexts hashes name-heads name
   pub decides : Decides r (ScriptSound l)
   pub stands : r ≡ true → Stands l heads nexts hashes name-heads name-nexts
 
--- The number is that of the first refusal before the command's own, and DONE where there is none.
-pub record Entered (text : List ℕ) (l : Lent) (number : ℕ) (heads nexts hashes name-heads name-nexts : List ℕ) : Type 0 where
-  pub refused : (number ≡ DONE → ⊥) → First (command-meaning text l .asks) number
+-- The number is that of the first refusal before those of the text, and DONE where there is none.
+pub record Entered (l : Lent) (number : ℕ) (heads nexts hashes name-heads name-nexts : List ℕ) : Type 0 where
+  pub refused : (number ≡ DONE → ⊥) → (text : List ℕ) → First (command-meaning text l .asks) number
   pub never-conflict : number ≡ CONFLICT → ⊥
   pub room : number ≡ DONE → ScriptRoom 0 l
   pub stands : number ≡ DONE → Stands l heads nexts hashes name-heads name-nexts
-  pub begins : number ≡ DONE → 1 ≤ span text

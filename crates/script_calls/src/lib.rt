@@ -3,8 +3,6 @@
 ghost use mathlib.Core.Path.{_≡_};
 ghost use mathlib.Core.List.{List};
 ghost use Prim.Native.Nat.{ℕ, _≤_, _<_};
-ghost use mathlib.Core.Bool.{cond};
-ghost use lib.Dec.{eqb};
 ghost use lib.ListN.{length};
 ghost use Rattle.meaning.specs.declared.Counts.{Counts};
 ghost use Rattle.meaning.specs.Bounds.{STEPS, RULES};
@@ -266,9 +264,8 @@ fn stands(
     )
 }
 
-// The number of the first refusal before the command's own: SHORT, DAMAGED, SYNTAX where the text begins with no command; else 0.
+// The number of the first refusal before those of the text: SHORT, DAMAGED; else 0.
 fn verdict(
-    text: &[u8],
     tab: &[u8; text::PLACES],
     counts: Counts,
     notes: Notes,
@@ -293,7 +290,7 @@ fn verdict(
     requires { ⌜ STEPS ≤ length (now heads) ⌝ }
     requires { ⌜ RULES ≤ length (now nexts) ⌝ }
     requires { ⌜ IndexRoom (now hashes) (now «name_heads») (now «name_nexts») ⌝ }
-    ensures { λ r. ⌜ Entered (now (text .entry)) (lent counts (now (xs .entry)) (now (ys .entry)) (now (cs .entry)) (now (days .entry)) (now (levels .entry)) (now (wxs .entry)) (now (wys .entry)) (now (wcs .entry)) notes (now (names .entry)) (now (lens .entry)) (now (out .entry))) r (now (heads .exit)) (now (nexts .exit)) (now (hashes .exit)) (now («name_heads» .exit)) (now («name_nexts» .exit)) ⌝ }
+    ensures { λ r. ⌜ Entered (lent counts (now (xs .entry)) (now (ys .entry)) (now (cs .entry)) (now (days .entry)) (now (levels .entry)) (now (wxs .entry)) (now (wys .entry)) (now (wcs .entry)) notes (now (names .entry)) (now (lens .entry)) (now (out .entry))) r (now (heads .exit)) (now (nexts .exit)) (now (hashes .exit)) (now («name_heads» .exit)) (now («name_nexts» .exit)) ⌝ }
 {
     if !command_room(xs, ys, cs, days, levels, wxs, wys, wcs, names, lens, out) {
         return meaning::SHORT;
@@ -319,19 +316,6 @@ fn verdict(
         name_nexts,
     ) {
         return meaning::DAMAGED;
-    }
-    if span::span_of(text, tab) == 0 {
-        return meaning::SYNTAX;
-    }
-    0
-}
-
-// How many bytes were read: size where the command was carried out, else 0.
-fn read_of(number: u32, size: usize) -> usize
-    ensures { λ r. ⌜ r ≡ cond (eqb number 0) size 0 ⌝ }
-{
-    if number == 0 {
-        return size;
     }
     0
 }
@@ -378,7 +362,6 @@ fn command_by(
     let mut name_heads = [0u16; names::BUCKETS];
     let mut name_nexts = [0u16; meaning::STEPS];
     let number = verdict(
-        text,
         tab,
         counts,
         notes,
@@ -408,12 +391,17 @@ fn command_by(
             written: 0,
         };
     }
-    let size = span::span_of(text, tab);
+    let mut row_xs = [0u16; meaning::RULES];
+    let mut row_ys = [0u16; meaning::RULES];
+    let mut row_cs = [0i32; meaning::RULES];
     // No days are kept, since nothing is known of the order in which the rules were added.
     let mut kept = [0u32; 0];
     let carried = script_command::carry(
-        &text[0..size],
+        text,
         tab,
+        &mut row_xs,
+        &mut row_ys,
+        &mut row_cs,
         counts,
         notes,
         xs,
@@ -439,12 +427,12 @@ fn command_by(
         counts: counted,
         notes: noted,
         number: carried.number,
-        read: read_of(carried.number, size),
+        read: carried.read,
         written: carried.written,
     }
 }
 
-// Command: SHORT, DAMAGED, SYNTAX where the text begins with no command, and then the command's own refusals; else the command is carried out on the text from
+// Command: SHORT, DAMAGED, and then the refusals of the text; else the command is carried out on the text from
 // its opening bracket on.
 pub fn command(
     text: &[u8],

@@ -1,3 +1,6 @@
 -- What the parts of a command come to.
-pub mod Granting
+pub mod Laying
 pub mod Composing
+pub mod Stopping
+pub mod Granting
+pub mod Closing

@@ -1,8 +1,8 @@
 -- Rules added one after the other: the tables stay sound, and what was held stays.
-use Prim.Native.Nat.{ℕ, zero, suc, _+_, _≤_, _<_}
+use Prim.Native.Nat.{ℕ, _+_, _≤_, _<_}
 use native.Mathlib.Omega.{arith}
 use mathlib.Core.Path.{_≡_, refl, sym, _∙_, ap, subst}
-use mathlib.Core.Bool.{Bool, true, false}
+use mathlib.Core.Bool.{Bool}
 use mathlib.Core.List.{List, [], _∷_}
 use mathlib.Core.Logic.{_⊎_, inl, inr}
 use lib.ListN.{length, replicate, length-replicate}
@@ -118,7 +118,7 @@ holds-grown r t u k few h = subst (Grown t) (sym (h .rule-held)) grown
     }
 
 -- With one rule added there is one rule more.
-one-more : (r : Rule) (t u : Tables) → HeldNow r t u → u .counts .rules ≡ t .counts .rules + 1
+pub one-more : (r : Rule) (t u : Tables) → HeldNow r t u → u .counts .rules ≡ t .counts .rules + 1
 one-more r t u h = ap (λ (v : Tables). v .counts .rules) (h .rule-held)
 
 -- Rules within bounds, as many as there are places for, leave sound tables, and what was held stays.

@@ -1,10 +1,10 @@
 -- What an assertion does to the arrangements: where all its rules fit, they are those under which its term holds; where one does not fit, there is none.
 use Prim.Native.Nat.{ℕ, _+_, _≤_, _<_}
 use native.Mathlib.Omega.{arith}
-use mathlib.Core.Path.{_≡_, refl, sym, _∙_, ap, subst}
-use mathlib.Core.Bool.{Bool, true, false, true≢false, false≢true}
+use mathlib.Core.Path.{_≡_, refl, sym, subst}
+use mathlib.Core.Bool.{true, false, true≢false, false≢true}
 use mathlib.Core.List.{List, [], _∷_, map}
-use mathlib.Core.Logic.{_⊎_, inl, inr, _↔_}
+use mathlib.Core.Logic.{inl, inr, _↔_, Iff·rfl, Iff·trans, Iff·and}
 use lib.ListN.{length, length-set}
 use lib.IntN.{ℤ}
 use Rattle.meaning.specs.Bounds.{RULES}
@@ -13,11 +13,12 @@ use Rattle.meaning.specs.Tables.{Tables, Room, rule-at, put, taken, next, with-
 use Rattle.meaning.specs.Calls.{rules-of, held-in}
 use Rattle.meaning.proofs.Put.{put-new, put-old, put-room}
 use Rattle.meaning.proofs.Places.{taken-set, lowest-found, lowest-free-there, next-free, with-rule-held}
-use Rattle.atoms.specs.Atoms.{Named, rules-at}
-use Rattle.script_meaning.specs.Effect.{AddsAll, resolved, HeldNow}
+use Rattle.reading.specs.Tree.{Term, Named, rules-of-term, Supported}
+use Rattle.reading.specs.Saying.{resolved}
+use Rattle.script_meaning.specs.Effect.{AddsAll, HeldNow}
 use Rattle.script_meaning.specs.Terms.{Holds, AllKept}
-use Rattle.script_meaning.proofs.Adding.{Each}
-use Rattle.script_meaning.proofs.Asserted.{Asserted, asserted-holds}
+use Rattle.script_meaning.proofs.Adding.{Each, one-more}
+use Rattle.script_meaning.proofs.Truth.{term-holds}
 
 -- The days d keep every rule of the tables.
 abbrev pub Kept-in : (ℕ → ℤ) → Tables → Type 0
@@ -27,10 +28,6 @@ Kept-in d t = Arrangement (rules-of t) (held-in t) d
 pub record Counted (t : Tables) : Type 0 where
   pub room : Room t
   pub counted : t .counts .rules ≡ taken RULES (t .levels)
-
--- So with one rule held more.
-one-more : (r : Rule) (t v : Tables) → HeldNow r t v → v .counts .rules ≡ t .counts .rules + 1
-one-more r t v h = ap (λ (x : Tables). x .counts .rules) (h .rule-held)
 
 module _ (r : Rule) (t : Tables) (c : Counted t) (few : t .counts .rules < RULES) where
   next-place : next t < RULES
@@ -50,7 +47,8 @@ module _ (r : Rule) (t : Tables) (c : Counted t) (few : t .counts .rules < RULES
         counted = omega (
           arith,
           c .counted,
-          taken-set RULES (t .levels) (next t) (t .counts .marks + 1) next-place (omega (arith, next-place, c .room .levels-room)) (lowest-free-there RULES (t .levels) next-place) (omega arith),
+          taken-set RULES (t .levels) (next t) (t .counts .marks + 1) next-place (omega (arith, next-place, c .room .levels-room))
+              (lowest-free-there RULES (t .levels) next-place) (omega arith),
         );
       }
 
@@ -96,7 +94,8 @@ module _ (d : ℕ → ℤ) where
   adds-none [] t u c few (is, fine) old new = true≢false fine
   adds-none (r ∷ l) t u c few (inl (unfit, is)) old new = unfit (record { days = d; arrangement = old; kept = new .0 })
   adds-none (r ∷ l) t u c few (inr (v, (h, rest))) old new =
-      adds-none l v u (counted-more r t c (omega arith) v h) (omega (arith, one-more r t v h)) rest (subst (Kept-in d) (sym (h .rule-held)) (more-kept r t (v .days) c (omega arith) old (new .0))) (new .1)
+      adds-none l v u (counted-more r t c (omega arith) v h) (omega (arith, one-more r t v h)) rest
+      (subst (Kept-in d) (sym (h .rule-held)) (more-kept r t (v .days) c (omega arith) old (new .0))) (new .1)
 
   -- Rules over names are kept by the days of the steps that the names stand for.
   over-names : (S : List ℕ → ℕ) (rs : List Named) → Each (Keeps d) (map (resolved S) rs) ↔ AllKept (λ w. d (S w)) rs
@@ -105,17 +104,16 @@ module _ (d : ℕ → ℤ) where
 
   -- **An assertion whose rules all fit** leaves exactly the arrangements under which its term holds, in the standard's meaning.
   pub assertion-kept :
-      (s : List ℕ) (i : ℕ) (a : Asserted s i) (S : List ℕ → ℕ) (t u : Tables) → Counted t → t .counts .rules + length (map (resolved S) (rules-at s i)) ≤ RULES →
-      AddsAll (map (resolved S) (rules-at s i)) t false u → Kept-in d u ↔ (Kept-in d t × Holds (a .term-is) (λ w. d (S w)))
-  assertion-kept s i a S t u c few adds =
-      let exactly = adds-exactly (map (resolved S) (rules-at s i)) t u c few adds in
-      let named = over-names S (rules-at s i) in
-      let term = asserted-holds s i a (λ w. d (S w)) in
-      ((λ k. let b = exactly .0 k in (b .0, term .0 (named .0 (b .1)))), (λ k. exactly .1 (k .0, named .1 (term .1 (k .1)))))
+      (x : Term) → Supported false x → (S : List ℕ → ℕ) (t u : Tables) → Counted t → t .counts .rules + length (map (resolved S) (rules-of-term false x)) ≤ RULES →
+      AddsAll (map (resolved S) (rules-of-term false x)) t false u → Kept-in d u ↔ (Kept-in d t × Holds x (λ w. d (S w)))
+  assertion-kept x supported S t u c few adds =
+      let rules = rules-of-term false x in
+      Iff·trans (adds-exactly (map (resolved S) rules) t u c few adds) (Iff·and Iff·rfl (Iff·trans (over-names S rules) (term-holds x (λ w. d (S w)) supported)))
 
   -- **An assertion with a rule that does not fit**: under no arrangement of what was held does its term hold.
   pub assertion-none :
-      (s : List ℕ) (i : ℕ) (a : Asserted s i) (S : List ℕ → ℕ) (t u : Tables) → Counted t → t .counts .rules + length (map (resolved S) (rules-at s i)) ≤ RULES →
-      AddsAll (map (resolved S) (rules-at s i)) t true u → Kept-in d t → Holds (a .term-is) (λ w. d (S w)) → ⊥
-  assertion-none s i a S t u c few adds old holds =
-      adds-none (map (resolved S) (rules-at s i)) t u c few adds old (over-names S (rules-at s i) .1 (asserted-holds s i a (λ w. d (S w)) .1 holds))
+      (x : Term) → Supported false x → (S : List ℕ → ℕ) (t u : Tables) → Counted t → t .counts .rules + length (map (resolved S) (rules-of-term false x)) ≤ RULES →
+      AddsAll (map (resolved S) (rules-of-term false x)) t true u → Kept-in d t → Holds x (λ w. d (S w)) → ⊥
+  assertion-none x supported S t u c few adds old holds =
+      let rules = rules-of-term false x in
+      adds-none (map (resolved S) rules) t u c few adds old (over-names S rules .1 (term-holds x (λ w. d (S w)) supported .1 holds))

@@ -4,43 +4,42 @@ use Prim.Native.Nat.{ℕ, zero, suc, _+_, _-_, _≤_, _<_}
 use native.Mathlib.Omega.{arith}
 use native.Mathlib.Decide.{ℕ-discrete, decLe}
 use mathlib.Core.Path.{_≡_, refl, sym, _∙_, ap, subst}
-use mathlib.Core.Bool.{Bool, true, false, cond}
+use mathlib.Core.Bool.{Bool, false, cond}
 use mathlib.Core.List.{List, [], _∷_, _++_, map}
 use mathlib.Core.Logic.{inl, inr}
 use lib.Dec.{eqb, ltb}
 use lib.ListN.{length}
 use lib.Seq.{getD-set-other}
 use Rattle.meaning.specs.declared.Counts.{Counts}
-use Rattle.meaning.specs.Bounds.{STEPS, RULES, DONE, MODE, NAME, FULL}
+use Rattle.meaning.specs.Bounds.{STEPS, RULES, DONE}
 use Rattle.meaning.specs.Rules.{Rule, InBounds, Fits, Earliest, largest, plus}
 use Rattle.meaning.specs.Tables.{Tables, at, next, Room, with-rule, freed-above, down-to, with-days, rules-now, marks-now, last-now}
-use Rattle.meaning.specs.Promise.{First, needs}
+use Rattle.meaning.specs.Promise.{First}
 use Rattle.meaning.specs.Calls.{rules-of, held-in}
 use Rattle.meaning.proofs.Theory.{arrangement-same, earliest-same, earliest-unique}
 use Rattle.meaning.proofs.LastDay.{largest-same}
 use Rattle.meaning.proofs.Put.{put-new, put-old}
 use Rattle.meaning.proofs.Places.{taken-same, lowest-same, freed-stays, freed-gone, next-below, with-rule-held, with-rule-level, down-to-held}
 use Rattle.meaning.proofs.Sequences.{Kept}
-use Rattle.text.specs.Lexicon.{bytes, same-bytes}
-use Rattle.form.specs.declared.Command.{Command}
-use Rattle.form.specs.declared.Command.the-variants.{SetLogic, Declare, Assert, Push, Pop, CheckSat, GetValue, Exit, Unsupported, Syntax, Oversize}
-use Rattle.atoms.specs.Atoms.{rules-at}
+use Rattle.text.specs.Lexicon.{same-bytes}
+use Rattle.reading.specs.Tree.{said-by, rules-of-term, Command}
+use Rattle.reading.specs.Reading.{Why, Read, reading}
+use Rattle.reading.specs.Saying.{seek, step-in, said-needs, resolved}
 use Rattle.names.specs.Names.{name-at}
 use Rattle.names.proofs.Shelves.{name-new, name-old}
 use Rattle.levels.specs.Levels.{with-marks, more-marks}
 use Rattle.levels.proofs.Laws.{popped-border}
-use Rattle.write.specs.Written.{decimal}
 use Rattle.script_meaning.specs.declared.Notes.{Notes}
-use Rattle.script_meaning.specs.Record.{Lent, InForm, Known, name-of, step-of, step-in, seek}
-use Rattle.script_meaning.specs.Effect.{Does, AddsAll, resolved, with-notes, with-tables, with-name, broken-after, broken-left, either-answer, SAT, UNSAT, asked, pair, shown-pairs, values, forgotten, at-level, one-named, logic-set, sat-told, day-of}
-use Rattle.script_meaning.specs.Commands.{term-needs, name-needs, logic-need, command-needs}
+use Rattle.script_meaning.specs.Record.{Lent, InForm, Known, name-of, step-of}
+use Rattle.script_meaning.specs.Effect.{Does, Changes, prints, AddsAll, with-notes, with-tables, with-name, broken-after, broken-left, either-answer, SAT, UNSAT, forgotten, at-level, one-named, logic-set, sat-told, day-of}
+use Rattle.script_meaning.specs.Commands.{mode-needs, room-needs, command-needs, read-needs, text-needs}
 use Rattle.script_meaning.specs.Mixed.{on-tables}
 use Rattle.script_meaning.specs.Traces.{with-out}
-use Rattle.script_meaning.proofs.Needed.{EachName}
-use Rattle.script_meaning.proofs.Granted.{Places, declare-met, assert-met}
+use Rattle.script_meaning.proofs.Granted.{declare-met, assert-met, value-met, text-met}
+use Rattle.script_meaning.proofs.Readings.{declared-in-form}
 use Rattle.script_meaning.proofs.Adding.{Each, holds-kept}
-use Rattle.script_meaning.proofs.Keeping.{Fine, tables-kept, tables-border, kept-of, shelved-of, rules-in, map-length}
-use Rattle.script_meaning.proofs.Printing.{printed, value-names}
+use Rattle.script_meaning.proofs.Keeping.{Fine, NamesInForm, tables-kept, tables-border, kept-of, shelved-of, rules-in, map-length}
+use Rattle.script_meaning.proofs.Printing.{shown-same}
 
 -- The same counts, and the same rules held, with the same levels.
 pub record SameHeld (t u : Tables) : Type 0 where
@@ -80,29 +79,34 @@ counted c n m = with-notes n (on-tables (record { counts = c; rules = m .tables 
 
 -- Needs hang on the counts, the record, and the steps of names.
 needs-by :
-    (c : Command) (s : List ℕ) (g : ℕ) (l m : Lent) → step-of l ≡ step-of (with-notes (l .notes) m) → First (command-needs c s l) g →
-    First (command-needs c s (counted (l .tables .counts) (l .notes) m)) g
-needs-by SetLogic s g l m same h = h
-needs-by (Declare a b) s g l m same h =
-    subst (λ (S : List ℕ → ℕ). First (logic-need l (needs NAME (S (bytes s a b) < l .notes .names → ⊥) ∷ needs FULL (l .notes .names < STEPS) ∷ [])) g) same h
-needs-by (Assert i) s g l m same h =
-    subst (λ (S : List ℕ → ℕ). First (logic-need l (term-needs (λ w. S w < l .notes .names) (rules-at s i) (needs FULL (Places i s l) ∷ []))) g) same h
-needs-by (Push n) s g l m same h = h
-needs-by (Pop n) s g l m same h = h
-needs-by CheckSat s g l m same h = h
-needs-by (GetValue i) s g l m same h =
-    subst (λ (S : List ℕ → ℕ). First (logic-need l (needs MODE (l .notes .sat ≡ true) ∷ name-needs (λ w. S w < l .notes .names) (asked s i))) g) same h
-needs-by Exit s g l m same h = h
-needs-by Unsupported s g l m same h = h
-needs-by Syntax s g l m same h = h
-needs-by Oversize s g l m same h = h
+    (c : Command) (g : ℕ) (l m : Lent) → First (mode-needs c l ++ (said-needs (Known (with-notes (l .notes) m)) c ++ room-needs c l)) g →
+    First (command-needs c (counted (l .tables .counts) (l .notes) m)) g
+needs-by Command.set-logic g l m h = h
+needs-by Command.check-sat g l m h = h
+needs-by Command.exit g l m h = h
+needs-by (Command.declare w) g l m h = h
+needs-by (Command.assert t) g l m h = h
+needs-by (Command.push n) g l m h = h
+needs-by (Command.pop n) g l m h = h
+needs-by (Command.get-value ws) g l m h = h
+
+command-alike : (c : Command) (g : ℕ) (l m : Lent) → Alike l m → First (command-needs c l) g → First (command-needs c m) g
+command-alike c g l m a h =
+    let steps : step-of l ≡ step-of (with-notes (l .notes) m) = step-alike l m a ∙ ap (λ (n : Notes). step-in (n .names) (m .names) (m .lens)) (sym (a .same-notes)) in
+    subst (λ (n : Notes). First (command-needs c (counted (m .tables .counts) n m)) g) (a .same-notes)
+    (subst (λ (k : Counts). First (command-needs c (counted k (l .notes) m)) g) (a .tables-alike .same-counts)
+    (needs-by c g l m (subst (λ (S : List ℕ → ℕ). First (mode-needs c l ++ (said-needs (λ w. S w < l .notes .names) c ++ room-needs c l)) g) steps h)))
 
 -- **The same needs are met.**
-pub needs-alike : (c : Command) (s : List ℕ) (g : ℕ) (l m : Lent) → Alike l m → First (command-needs c s l) g → First (command-needs c s m) g
-needs-alike c s g l m a h =
-    subst (λ (n : Notes). First (command-needs c s (counted (m .tables .counts) n m)) g) (a .same-notes)
-    (subst (λ (k : Counts). First (command-needs c s (counted k (l .notes) m)) g) (a .tables-alike .same-counts)
-    (needs-by c s g l m (step-alike l m a ∙ ap (λ (n : Notes). step-in (n .names) (m .names) (m .lens)) (sym (a .same-notes))) h))
+pub read-alike : (r : Read Command) (g : ℕ) (l m : Lent) → Alike l m → First (read-needs r l) g → First (read-needs r m) g
+read-alike (Read.got c e) g l m a h = command-alike c g l m a h
+read-alike (Read.stop Why.other i) g l m a h = h
+read-alike (Read.stop Why.wrong i) g l m a h = h
+read-alike (Read.stop Why.size i) g l m a h = h
+
+pub needs-alike : (text : List ℕ) (g : ℕ) (l m : Lent) → Alike l m → First (text-needs text l) g → First (text-needs text m) g
+needs-alike text g l m a (inl unmet) = inl unmet
+needs-alike text g l m a (inr (spans, h)) = inr (spans, read-alike (reading text) g l m a h)
 
 -- ---- tables
 
@@ -298,80 +302,66 @@ module _ (l m : Lent) (a : Alike l m) where
   both-are {x} {y} l′ m′ p q h = subst (λ (z : Lent). Alike z m′) (sym p) (subst (Alike x) (sym q) h)
 
   -- **The same command leaves the same**, and each prints from a place of its own.
-  pub does-alike :
-      (c : Command) (s : List ℕ) (j k v w : ℕ) (l′ m′ : Lent) → Fine l → Fine m → ((x y : ℕ) → c ≡ Declare x y → InForm (bytes s x y)) →
-      First (command-needs c s l) DONE → Does c s j l v l′ → Does c s k m w m′ → Alike l′ m′
-  does-alike SetLogic s j k v w l′ m′ f g named met (v-is, p) (w-is, q) =
-      both-are l′ m′ p q (noted-alike logic-set (λ n. refl))
-  does-alike (Declare x y) s j k v w l′ m′ f g named met (v-is, p) (w-is, q) = both-are l′ m′ p q (named-alike f g (bytes s x y) (named x y refl) (declare-met x y s l met .1))
-  does-alike (Assert i) s j k v w l′ m′ f g named met (v-is, inl (some, p)) (w-is, inl (some′, q)) =
-      both-are l′ m′ p q (noted-alike forgotten (λ n. refl))
-  does-alike (Assert i) s j k v w l′ m′ f g named met (v-is, inl (some, p)) (w-is, inr (none, rest)) = absurd (some (ap (λ (n : Notes). n .broken) (a .same-notes) ∙ none))
-  does-alike (Assert i) s j k v w l′ m′ f g named met (v-is, inr (none, rest)) (w-is, inl (some, q)) = absurd (some (sym (ap (λ (n : Notes). n .broken) (a .same-notes)) ∙ none))
-  does-alike (Assert i) s j k v w l′ m′ f g named met (v-is, inr (none, (t, (x, (adds, p))))) (w-is, inr (none′, (u, (y, (adds′, q))))) =
-      let granted = assert-met i s l met in
-      let same = adds-alike (map (resolved (step-of l)) (rules-at s i)) (l .tables) (m .tables) t u x y (a .tables-alike) (tables-kept f) (tables-kept g) (rules-in l f (rules-at s i) (granted .0))
-      (omega (arith, granted .1 none, map-length (step-of l) (rules-at s i))) adds
-      (subst (λ (S : List ℕ → ℕ). AddsAll (map (resolved S) (rules-at s i)) (m .tables) y u) (sym (step-alike l m a)) adds′) in
+  changes-alike : (r : Read Command) (l′ m′ : Lent) → Fine l → Fine m → NamesInForm r → First (read-needs r l) DONE → Changes r l l′ → Changes r m m′ → Alike l′ m′
+  changes-alike (Read.got Command.set-logic e) l′ m′ f g named met p q = both-are l′ m′ p q (noted-alike logic-set (λ n. refl))
+  changes-alike (Read.got Command.check-sat e) l′ m′ f g named met p q = both-are l′ m′ p q (noted-alike sat-told (λ n. refl))
+  changes-alike (Read.got Command.exit e) l′ m′ f g named met p q = both-are l′ m′ p q (noted-alike forgotten (λ n. refl))
+  changes-alike (Read.got (Command.declare w) e) l′ m′ f g named met p q = both-are l′ m′ p q (named-alike f g (w .letters) (named w e refl) (declare-met w l met .1))
+  changes-alike (Read.got (Command.assert t) e) l′ m′ f g named met (inl (some, p)) (inl (some′, q)) = both-are l′ m′ p q (noted-alike forgotten (λ n. refl))
+  changes-alike (Read.got (Command.assert t) e) l′ m′ f g named met (inl (some, p)) (inr (none, rest)) = absurd (some (ap (λ (n : Notes). n .broken) (a .same-notes) ∙ none))
+  changes-alike (Read.got (Command.assert t) e) l′ m′ f g named met (inr (none, rest)) (inl (some, q)) = absurd (some (sym (ap (λ (n : Notes). n .broken) (a .same-notes)) ∙ none))
+  changes-alike (Read.got (Command.assert t) e) l′ m′ f g named met (inr (none, (v, (x, (adds, p))))) (inr (none′, (u, (y, (adds′, q))))) =
+      let rs = rules-of-term false t in
+      let granted = assert-met t l met in
+      let same = adds-alike (map (resolved (step-of l)) rs) (l .tables) (m .tables) v u x y (a .tables-alike) (tables-kept f) (tables-kept g) (rules-in l f rs (granted .0))
+      (omega (arith, granted .1 none, map-length (step-of l) rs)) adds (subst (λ (S : List ℕ → ℕ). AddsAll (map (resolved S) rs) (m .tables) y u) (sym (step-alike l m a)) adds′) in
       both-are l′ m′ p q
-      (tables-same t u (broken-after x t) (broken-after y u) (same .0) (ap (λ (c : Counts). cond x (c .marks + 1) 0) (same .0 .same-counts) ∙ ap (λ (b : Bool). broken-after b u) (same .1)))
-  does-alike (Push n) s j k v w l′ m′ f g named met (v-is, p) (w-is, q) =
+      (tables-same v u (broken-after x v) (broken-after y u) (same .0)
+      (ap (λ (c : Counts). cond x (c .marks + 1) 0) (same .0 .same-counts) ∙ ap (λ (b : Bool). broken-after b u) (same .1)))
+  changes-alike (Read.got (Command.push n) e) l′ m′ f g named met p q =
       both-are l′ m′ p q
-      (tables-same (with-marks n (l .tables)) (with-marks n (m .tables)) (l .notes .broken) (m .notes .broken)
-      (marks-alike (l .tables) (m .tables) (a .tables-alike) n) (ap (λ (n : Notes). n .broken) (a .same-notes)))
-  does-alike (Pop n) s j k v w l′ m′ f g named met (v-is, (t, (popped, p))) (w-is, (u, (popped′, q))) =
-      let left : m .tables .counts .marks - n ≡ l .tables .counts .marks - n = ap (λ (c : Counts). c .marks - n) (sym (a .tables-alike .same-counts)) in
-      let dropped : u ≡ with-days (u .days) (down-to (l .tables .counts .marks - n) (m .tables)) = popped′ .dropped ∙ ap (λ (x : ℕ). with-days (u .days) (down-to x (m .tables))) left in
+      (tables-same (with-marks (said-by n) (l .tables)) (with-marks (said-by n) (m .tables)) (l .notes .broken) (m .notes .broken)
+      (marks-alike (l .tables) (m .tables) (a .tables-alike) (said-by n)) (ap (λ (n : Notes). n .broken) (a .same-notes)))
+  changes-alike (Read.got (Command.pop n) e) l′ m′ f g named met (t, (popped, p)) (u, (popped′, q)) =
+      let j = said-by n in
+      let left : m .tables .counts .marks - j ≡ l .tables .counts .marks - j = ap (λ (c : Counts). c .marks - j) (sym (a .tables-alike .same-counts)) in
+      let dropped : u ≡ with-days (u .days) (down-to (l .tables .counts .marks - j) (m .tables)) =
+      popped′ .dropped ∙ ap (λ (x : ℕ). with-days (u .days) (down-to x (m .tables))) left in
       let same : SameHeld t u = subst (λ (z : Tables). SameHeld z u) (sym (popped .dropped))
-      (subst (SameHeld (with-days (t .days) (down-to (l .tables .counts .marks - n) (l .tables)))) (sym dropped)
-      (cut-alike (l .tables) (m .tables) (a .tables-alike) (l .tables .counts .marks - n) (t .days) (u .days) (subst Kept (popped .dropped) (kept-of (popped-border n (tables-border f) popped)))
-      (subst Kept dropped (kept-of (popped-border n (tables-border g) popped′))))) in
+      (subst (SameHeld (with-days (t .days) (down-to (l .tables .counts .marks - j) (l .tables)))) (sym dropped)
+      (cut-alike (l .tables) (m .tables) (a .tables-alike) (l .tables .counts .marks - j) (t .days) (u .days)
+      (subst Kept (popped .dropped) (kept-of (popped-border j (tables-border f) popped)))
+      (subst Kept dropped (kept-of (popped-border j (tables-border g) popped′))))) in
       both-are l′ m′ p q
       (tables-same t u (broken-left (l .notes .broken) t) (broken-left (m .notes .broken) u) same
       (ap (λ (c : Counts). cond (ltb (c .marks + 1) (l .notes .broken)) 0 (l .notes .broken)) (same .same-counts) ∙ ap (λ (n : Notes). broken-left (n .broken) u) (a .same-notes)))
-  does-alike CheckSat s j k v w l′ m′ f g named met (v-is, p) (w-is, q) =
-      both-are l′ m′ p q (record {
-        tables-alike = a .tables-alike;
-        same-notes = ap sat-told (a .same-notes);
-        same-names = a .same-names;
-      })
-  does-alike (GetValue i) s j k v w l′ m′ f g named met (v-is, p) (w-is, q) = both-are l′ m′ p q (bytes-alike _ _)
-  does-alike Exit s j k v w l′ m′ f g named met (v-is, p) (w-is, q) =
-      both-are l′ m′ p q (noted-alike forgotten (λ n. refl))
-  does-alike Unsupported s j k v w l′ m′ f g named met (v-is, p) (w-is, q) = both-are l′ m′ p q (bytes-alike _ _)
-  does-alike Syntax s j k v w l′ m′ f g named met impossible other = absurd impossible
-  does-alike Oversize s j k v w l′ m′ f g named met impossible other = absurd impossible
+  changes-alike (Read.got (Command.get-value ws) e) l′ m′ f g named met p q = both-are l′ m′ p q a
+  changes-alike (Read.stop Why.other i) l′ m′ f g named met p q = both-are l′ m′ p q a
+  changes-alike (Read.stop Why.wrong i) l′ m′ f g named met impossible other = absurd impossible
+  changes-alike (Read.stop Why.size i) l′ m′ f g named met impossible other = absurd impossible
+
+  pub does-alike :
+      (text : List ℕ) (j k v w : ℕ) (l′ m′ : Lent) → Fine l → Fine m → First (text-needs text l) DONE → Does (reading text) j l v l′ → Does (reading text) k m w m′ → Alike l′ m′
+  does-alike text j k v w l′ m′ f g met (x, (changes, (v-is, p))) (y, (changes′, (w-is, q))) =
+      let mid = changes-alike (reading text) x y f g (declared-in-form text) (text-met text l met .1) changes changes′ in
+      both-are l′ m′ p q (record { tables-alike = mid .tables-alike; same-notes = mid .same-notes; same-names = mid .same-names })
 
   -- ---- bytes
 
   -- The day of a declared name.
-  day-alike : Fine l → Fine m → (w : List ℕ) → Known l w → at (l .tables .days) (step-of l w) ≡ at (m .tables .days) (step-of m w)
+  day-alike : Fine l → Fine m → (w : List ℕ) → Known l w → day-of (step-of l) (l .tables .days) w ≡ day-of (step-of m) (m .tables .days) w
   day-alike f g w known =
       days-alike (l .tables) (m .tables) (a .tables-alike) (tables-kept f) (tables-kept g) (step-of l w) (omega (arith, known, f .sound .names-in, f .sound .all-steps))
       ∙ ap (λ (S : List ℕ → ℕ). at (m .tables .days) (S w)) (step-alike l m a)
 
-  pairs-alike : Fine l → Fine m → (ws : List (List ℕ)) → EachName (Known l) ws → shown-pairs (day-of (step-of l) (l .tables .days)) ws ≡ shown-pairs (day-of (step-of m) (m .tables .days)) ws
-  pairs-alike f g [] each = refl
-  pairs-alike f g (w ∷ ws) each =
-      ap (λ (d : ℕ). 32 ∷ (pair w d ++ shown-pairs (day-of (step-of l) (l .tables .days)) ws)) (day-alike f g w (each .0))
-      ∙ ap (λ (v : List ℕ). 32 ∷ (pair w (day-of (step-of m) (m .tables .days) w) ++ v)) (pairs-alike f g ws (each .1))
-
-  values-alike : Fine l → Fine m → (ws : List (List ℕ)) → EachName (Known l) ws → values (step-of l) (l .tables .days) ws ≡ values (step-of m) (m .tables .days) ws
-  values-alike f g [] each = refl
-  values-alike f g (w ∷ ws) each =
-      ap (λ (d : ℕ). 40 ∷ (pair w d ++ shown-pairs (day-of (step-of l) (l .tables .days)) ws)) (day-alike f g w (each .0))
-      ∙ ap (λ (v : List ℕ). 40 ∷ (pair w (day-of (step-of m) (m .tables .days) w) ++ v)) (pairs-alike f g ws (each .1))
-
   -- **The same command prints the same.**
-  pub printed-alike : Fine l → Fine m → (c : Command) (s : List ℕ) → First (command-needs c s l) DONE → printed c s l ≡ printed c s m
-  printed-alike f g SetLogic s met = refl
-  printed-alike f g (Declare x y) s met = refl
-  printed-alike f g (Assert i) s met = refl
-  printed-alike f g (Push n) s met = refl
-  printed-alike f g (Pop n) s met = refl
-  printed-alike f g CheckSat s met = ap (λ (n : Notes). either-answer (eqb (n .broken) 0) SAT UNSAT) (a .same-notes)
-  printed-alike f g (GetValue i) s met = values-alike f g (asked s i) (value-names l f s i met)
-  printed-alike f g Exit s met = refl
-  printed-alike f g Unsupported s met = refl
-  printed-alike f g Syntax s met = refl
-  printed-alike f g Oversize s met = refl
+  pub printed-alike : Fine l → Fine m → (r : Read Command) → First (read-needs r l) DONE → prints r l ≡ prints r m
+  printed-alike f g (Read.got Command.set-logic e) met = refl
+  printed-alike f g (Read.got Command.check-sat e) met = ap (λ (n : Notes). either-answer (eqb (n .broken) 0) SAT UNSAT) (a .same-notes)
+  printed-alike f g (Read.got Command.exit e) met = refl
+  printed-alike f g (Read.got (Command.declare w) e) met = refl
+  printed-alike f g (Read.got (Command.assert t) e) met = refl
+  printed-alike f g (Read.got (Command.push n) e) met = refl
+  printed-alike f g (Read.got (Command.pop n) e) met = refl
+  printed-alike f g (Read.got (Command.get-value ws) e) met = shown-same _ _ (Known l) (day-alike f g) ws (value-met ws l met)
+  printed-alike f g (Read.stop why i) met = refl

@@ -1,4 +1,5 @@
--- **Every script comes to an end**, played at once or by calls: each command that is carried out moves the place on, past its closing bracket, and at each place what is next can be told.
+-- **Every script comes to an end**, played at once or by calls: each command that is carried out moves the place on, past its closing bracket, and at each place what is next
+-- can be told.
 use Prim.Native.Nat.{ℕ, zero, suc, _+_, _≤_}
 use native.Mathlib.Omega.{arith}
 use native.Mathlib.Decide.{ℕ-discrete, decLe}
@@ -6,27 +7,25 @@ use mathlib.Core.Path.{_≡_, refl, sym, subst}
 use mathlib.Core.Bool.{Bool, true, false}
 use mathlib.Core.List.{List, [], _++_}
 use lib.ListN.{length, take, replicate, length-replicate}
-use Rattle.meaning.specs.Bounds.{ROOM, TEXT, DONE, SHORT, SYNTAX, SIZE}
+use Rattle.meaning.specs.Bounds.{ROOM, TEXT, DONE, SHORT, SIZE}
 use Rattle.meaning.specs.Promise.{First}
 use Rattle.meaning.proofs.Possible.{Outcome}
 use Rattle.text.specs.Lexicon.{END, token-at}
 use Rattle.text.proofs.Tokens.{token-placed}
 use Rattle.span.specs.Span.{span}
-use Rattle.form.specs.Form.{form}
 use Rattle.write.specs.Written.{over}
 use Rattle.script_meaning.specs.Record.{Lent, StartRoom}
 use Rattle.script_meaning.specs.Effect.{Does}
-use Rattle.script_meaning.specs.Commands.{command-needs, command-meaning}
+use Rattle.script_meaning.specs.Commands.{text-needs, command-meaning}
 use Rattle.script_meaning.specs.Traces.{with-out}
-use Rattle.script_meaning.specs.Whole.{error-line, rest, command-at, after-command, exits, Plays, blank, RunsScript}
+use Rattle.script_meaning.specs.Whole.{error-line, rest, read-at, after-command, exits, Plays, blank, RunsScript}
 use Rattle.script_meaning.specs.ByCalls.{CallsAt, Goes, RunsByCalls, GoesBy}
-use Rattle.script_meaning.proofs.Granted.{granted}
-use Rattle.script_meaning.proofs.Naming.{declared-in-form}
+use Rattle.script_meaning.proofs.Granted.{text-met, granted}
 use Rattle.script_meaning.proofs.Keeping.{Fine, does-fine}
 use Rattle.script_meaning.proofs.InForce.{fresh-fine}
 use Rattle.script_meaning.proofs.Calling.{start-fresh}
 use Rattle.script_meaning.proofs.Playing.{blank-fresh}
-use Rattle.script_meaning.proofs.Decided.{first-told, command-told}
+use Rattle.script_meaning.proofs.Decided.{first-told, text-told}
 use Rattle.script_meaning.proofs.ByCalls.{call-fine}
 use Rattle.script_meaning.proofs.Possible.{does-some, command-possible, start-met}
 
@@ -49,42 +48,30 @@ module _ (s : List ℕ) where
 
   -- So at a place with a token, where it ends from past the command on.
   play-at : (i : ℕ) (l : Lent) (k : ℕ) → Fine l → (token-at s i .kind ≡ END → ⊥) → (1 ≤ span (rest s i) → (m : Lent) (v : ℕ) → Fine m → Ended (after-command s i) m v) → Ended i l k
-  play-at i l k f some on =
-      by-room (decLe (k + ROOM) (length (l .out))) (decLe 1 (span (rest s i))) (first-told (command-needs (form (command-at s i)) (command-at s i) l) (command-told (form (command-at s i)) (command-at s i) l))
+  play-at i l k f some on = by-room (decLe (k + ROOM) (length (l .out))) (first-told (text-needs (rest s i) l) (text-told (rest s i) l))
     where
-      by-exit :
-          k + ROOM ≤ length (l .out) → 1 ≤ span (rest s i) → First (command-needs (form (command-at s i)) (command-at s i) l) DONE →
-          (b : Bool) → exits (form (command-at s i)) ≡ b → Ended i l k
-      by-exit room spans met b is = tell b is (does-some (form (command-at s i)) (command-at s i) k l f met)
+      by-exit : k + ROOM ≤ length (l .out) → First (text-needs (rest s i) l) DONE → (b : Bool) → exits (read-at s i) ≡ b → Ended i l k
+      by-exit room met b is = tell b is (does-some (read-at s i) k l f (text-met (rest s i) l met .1))
         where
-          tell : (b : Bool) → exits (form (command-at s i)) ≡ b → (w : ℕ) × ((m : Lent) × Does (form (command-at s i)) (command-at s i) k l w m) → Ended i l k
-          tell true is (w, (m, does)) = record { number = DONE; written = k + w; bytes = m .out; plays = Plays.exited i l m k w some room spans met does is }
+          tell : (b : Bool) → exits (read-at s i) ≡ b → (w : ℕ) × ((m : Lent) × Does (read-at s i) k l w m) → Ended i l k
+          tell true is (w, (m, does)) = record { number = DONE; written = k + w; bytes = m .out; plays = Plays.exited i l m k w some room met does is }
           tell false is (w, (m, does)) =
-              let x = on spans m (k + w) (does-fine (form (command-at s i)) (command-at s i) k w l m f (λ a b e. declared-in-form (command-at s i) a b e) met does) in
+              let x = on (text-met (rest s i) l met .0) m (k + w) (does-fine (rest s i) k w l m f met does) in
               record {
                 number = x .number;
                 written = x .written;
                 bytes = x .bytes;
-                plays = Plays.goes-on i l m k w (x .number) (x .written) (x .bytes) some room spans met does is (x .plays);
+                plays = Plays.goes-on i l m k w (x .number) (x .written) (x .bytes) some room met does is (x .plays);
               }
 
-      by-number :
-          k + ROOM ≤ length (l .out) → 1 ≤ span (rest s i) → (g : ℕ) → First (command-needs (form (command-at s i)) (command-at s i) l) g → Dec (g ≡ DONE) → Ended i l k
-      by-number room spans g first (no refuses) =
-          record { number = g; written = k + length (error-line g); bytes = over (l .out) k (error-line g); plays = Plays.refused i l k g some room spans first refuses }
-      by-number room spans g first (yes done) =
-          by-exit room spans (subst (First (command-needs (form (command-at s i)) (command-at s i) l)) done first) (exits (form (command-at s i))) refl
+      by-number : k + ROOM ≤ length (l .out) → (g : ℕ) → First (text-needs (rest s i) l) g → Dec (g ≡ DONE) → Ended i l k
+      by-number room g first (no refuses) =
+          record { number = g; written = k + length (error-line g); bytes = over (l .out) k (error-line g); plays = Plays.refused i l k g some room first refuses }
+      by-number room g first (yes done) = by-exit room (subst (First (text-needs (rest s i) l)) done first) (exits (read-at s i)) refl
 
-      by-room :
-          Dec (k + ROOM ≤ length (l .out)) → Dec (1 ≤ span (rest s i)) → (g : ℕ) × First (command-needs (form (command-at s i)) (command-at s i) l) g → Ended i l k
-      by-room (no full) spans first = record { number = SHORT; written = k; bytes = l .out; plays = Plays.no-room i l k some (omega (arith, full)) }
-      by-room (yes room) (no none) first = record {
-        number = SYNTAX;
-        written = k + length (error-line SYNTAX);
-        bytes = over (l .out) k (error-line SYNTAX);
-        plays = Plays.no-command i l k some room (omega (arith, none));
-      }
-      by-room (yes room) (yes spans) (g, first) = by-number room spans g first (ℕ-discrete g DONE)
+      by-room : Dec (k + ROOM ≤ length (l .out)) → (g : ℕ) × First (text-needs (rest s i) l) g → Ended i l k
+      by-room (no full) first = record { number = SHORT; written = k; bytes = l .out; plays = Plays.no-room i l k some (omega (arith, full)) }
+      by-room (yes room) (g, first) = by-number room g first (ℕ-discrete g DONE)
 
   plays-end : (left i : ℕ) (l : Lent) (k : ℕ) → Fine l → length s ≤ i + left → Ended i l k
   plays-end zero i l k f enough = tell (ℕ-discrete (token-at s i .kind) END)
@@ -119,12 +106,12 @@ module _ (s : List ℕ) where
       calls : CallsAt s i l (x .answer) (x .after)
       calls = record { some = some; out = out; room = omega (arith, length-replicate {A = ℕ} ROOM 0); keeps = x .keeps }
 
-      by-exit : x .answer .number ≡ DONE → (b : Bool) → exits (form (command-at s i)) ≡ b → Gone i l
+      by-exit : x .answer .number ≡ DONE → (b : Bool) → exits (read-at s i) ≡ b → Gone i l
       by-exit done true is = record { number = DONE; bytes = take (x .answer .two) (x .after .out); goes = GoesBy.exited i l (x .answer) (x .after) calls done is }
       by-exit done false is =
           let r = granted (rest s i) (with-out out l) (subst (First (command-meaning (rest s i) (with-out out l) .asks)) done (x .keeps .first-unmet)) in
           let d = x .keeps .when-done done in
-          let y = on (r .spans) (x .after) (call-fine s i l (x .answer) (x .after) calls done f) in
+          let y = on (text-met (rest s i) (with-out out l) (r .met) .0) (x .after) (call-fine s i l (x .answer) (x .after) calls done f) in
           record {
             number = y .number;
             bytes = take (x .answer .two) (x .after .out) ++ y .bytes;
@@ -135,7 +122,7 @@ module _ (s : List ℕ) where
 
       by-number : Dec (x .answer .number ≡ DONE) → Gone i l
       by-number (no refuses) = record { number = x .answer .number; bytes = error-line (x .answer .number); goes = GoesBy.refused i l (x .answer) (x .after) calls refuses }
-      by-number (yes done) = by-exit done (exits (form (command-at s i))) refl
+      by-number (yes done) = by-exit done (exits (read-at s i)) refl
 
   goes-end : (left i : ℕ) (l : Lent) → Fine l → length s ≤ i + left → Gone i l
   goes-end zero i l f enough = tell (ℕ-discrete (token-at s i .kind) END)

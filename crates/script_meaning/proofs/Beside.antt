@@ -1,18 +1,19 @@
 -- No command reads or writes a watched rule: what it does, it does whatever is watched.
 use Prim.Native.Nat.{ℕ}
-use mathlib.Core.Path.{ap}
-use mathlib.Core.Bool.{Bool}
+use mathlib.Core.Path.{_≡_, refl, sym, _∙_, ap}
+use mathlib.Core.Bool.{Bool, false}
 use mathlib.Core.List.{List, [], _∷_, map}
-use mathlib.Core.Logic.{_⊎_, inl, inr}
+use mathlib.Core.Logic.{inl, inr}
+use lib.ListN.{length}
 use Rattle.meaning.specs.Rules.{Rule}
 use Rattle.meaning.specs.Tables.{Columns, Tables}
 use Rattle.lent.specs.Idle.{watching}
-use Rattle.form.specs.declared.Command.{Command}
-use Rattle.form.specs.declared.Command.the-variants.{SetLogic, Declare, Assert, Push, Pop, CheckSat, GetValue, Exit, Unsupported, Syntax, Oversize}
-use Rattle.atoms.specs.Atoms.{Named, rules-at}
+use Rattle.reading.specs.Tree.{said-by, Named, rules-of-term, Command}
+use Rattle.reading.specs.Reading.{Why, Read}
+use Rattle.reading.specs.Saying.{resolved}
 use Rattle.levels.specs.Levels.{Popped}
 use Rattle.script_meaning.specs.Record.{Lent, step-of}
-use Rattle.script_meaning.specs.Effect.{HeldNow, AddsAll, resolved, Asserts, Does}
+use Rattle.script_meaning.specs.Effect.{HeldNow, AddsAll, Asserts, with-printed, prints, Changes, Does}
 use Rattle.script_meaning.specs.Mixed.{on-tables}
 
 -- What is lent, with other watched rules.
@@ -36,16 +37,37 @@ module _ (w : Columns) where
   asserts-watching rs before after (inr (none, (t, (clash, (adds, is))))) =
       inr (none, (watching w t, (clash, (adds-watching (map (resolved (step-of before)) rs) (before .tables) clash t adds, ap (lent-watching w) is))))
 
+  changes-watching : (r : Read Command) (before after : Lent) → Changes r before after → Changes r (lent-watching w before) (lent-watching w after)
+  changes-watching (Read.got Command.set-logic e) before after is = ap (lent-watching w) is
+  changes-watching (Read.got Command.check-sat e) before after is = ap (lent-watching w) is
+  changes-watching (Read.got Command.exit e) before after is = ap (lent-watching w) is
+  changes-watching (Read.got (Command.declare x) e) before after is = ap (lent-watching w) is
+  changes-watching (Read.got (Command.assert t) e) before after adds = asserts-watching (rules-of-term false t) before after adds
+  changes-watching (Read.got (Command.push j) e) before after is = ap (lent-watching w) is
+  changes-watching (Read.got (Command.pop j) e) before after (t, (dropped, is)) = (watching w t, (popped-watching (said-by j) dropped, ap (lent-watching w) is))
+  changes-watching (Read.got (Command.get-value ws) e) before after is = ap (lent-watching w) is
+  changes-watching (Read.stop Why.other i) before after is = ap (lent-watching w) is
+  changes-watching (Read.stop Why.wrong i) before after none = none
+  changes-watching (Read.stop Why.size i) before after none = none
+
+  prints-watching : (r : Read Command) (l : Lent) → prints r (lent-watching w l) ≡ prints r l
+  prints-watching (Read.got Command.set-logic e) l = refl
+  prints-watching (Read.got Command.check-sat e) l = refl
+  prints-watching (Read.got Command.exit e) l = refl
+  prints-watching (Read.got (Command.declare x) e) l = refl
+  prints-watching (Read.got (Command.assert t) e) l = refl
+  prints-watching (Read.got (Command.push j) e) l = refl
+  prints-watching (Read.got (Command.pop j) e) l = refl
+  prints-watching (Read.got (Command.get-value ws) e) l = refl
+  prints-watching (Read.stop why i) l = refl
+
   -- **A command does with any watched rules what it does with some.**
-  pub does-watching : (c : Command) (s : List ℕ) (k : ℕ) (before : Lent) (n : ℕ) (after : Lent) → Does c s k before n after → Does c s k (lent-watching w before) n (lent-watching w after)
-  does-watching SetLogic s k before n after (count, is) = (count, ap (lent-watching w) is)
-  does-watching (Declare a b) s k before n after (count, is) = (count, ap (lent-watching w) is)
-  does-watching (Assert i) s k before n after (count, adds) = (count, asserts-watching (rules-at s i) before after adds)
-  does-watching (Push j) s k before n after (count, is) = (count, ap (lent-watching w) is)
-  does-watching (Pop j) s k before n after (count, (t, (dropped, is))) = (count, (watching w t, (popped-watching j dropped, ap (lent-watching w) is)))
-  does-watching CheckSat s k before n after (count, is) = (count, ap (lent-watching w) is)
-  does-watching (GetValue i) s k before n after (count, is) = (count, ap (lent-watching w) is)
-  does-watching Exit s k before n after (count, is) = (count, ap (lent-watching w) is)
-  does-watching Unsupported s k before n after (count, is) = (count, ap (lent-watching w) is)
-  does-watching Syntax s k before n after none = none
-  does-watching Oversize s k before n after none = none
+  pub does-watching : (r : Read Command) (k : ℕ) (before : Lent) (n : ℕ) (after : Lent) → Does r k before n after → Does r k (lent-watching w before) n (lent-watching w after)
+  does-watching r k before n after (mid, (changes, (count, is))) =
+      let same = prints-watching r before in (
+        lent-watching w mid,
+        (
+          changes-watching r before mid changes,
+          (count ∙ ap length (sym same), ap (lent-watching w) is ∙ ap (λ (b : List ℕ). with-printed k b (lent-watching w mid)) (sym same)),
+        ),
+      )

@@ -1,31 +1,30 @@
--- **A whole script by calls** prints what the whole script prints at once, and ends as it ends: the tables that the caller lends and the script's own are the same below the counts after
--- every command, so the same commands are carried out and refused, and print the same bytes. SHORT and DAMAGED are no answer of such a call: every command that is carried out leaves
--- what is sound, with room.
+-- **A whole script by calls** prints what the whole script prints at once, and ends as it ends: the tables that the caller lends and the script's own are the same below the
+-- counts after every command, so the same commands are carried out and refused, and print the same bytes. SHORT and DAMAGED are no answer of such a call: every command that is
+-- carried out leaves what is sound, with room.
 use Prim.Native.Nat.{ℕ, _+_, _≤_}
 use native.Mathlib.Omega.{arith}
 use mathlib.Core.Path.{_≡_, refl, sym, _∙_, ap, subst}
 use mathlib.Core.List.{List, [], _++_}
-use mathlib.Core.Logic.{_⊎_, inl, inr}
+use mathlib.Core.Logic.{inl, inr}
 use lib.ListN.{length, take, replicate, length-append, length-replicate}
-use Rattle.meaning.specs.Bounds.{ROOM, TEXT, DONE, SHORT, DAMAGED, CONFLICT, SYNTAX}
+use Rattle.meaning.specs.Bounds.{ROOM, TEXT, DONE, SHORT, DAMAGED, CONFLICT}
 use Rattle.meaning.specs.Promise.{Given, First, bare}
 use Rattle.meaning.proofs.Needs.{obeys-refused}
 use Rattle.text.specs.Lexicon.{END, token-at}
 use Rattle.span.specs.Span.{span}
-use Rattle.form.specs.Form.{form}
+use Rattle.reading.specs.Reading.{reading}
 use Rattle.write.specs.Written.{over}
 use Rattle.write.proofs.Laws.{over-none, over-append, length-over, part-written}
 use Rattle.script_meaning.specs.Record.{Lent, StartRoom, ScriptRoom}
-use Rattle.script_meaning.specs.Effect.{Does}
-use Rattle.script_meaning.specs.Commands.{own, command-needs, command-meaning, start-meaning}
+use Rattle.script_meaning.specs.Effect.{Does, prints}
+use Rattle.script_meaning.specs.Commands.{text-needs, command-meaning, start-meaning}
 use Rattle.script_meaning.specs.Traces.{with-out}
-use Rattle.script_meaning.specs.Whole.{error-line, rest, command-at, after-command, Plays, Fresh, blank, RunsScript}
+use Rattle.script_meaning.specs.Whole.{error-line, rest, read-at, after-command, Plays, Fresh, blank, RunsScript}
 use Rattle.script_meaning.specs.ByCalls.{CallsAt, Goes, RunsByCalls, GoesBy}
-use Rattle.script_meaning.proofs.Granted.{start-granted, granted}
+use Rattle.script_meaning.proofs.Granted.{start-granted, text-met}
 use Rattle.script_meaning.proofs.Refusing.{never-short, never-damaged, never-conflict}
-use Rattle.script_meaning.proofs.Naming.{declared-in-form}
 use Rattle.script_meaning.proofs.Keeping.{Fine, other-fine, does-fine}
-use Rattle.script_meaning.proofs.Printing.{printed, does-printed, printed-room, written-part}
+use Rattle.script_meaning.proofs.Printing.{does-printed, printed-room, written-part}
 use Rattle.script_meaning.proofs.InForce.{fresh-fine}
 use Rattle.script_meaning.proofs.Calling.{start-fresh}
 use Rattle.script_meaning.proofs.Playing.{blank-fresh}
@@ -45,25 +44,20 @@ fresh-alike l m f g = record {
   same-names = λ k h. absurd (omega (arith, h, ap (λ n. n .names) (f .notes-are)));
 }
 
--- A command call on what is sound, with room: it is neither SHORT nor DAMAGED, so its number is SYNTAX where no command begins, and else that of the command's first need not met.
+-- A command call on what is sound, with room: it is neither SHORT nor DAMAGED, so its number is that of the text's first need not met.
 module _ (text : List ℕ) (l : Lent) (f : Fine l) (room : ROOM ≤ length (l .out)) where
-  abbrev Judged : ℕ → Type 0
-  Judged g = ((g ≡ SYNTAX) × (span text ≡ 0)) ⊎ ((1 ≤ span text) × First (command-needs (form (own text)) (own text) l) g)
-
   script-room : ScriptRoom 0 l
   script-room = record { start-room = f .room; out-room = room }
 
-  judged : (g : ℕ) → First (command-meaning text l .asks) g → Judged g
+  judged : (g : ℕ) → First (command-meaning text l .asks) g → First (text-needs text l) g
   judged g (inl (short, no-room)) = absurd (no-room script-room)
   judged g (inr (room, inl (damaged, unsound))) = absurd (unsound (f .sound))
-  judged g (inr (room, inr (sound, inl (syntax, none)))) = inl (syntax, omega (arith, none))
-  judged g (inr (room, inr (sound, inr met))) = inr met
+  judged g (inr (room, inr (sound, met))) = met
 
-  asked-for : (g : ℕ) → Judged g → First (command-meaning text l .asks) g
-  asked-for g (inl (syntax, none)) = inr (script-room, inr (f .sound, inl (syntax, λ some. omega arith)))
-  asked-for g (inr met) = inr (script-room, inr (f .sound, inr met))
+  asked-for : (g : ℕ) → First (text-needs text l) g → First (command-meaning text l .asks) g
+  asked-for g met = inr (script-room, inr (f .sound, met))
 
--- The command t, whose needs are met, on l as a call and on p as a script plays it, printing from place k on: both leave the same, sound and with room, and print the same bytes.
+-- The text t, whose needs are met, on l as a call and on p as a script plays it, printing from place k on: both leave the same, sound and with room, and print the same bytes.
 record Beside (k v w : ℕ) (p m q : Lent) : Type 0 where
   left-alike : Alike m q
   call-fine : Fine m
@@ -72,16 +66,17 @@ record Beside (k v w : ℕ) (p m q : Lent) : Type 0 where
   there : q .out ≡ over (p .out) k (take v (m .out))
 
 beside :
-    (t : List ℕ) (l p : Lent) → Alike l p → Fine l → Fine p → ROOM ≤ length (l .out) → First (command-needs (form t) t l) DONE → First (command-needs (form t) t p) DONE →
-    (k v w : ℕ) (m q : Lent) → Does (form t) t 0 l v m → Does (form t) t k p w q → Beside k v w p m q
+    (t : List ℕ) (l p : Lent) → Alike l p → Fine l → Fine p → ROOM ≤ length (l .out) → First (text-needs t l) DONE → First (text-needs t p) DONE →
+    (k v w : ℕ) (m q : Lent) → Does (reading t) 0 l v m → Does (reading t) k p w q → Beside k v w p m q
 beside t l p a f g room met met′ k v w m q does does′ =
-    let b : take v (m .out) ≡ printed (form t) t p =
-    written-part 0 v (printed (form t) t l) (l .out) (m .out) (does-printed (form t) t 0 v l m does) (omega (arith, room, printed-room l f (form t) t refl met)) ∙ printed-alike l p a f g (form t) t met in
-    let wrote = does-printed (form t) t k w p q does′ in
+    let b : take v (m .out) ≡ prints (reading t) p =
+    written-part 0 v (prints (reading t) l) (l .out) (m .out) (does-printed (reading t) 0 v l m does) (omega (arith, room, printed-room t l f met))
+    ∙ printed-alike l p a f g (reading t) (text-met t l met .1) in
+    let wrote = does-printed (reading t) k w p q does′ in
     record {
-      left-alike = does-alike l p a (form t) t 0 k v w m q f g (λ x y e. declared-in-form t x y e) met does does′;
-      call-fine = does-fine (form t) t 0 v l m f (λ x y e. declared-in-form t x y e) met does;
-      play-fine = does-fine (form t) t k w p q g (λ x y e. declared-in-form t x y e) met′ does′;
+      left-alike = does-alike l p a t 0 k v w m q f g met does does′;
+      call-fine = does-fine t 0 v l m f met does;
+      play-fine = does-fine t k w p q g met′ does′;
       as-many = wrote .as-many ∙ ap length (sym b);
       there = wrote .left ∙ ap (over (p .out) k) (sym b);
     }
@@ -89,59 +84,53 @@ beside t l p a f g room met met′ k v w m q does does′ =
 -- ---- from the calls to the script
 
 module _ (s : List ℕ) where
+  -- A call's number is that of the text's first need not met.
+  call-judged : (i : ℕ) (l : Lent) (a : Given) (m : Lent) (c : CallsAt s i l a m) → Fine l → First (text-needs (rest s i) (with-out (c .out) l)) (a .number)
+  call-judged i l a m c f = judged (rest s i) (with-out (c .out) l) (other-fine (c .out) l f) (c .room) (a .number) (c .keeps .first-unmet)
+
+  call-met : (i : ℕ) (l : Lent) (a : Given) (m : Lent) (c : CallsAt s i l a m) → Fine l → a .number ≡ DONE → First (text-needs (rest s i) (with-out (c .out) l)) DONE
+  call-met i l a m c f done = subst (First (text-needs (rest s i) (with-out (c .out) l))) done (call-judged i l a m c f)
+
   -- A command call that is carried out leaves what is sound.
   pub call-fine : (i : ℕ) (l : Lent) (a : Given) (m : Lent) → CallsAt s i l a m → a .number ≡ DONE → Fine l → Fine m
   call-fine i l a m c done f =
-      let r = granted (rest s i) (with-out (c .out) l) (subst (First (command-meaning (rest s i) (with-out (c .out) l) .asks)) done (c .keeps .first-unmet)) in
-      does-fine (form (command-at s i)) (command-at s i) 0 (a .two) (with-out (c .out) l) m (other-fine (c .out) l f) (λ x y e. declared-in-form (command-at s i) x y e) (r .met) (c .keeps .when-done done .done)
+      does-fine (rest s i) 0 (a .two) (with-out (c .out) l) m (other-fine (c .out) l f) (call-met i l a m c f done) (c .keeps .when-done done .done)
 
   -- So no call of a caller is SHORT or DAMAGED.
   goes-apart : (i : ℕ) (l : Lent) (g : ℕ) (b : List ℕ) → Goes s i l g b → Fine l → (g ≡ SHORT → ⊥) × (g ≡ DAMAGED → ⊥)
   goes-apart i l g b (GoesBy.at-end _ _ over-here) f = ((λ e. omega (arith, e)), (λ e. omega (arith, e)))
   goes-apart i l g b (GoesBy.refused _ _ a m c refuses) f =
-      tell (judged (rest s i) (with-out (c .out) l) (other-fine (c .out) l f) (c .room) (a .number) (c .keeps .first-unmet))
-    where
-      tell : Judged (rest s i) (with-out (c .out) l) (other-fine (c .out) l f) (c .room) (a .number) → (a .number ≡ SHORT → ⊥) × (a .number ≡ DAMAGED → ⊥)
-      tell (inl (syntax, none)) = ((λ e. omega (arith, syntax, e)), (λ e. omega (arith, syntax, e)))
-      tell (inr (spans, unmet)) = (
-        never-short (form (command-at s i)) (command-at s i) (with-out (c .out) l) (a .number) unmet,
-        never-damaged (form (command-at s i)) (command-at s i) (with-out (c .out) l) (a .number) unmet,
-      )
+      let lent : Lent = with-out (c .out) l in
+      let unmet = call-judged i l a m c f in
+      (never-short (rest s i) lent (a .number) unmet, never-damaged (rest s i) lent (a .number) unmet)
   goes-apart i l g b (GoesBy.exited _ _ a m c done exit) f = ((λ e. omega (arith, e)), (λ e. omega (arith, e)))
   goes-apart i l g b (GoesBy.goes-on _ _ a m c done stays _ d on) f = goes-apart _ m g d on (call-fine i l a m c done f)
 
   -- A command call that is carried out, beside a play of the script that has come to the same place.
   record Follows (i : ℕ) (l : Lent) (a : Given) (m p : Lent) (k : ℕ) : Type 0 where
-    spans : 1 ≤ span (rest s i)
     read : a .one ≡ span (rest s i)
-    met : First (command-needs (form (command-at s i)) (command-at s i) p) DONE
+    met : First (text-needs (rest s i) p) DONE
     w : ℕ
     q : Lent
-    does : Does (form (command-at s i)) (command-at s i) k p w q
+    does : Does (read-at s i) k p w q
     both : Beside k (a .two) w p m q
 
   follows : (i : ℕ) (l : Lent) (a : Given) (m : Lent) → CallsAt s i l a m → a .number ≡ DONE → (p : Lent) (k : ℕ) → Alike l p → Fine l → Fine p → Follows i l a m p k
-  follows i l a m c done p k alike f g = tell (judged (rest s i) lent (other-fine (c .out) l f) (c .room) DONE (subst (First (command-meaning (rest s i) lent .asks)) done (c .keeps .first-unmet)))
-    where
-      lent : Lent
-      lent = with-out (c .out) l
-
-      tell : Judged (rest s i) lent (other-fine (c .out) l f) (c .room) DONE → Follows i l a m p k
-      tell (inl (syntax, none)) = absurd (omega (arith, syntax))
-      tell (inr (spans, met)) =
-          let same : Alike lent p = bytes-alike l p alike (c .out) (p .out) in
-          let met′ = needs-alike (form (command-at s i)) (command-at s i) DONE lent p same met in
-          let d = does-some (form (command-at s i)) (command-at s i) k p g met′ in
-          let x = c .keeps .when-done done in
-          record {
-            spans = spans;
-            read = x .bytes-read;
-            met = met′;
-            w = d .0;
-            q = d .1 .0;
-            does = d .1 .1;
-            both = beside (command-at s i) lent p same (other-fine (c .out) l f) g (c .room) met met′ k (a .two) (d .0) m (d .1 .0) (x .done) (d .1 .1);
-          }
+  follows i l a m c done p k alike f g =
+      let lent : Lent = with-out (c .out) l in
+      let met = call-met i l a m c f done in
+      let same : Alike lent p = bytes-alike l p alike (c .out) (p .out) in
+      let met′ = needs-alike (rest s i) DONE lent p same met in
+      let d = does-some (read-at s i) k p g (text-met (rest s i) p met′ .1) in
+      let x = c .keeps .when-done done in
+      record {
+        read = x .bytes-read;
+        met = met′;
+        w = d .0;
+        q = d .1 .0;
+        does = d .1 .1;
+        both = beside (rest s i) lent p same (other-fine (c .out) l f) g (c .room) met met′ k (a .two) (d .0) m (d .1 .0) (x .done) (d .1 .1);
+      }
 
   -- What a caller prints is what the script prints, from any place on, into any bytes that have room for it and for one command more.
   pub goes-plays :
@@ -151,20 +140,12 @@ module _ (s : List ℕ) where
       subst (λ (x : List ℕ). Plays s i p k DONE (k + 0) x) (sym (over-none (p .out) k))
       (subst (λ (x : ℕ). Plays s i p k DONE x (p .out)) (omega arith) (Plays.at-end i p k over-here))
   goes-plays i l g b (GoesBy.refused _ _ a m c refuses) p k alike f h room =
-      tell (judged (rest s i) (with-out (c .out) l) (other-fine (c .out) l f) (c .room) (a .number) (c .keeps .first-unmet))
-    where
-      tell :
-          Judged (rest s i) (with-out (c .out) l) (other-fine (c .out) l f) (c .room) (a .number) →
-          Plays s i p k (a .number) (k + length (error-line (a .number))) (over (p .out) k (error-line (a .number)))
-      tell (inl (syntax, none)) =
-          subst (λ (n : ℕ). Plays s i p k n (k + length (error-line n)) (over (p .out) k (error-line n))) (sym syntax) (Plays.no-command i p k (c .some) (omega (arith, room)) none)
-      tell (inr (spans, unmet)) =
-          Plays.refused i p k (a .number) (c .some) (omega (arith, room)) spans
-          (needs-alike (form (command-at s i)) (command-at s i) (a .number) (with-out (c .out) l) p (bytes-alike l p alike (c .out) (p .out)) unmet) refuses
+      Plays.refused i p k (a .number) (c .some) (omega (arith, room))
+      (needs-alike (rest s i) (a .number) (with-out (c .out) l) p (bytes-alike l p alike (c .out) (p .out)) (call-judged i l a m c f)) refuses
   goes-plays i l g b (GoesBy.exited _ _ a m c done exit) p k alike f h room =
       let x = follows i l a m c done p k alike f h in
       subst (λ (n : ℕ). Plays s i p k DONE (k + n) (over (p .out) k (take (a .two) (m .out)))) (x .both .as-many)
-      (subst (Plays s i p k DONE (k + x .w)) (x .both .there) (Plays.exited i p (x .q) k (x .w) (c .some) (omega (arith, room)) (x .spans) (x .met) (x .does) exit))
+      (subst (Plays s i p k DONE (k + x .w)) (x .both .there) (Plays.exited i p (x .q) k (x .w) (c .some) (omega (arith, room)) (x .met) (x .does) exit))
   goes-plays i l g b (GoesBy.goes-on _ _ a m c done stays _ b₁ on) p k alike f h room =
       let x = follows i l a m c done p k alike f h in
       let b₀ = take (a .two) (m .out) in
@@ -177,7 +158,7 @@ module _ (s : List ℕ) where
       subst (λ (n : ℕ). Plays s (token-at s i .from + n) (x .q) (k + x .w) g (k + x .w + length b₁) (over (x .q .out) (k + x .w) b₁)) (x .read) then in
       subst (λ (n : ℕ). Plays s i p k g n (over (p .out) k (b₀ ++ b₁))) many
       (subst (Plays s i p k g (k + x .w + length b₁)) end
-      (Plays.goes-on i p (x .q) k (x .w) g (k + x .w + length b₁) (over (x .q .out) (k + x .w) b₁) (c .some) (omega (arith, room, many)) (x .spans) (x .met) (x .does) stays there))
+      (Plays.goes-on i p (x .q) k (x .w) g (k + x .w + length b₁) (over (x .q .out) (k + x .w) b₁) (c .some) (omega (arith, room, many)) (x .met) (x .does) stays there))
 
   -- ---- from the script to the calls
 
@@ -202,7 +183,9 @@ module _ (s : List ℕ) where
       First (command-meaning (rest s i) (with-out lent-bytes l) .asks) g → Called i l k g (k + length (error-line g)) before (over before k (error-line g))
   refused-called i l k g before f some refuses clear first = record {
     bytes = error-line g;
-    goes = GoesBy.refused i l (bare g) lent (record { some = some; out = lent-bytes; room = enough; keeps = obeys-refused (command-meaning (rest s i) lent) lent g refuses clear first }) refuses;
+    goes =
+        GoesBy.refused i l (bare g) lent
+        (record { some = some; out = lent-bytes; room = enough; keeps = obeys-refused (command-meaning (rest s i) lent) lent g refuses clear first }) refuses;
     long = refl;
     there = refl;
   }
@@ -220,14 +203,14 @@ module _ (s : List ℕ) where
     both : Beside k (answer .two) w p after q
 
   calls-too :
-      (i : ℕ) (l p : Lent) (k w : ℕ) (q : Lent) → Alike l p → Fine l → Fine p → (token-at s i .kind ≡ END → ⊥) → 1 ≤ span (rest s i) →
-      First (command-needs (form (command-at s i)) (command-at s i) p) DONE → Does (form (command-at s i)) (command-at s i) k p w q → Calls i l p k w q
-  calls-too i l p k w q alike f g some spans met does =
+      (i : ℕ) (l p : Lent) (k w : ℕ) (q : Lent) → Alike l p → Fine l → Fine p → (token-at s i .kind ≡ END → ⊥) → First (text-needs (rest s i) p) DONE → Does (read-at s i) k p w q →
+      Calls i l p k w q
+  calls-too i l p k w q alike f g some met does =
       let lent : Lent = with-out lent-bytes l in
       let fine : Fine lent = other-fine lent-bytes l f in
       let same : Alike lent p = bytes-alike l p alike lent-bytes (p .out) in
-      let met′ = needs-alike (form (command-at s i)) (command-at s i) DONE p lent (alike-back lent p same) met in
-      let x = command-met (rest s i) lent (script-room (rest s i) lent fine enough) (fine .sound) spans met′ in
+      let met′ = needs-alike (rest s i) DONE p lent (alike-back lent p same) met in
+      let x = command-met (rest s i) lent (script-room (rest s i) lent fine enough) (fine .sound) met′ in
       let done = x .keeps .when-done (x .number-is) in
       record {
         answer = x .answer;
@@ -235,7 +218,7 @@ module _ (s : List ℕ) where
         calls = record { some = some; out = lent-bytes; room = enough; keeps = x .keeps };
         done = x .number-is;
         read = done .bytes-read;
-        both = beside (command-at s i) lent p same fine g enough met′ met k (x .answer .two) w (x .after) q (done .done) does;
+        both = beside (rest s i) lent p same fine g enough met′ met k (x .answer .two) w (x .after) q (done .done) does;
       }
 
   -- What a script writes that does not end for want of bytes, a caller prints.
@@ -244,24 +227,21 @@ module _ (s : List ℕ) where
   plays-goes i p k g w out (Plays.at-end _ _ _ over-here) other l alike f h =
       record { bytes = []; goes = GoesBy.at-end i l over-here; long = omega arith; there = sym (over-none (p .out) k) }
   plays-goes i p k g w out (Plays.no-room _ _ _ some full) other l alike f h = absurd (other refl)
-  plays-goes i p k g w out (Plays.no-command _ _ _ some room none) other l alike f h =
-      refused-called i l k SYNTAX (p .out) f some (λ e. omega (arith, e)) (λ e. omega (arith, e))
-      (asked-for (rest s i) (with-out lent-bytes l) (other-fine lent-bytes l f) enough SYNTAX (inl (refl, none)))
-  plays-goes i p k g w out (Plays.refused _ _ _ _ some room spans unmet refuses) other l alike f h =
-      let same : Alike p (with-out lent-bytes l) = alike-back (with-out lent-bytes l) p (bytes-alike l p alike lent-bytes (p .out)) in
-      let unmet′ = needs-alike (form (command-at s i)) (command-at s i) g p (with-out lent-bytes l) same unmet in
-      refused-called i l k g (p .out) f some refuses (never-conflict (form (command-at s i)) (command-at s i) p g unmet)
-      (asked-for (rest s i) (with-out lent-bytes l) (other-fine lent-bytes l f) enough g (inr (spans, unmet′)))
-  plays-goes i p k g w out (Plays.exited _ _ q _ v some room spans met does exit) other l alike f h =
-      let x = calls-too i l p k v q alike f h some spans met does in
+  plays-goes i p k g w out (Plays.refused _ _ _ _ some room unmet refuses) other l alike f h =
+      let lent : Lent = with-out lent-bytes l in
+      let same : Alike p lent = alike-back lent p (bytes-alike l p alike lent-bytes (p .out)) in
+      refused-called i l k g (p .out) f some refuses (never-conflict (rest s i) p g unmet)
+      (asked-for (rest s i) lent (other-fine lent-bytes l f) enough g (needs-alike (rest s i) g p lent same unmet))
+  plays-goes i p k g w out (Plays.exited _ _ q _ v some room met does exit) other l alike f h =
+      let x = calls-too i l p k v q alike f h some met does in
       record {
         bytes = take (x .answer .two) (x .after .out);
         goes = GoesBy.exited i l (x .answer) (x .after) (x .calls) (x .done) exit;
         long = ap (λ (n : ℕ). k + n) (x .both .as-many);
         there = x .both .there;
       }
-  plays-goes i p k g w out (Plays.goes-on _ _ q _ v _ _ _ some room spans met does stays onward) other l alike f h =
-      let x = calls-too i l p k v q alike f h some spans met does in
+  plays-goes i p k g w out (Plays.goes-on _ _ q _ v _ _ _ some room met does stays onward) other l alike f h =
+      let x = calls-too i l p k v q alike f h some met does in
       let b₀ = take (x .answer .two) (x .after .out) in
       let y = plays-goes (after-command s i) q (k + v) g w out onward other (x .after) (x .both .left-alike) (x .both .call-fine) (x .both .play-fine) in
       record {
@@ -283,11 +263,13 @@ caller-apart s l g b x = goes-apart s 0 (x .after) g b (x .goes) (fresh-fine (x 
 
 -- **What a caller prints, and the number he ends with, are those of the whole script**, for a script of at most TEXT bytes and where there are bytes enough.
 pub calls-run :
-    (s : List ℕ) (l : Lent) (g : ℕ) (b : List ℕ) → RunsByCalls s l g b → length s ≤ TEXT → (out : List ℕ) → length b + ROOM ≤ length out → RunsScript s out g (length b) (over out 0 b)
+    (s : List ℕ) (l : Lent) (g : ℕ) (b : List ℕ) → RunsByCalls s l g b → length s ≤ TEXT → (out : List ℕ) → length b + ROOM ≤ length out →
+    RunsScript s out g (length b) (over out 0 b)
 calls-run s l g b x fits out room =
     let fresh = start-fresh l (x .answer) (x .after) (x .started) (x .accepted) in
     let plays : Plays s 0 (blank out) 0 g (0 + length b) (over out 0 b) =
-    goes-plays s 0 (x .after) g b (x .goes) (blank out) 0 (fresh-alike (x .after) (blank out) fresh (blank-fresh out)) (fresh-fine (x .after) fresh) (fresh-fine (blank out) (blank-fresh out)) (omega (arith, room)) in
+    goes-plays s 0 (x .after) g b (x .goes) (blank out) 0 (fresh-alike (x .after) (blank out) fresh (blank-fresh out)) (fresh-fine (x .after) fresh)
+    (fresh-fine (blank out) (blank-fresh out)) (omega (arith, room)) in
     record {
       too-long = λ long. absurd (omega (arith, long, fits));
       too-long-short = λ long. absurd (omega (arith, long, fits));
@@ -301,8 +283,14 @@ pub run-called :
 run-called s out g w end x fits other l room =
     let y = start-met l room in
     let fresh = start-fresh l (y .answer) (y .after) (y .keeps) (y .number-is) in
-    let z = plays-goes s 0 (blank out) 0 g w end (x .played fits) other (y .after) (fresh-alike (y .after) (blank out) fresh (blank-fresh out)) (fresh-fine (y .after) fresh) (fresh-fine (blank out) (blank-fresh out)) in
-    (z .bytes, (record { answer = y .answer; after = y .after; started = y .keeps; accepted = y .number-is; goes = z .goes }, (z .long ∙ nothing-before (length (z .bytes)), z .there)))
+    let z = plays-goes s 0 (blank out) 0 g w end (x .played fits) other (y .after) (fresh-alike (y .after) (blank out) fresh (blank-fresh out)) (fresh-fine (y .after) fresh)
+    (fresh-fine (blank out) (blank-fresh out)) in (
+      z .bytes,
+      (
+        record { answer = y .answer; after = y .after; started = y .keeps; accepted = y .number-is; goes = z .goes },
+        (z .long ∙ nothing-before (length (z .bytes)), z .there),
+      ),
+    )
   where
     nothing-before : (n : ℕ) → 0 + n ≡ n
     nothing-before n = omega arith
@@ -312,9 +300,11 @@ pub callers-same : (s : List ℕ) (l m : Lent) (g h : ℕ) (b d : List ℕ) → 
 callers-same s l m g h b d x y fits =
     let out : List ℕ = replicate (length b + length d + ROOM) 0 in
     let long : length out ≡ length b + length d + ROOM = length-replicate {A = ℕ} (length b + length d + ROOM) 0 in
-    let same = runs-same s out g h (length b) (length d) (over out 0 b) (over out 0 d) (calls-run s l g b x fits out (omega (arith, long))) (calls-run s m h d y fits out (omega (arith, long))) in (
+    let same = runs-same s out g h (length b) (length d) (over out 0 b) (over out 0 d) (calls-run s l g b x fits out (omega (arith, long)))
+    (calls-run s m h d y fits out (omega (arith, long))) in (
       same .0,
-      sym (part-written out 0 b (omega (arith, long))) ∙ ap (λ (n : ℕ). take n (over out 0 b)) (same .1 .0) ∙ ap (take (length d)) (same .1 .1) ∙ part-written out 0 d (omega (arith, long)),
+      sym (part-written out 0 b (omega (arith, long))) ∙ ap (λ (n : ℕ). take n (over out 0 b)) (same .1 .0) ∙ ap (take (length d)) (same .1 .1)
+          ∙ part-written out 0 d (omega (arith, long)),
     )
 
 -- **A caller and the whole script**: the same number, and the bytes that the caller prints are all that the script has written, where there are bytes enough.

@@ -1,7 +1,6 @@
 -- **The calls of the library**: from a start on, what is asserted after each command, and that its answer is the one that the text of all commands so far asks for.
 use Prim.Native.Nat.{ℕ}
 use native.Mathlib.Omega.{arith}
-use native.Mathlib.Decide.{ℕ-discrete}
 use mathlib.Core.Path.{_≡_, refl, sym, _∙_, ap, subst}
 use mathlib.Core.List.{List}
 use lib.ListN.{length}
@@ -9,15 +8,15 @@ use Rattle.meaning.specs.Bounds.{STEPS, RULES, WATCHED, DONE}
 use Rattle.meaning.specs.Tables.{Tables, ColumnsRoom, at, steps-alone, last-now}
 use Rattle.meaning.proofs.LastDay.{largest-zeros}
 use Rattle.meaning.specs.Promise.{Given, First, Obeys}
-use Rattle.form.specs.Form.{form}
+use Rattle.reading.specs.Reading.{reading}
 use Rattle.script_meaning.specs.Record.{Lent, StartRoom}
-use Rattle.script_meaning.specs.Commands.{own, Started, start-meaning, command-meaning}
-use Rattle.script_meaning.specs.Traces.{History, nothing-asserted, Follows, Traced}
+use Rattle.script_meaning.specs.Commands.{Started, start-meaning, command-meaning}
+use Rattle.script_meaning.specs.Traces.{History, nothing-asserted, follows, Traced}
 use Rattle.script_meaning.specs.Told.{Answered}
 use Rattle.script_meaning.specs.Whole.{Fresh}
 use Rattle.script_meaning.proofs.Granted.{start-granted, granted}
 use Rattle.script_meaning.proofs.Tracing.{traced-in-force}
-use Rattle.script_meaning.proofs.Answering.{command-answered, goes-on-traced}
+use Rattle.script_meaning.proofs.Answering.{command-answered}
 
 -- A start that is carried out leaves what is fresh.
 pub start-fresh : (l : Lent) (g : Given) (after : Lent) → Obeys (start-meaning l) l g after → g .number ≡ DONE → Fresh after
@@ -41,7 +40,9 @@ start-fresh l g after x done = fresh
         names-room = omega (arith, ap length (started .names-stay), room .names-room);
         lens-room = omega (arith, ap length (started .lens-stay), room .lens-room);
       };
-      counts-are = ap (λ t. t .counts) (started .opened .emptied) ∙ ap (λ (k : ℕ). last-now k (steps-alone STEPS)) (largest-zeros STEPS (at (after .tables .days)) (started .opened .day-0));
+      counts-are =
+          ap (λ t. t .counts) (started .opened .emptied)
+          ∙ ap (λ (k : ℕ). last-now k (steps-alone STEPS)) (largest-zeros STEPS (at (after .tables .days)) (started .opened .day-0));
       notes-are = started .emptied;
       day-0 = started .opened .day-0;
       all-free = started .opened .all-free;
@@ -54,21 +55,16 @@ start-traced l g after x done = Traced.fresh after (start-fresh l g after x done
 -- **A command call** goes on with a trace: carried out, by what its text says; refused, with what was asserted before.
 pub call-traced :
     (text : List ℕ) (l : Lent) (h : History) (g : Given) (after : Lent) → Traced l h → Obeys (command-meaning text l) l g after →
-    (j : History) × (Traced after j × ((g .number ≡ DONE → Follows (form (own text)) (own text) h j) × ((g .number ≡ DONE → ⊥) → j ≡ h)))
-call-traced text l h g after t x = tell (ℕ-discrete (g .number) DONE)
-  where
-    tell : Dec (g .number ≡ DONE) → (j : History) × (Traced after j × ((g .number ≡ DONE → Follows (form (own text)) (own text) h j) × ((g .number ≡ DONE → ⊥) → j ≡ h)))
-    tell (yes done) =
-        let r = granted text l (subst (First (command-meaning text l .asks)) done (x .first-unmet)) in
-        let next = goes-on-traced text 0 (g .two) l after h t (r .spans) (r .met) (x .when-done done .done) in
-        (next .0, (next .1 .1, ((λ e. next .1 .0), (λ refused. absurd (refused done)))))
-    tell (no refused) =
-        (h, (subst (λ (m : Lent). Traced m h) (sym (x .when-refused refused (λ e. x .on-conflict e .0) .1)) t, ((λ e. absurd (refused e)), (λ e. refl))))
+    (g .number ≡ DONE → Traced after (follows (reading text) h)) × ((g .number ≡ DONE → ⊥) → Traced after h)
+call-traced text l h g after t x = (
+  (λ done. Traced.carried-out l h t text 0 (g .two) after (granted text l (subst (First (command-meaning text l .asks)) done (x .first-unmet)) .met) (x .when-done done .done)),
+  (λ refused. subst (λ (m : Lent). Traced m h) (sym (x .when-refused refused (λ e. x .on-conflict e .0) .1)) t),
+)
 
 -- **Its answer** is the one that the text of all commands so far asks for: `sat` exactly when what is asserted is satisfiable, the earliest plan of what is asserted.
 pub call-answered :
     (text : List ℕ) (l : Lent) (h : History) (g : Given) (after : Lent) → Traced l h → Obeys (command-meaning text l) l g after → g .number ≡ DONE →
-    Answered (form (own text)) (own text) h 0 (g .two) (after .out)
+    Answered (reading text) h 0 (g .two) (after .out)
 call-answered text l h g after t x done =
     let r = granted text l (subst (First (command-meaning text l .asks)) done (x .first-unmet)) in
-    command-answered l h (traced-in-force l h t) (own text) 0 (g .two) after (after .out) (r .met) (x .when-done done .done) (r .room .out-room) refl
+    command-answered l h (traced-in-force l h t) text 0 (g .two) after (after .out) (r .met) (x .when-done done .done) (r .room .out-room) refl

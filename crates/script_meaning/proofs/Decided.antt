@@ -1,9 +1,9 @@
--- What start and command ask of their inputs can be told: whether the tables have room and are sound, whether the names are in form and all different, and each need of a command.
+-- What start and command ask of their inputs can be told: whether the tables have room and are sound, whether the names are in form and all different, and each need of a text.
 use Prim.Native.Nat.{ℕ, _+_, _*_, _≤_, _<_}
 use native.Mathlib.Decide.{ℕ-discrete, decLe, decLt}
 use mathlib.Core.Path.{_≡_, refl, ap, sym, _∙_}
 use mathlib.Core.Bool.{true, false, Bool-discrete}
-use mathlib.Core.List.{List, [], _∷_}
+use mathlib.Core.List.{List, [], _∷_, _++_}
 use mathlib.Core.Logic.{inl, inr}
 use lib.ListN.{length}
 use Rattle.meaning.specs.Bounds.{STEPS, RULES, MARKS, NAME-BYTES, ROOM, DONE}
@@ -12,16 +12,16 @@ use Rattle.meaning.specs.Promise.{Need, First}
 use Rattle.meaning.proofs.Below.{both?, not?, leads?, in-words?, all-below?}
 use Rattle.meaning.proofs.Decided.{in-amount?, room?, sound?}
 use Rattle.text.specs.declared.Tok.{Tok}
-use Rattle.text.specs.Lexicon.{SYMBOL, tok, token-at, bytes, same-bytes}
+use Rattle.text.specs.Lexicon.{SYMBOL, tok, token-at, same-bytes}
 use Rattle.text.proofs.Equal.{same-equal, equal-same}
 use Rattle.words.specs.Words.{reserved}
-use Rattle.form.specs.declared.Command.{Command}
-use Rattle.form.specs.declared.Command.the-variants.{SetLogic, Declare, Assert, Push, Pop, CheckSat, GetValue, Exit, Unsupported, Syntax, Oversize}
-use Rattle.atoms.specs.Atoms.{Named, rules-at}
+use Rattle.span.specs.Span.{span}
+use Rattle.reading.specs.Tree.{Piece, said-by, Named, rules-of-term, Command}
+use Rattle.reading.specs.Reading.{Why, Read, reading}
+use Rattle.reading.specs.Saying.{term-needs, name-needs, said-needs}
 use Rattle.names.specs.Names.{AllDifferent}
 use Rattle.script_meaning.specs.Record.{Lent, StartRoom, ScriptRoom, InForm, ScriptSound, Known, name-of, step-of}
-use Rattle.script_meaning.specs.Effect.{asked}
-use Rattle.script_meaning.specs.Commands.{term-needs, name-needs, command-needs}
+use Rattle.script_meaning.specs.Commands.{mode-needs, room-needs, command-needs, read-needs, text-needs}
 
 -- ---- room
 
@@ -95,26 +95,57 @@ first-told (n ∷ l) (yes met, told) = let rest = first-told l told in (rest .0,
 known? : (l : Lent) (w : List ℕ) → Dec (Known l w)
 known? l w = decLt (step-of l w) (l .notes .names)
 
-rules-told : (l : Lent) (rs : List Named) (rest : List Need) → Told rest → Told (term-needs (Known l) rs rest)
-rules-told l [] rest told = told
-rules-told l (r ∷ rs) rest told = (known? l (r .first), (known? l (r .second), (in-amount? (r .amount), rules-told l rs rest told)))
+rules-told : (l : Lent) (rs : List Named) → Told (term-needs (Known l) rs)
+rules-told l [] = tt
+rules-told l (r ∷ rs) = (known? l (r .first), (known? l (r .second), (in-amount? (r .amount), rules-told l rs)))
 
-names-told : (l : Lent) (ws : List (List ℕ)) → Told (name-needs (Known l) ws)
+names-told : (l : Lent) (ws : List Piece) → Told (name-needs (Known l) ws)
 names-told l [] = tt
-names-told l (w ∷ ws) = (known? l w, names-told l ws)
+names-told l (w ∷ ws) = (known? l (w .letters), names-told l ws)
 
-pub command-told : (c : Command) (s : List ℕ) (l : Lent) → Told (command-needs c s l)
-command-told SetLogic s l = (Bool-discrete (l .notes .logic) false, tt)
-command-told (Declare a b) s l = (Bool-discrete (l .notes .logic) true, (not? (known? l (bytes s a b)), (decLt (l .notes .names) STEPS, tt)))
-command-told (Assert i) s l = (
-  Bool-discrete (l .notes .logic) true,
-  rules-told l (rules-at s i) _ (leads? (ℕ-discrete (l .notes .broken) 0) (decLe (l .tables .counts .rules + length (rules-at s i)) RULES), tt),
-)
-command-told (Push n) s l = (Bool-discrete (l .notes .logic) true, (decLe (l .tables .counts .marks + n) MARKS, tt))
-command-told (Pop n) s l = (Bool-discrete (l .notes .logic) true, (decLe n (l .tables .counts .marks), tt))
-command-told CheckSat s l = (Bool-discrete (l .notes .logic) true, tt)
-command-told (GetValue i) s l = (Bool-discrete (l .notes .logic) true, (Bool-discrete (l .notes .sat) true, names-told l (asked s i)))
-command-told Exit s l = tt
-command-told Unsupported s l = tt
-command-told Syntax s l = (no (λ never. never), tt)
-command-told Oversize s l = (no (λ never. never), tt)
+both-told : (a b : List Need) → Told a → Told b → Told (a ++ b)
+both-told [] b x y = y
+both-told (n ∷ a) b (here, x) y = (here, both-told a b x y)
+
+mode-told : (c : Command) (l : Lent) → Told (mode-needs c l)
+mode-told Command.set-logic l = (Bool-discrete (l .notes .logic) false, tt)
+mode-told Command.check-sat l = (Bool-discrete (l .notes .logic) true, tt)
+mode-told Command.exit l = tt
+mode-told (Command.declare w) l = (Bool-discrete (l .notes .logic) true, tt)
+mode-told (Command.assert t) l = (Bool-discrete (l .notes .logic) true, tt)
+mode-told (Command.push n) l = (Bool-discrete (l .notes .logic) true, tt)
+mode-told (Command.pop n) l = (Bool-discrete (l .notes .logic) true, tt)
+mode-told (Command.get-value ws) l = (Bool-discrete (l .notes .logic) true, (Bool-discrete (l .notes .sat) true, tt))
+
+said-told : (c : Command) (l : Lent) → Told (said-needs (Known l) c)
+said-told Command.set-logic l = tt
+said-told Command.check-sat l = tt
+said-told Command.exit l = tt
+said-told (Command.declare w) l = (not? (known? l (w .letters)), tt)
+said-told (Command.assert t) l = rules-told l (rules-of-term false t)
+said-told (Command.push n) l = tt
+said-told (Command.pop n) l = tt
+said-told (Command.get-value ws) l = names-told l ws
+
+room-told : (c : Command) (l : Lent) → Told (room-needs c l)
+room-told Command.set-logic l = tt
+room-told Command.check-sat l = tt
+room-told Command.exit l = tt
+room-told (Command.declare w) l = (decLt (l .notes .names) STEPS, tt)
+room-told (Command.assert t) l = (leads? (ℕ-discrete (l .notes .broken) 0) (decLe (l .tables .counts .rules + length (rules-of-term false t)) RULES), tt)
+room-told (Command.push n) l = (decLe (l .tables .counts .marks + said-by n) MARKS, tt)
+room-told (Command.pop n) l = (decLe (said-by n) (l .tables .counts .marks), tt)
+room-told (Command.get-value ws) l = tt
+
+pub command-told : (c : Command) (l : Lent) → Told (command-needs c l)
+command-told c l =
+    both-told (mode-needs c l) (said-needs (Known l) c ++ room-needs c l) (mode-told c l) (both-told (said-needs (Known l) c) (room-needs c l) (said-told c l) (room-told c l))
+
+read-told : (r : Read Command) (l : Lent) → Told (read-needs r l)
+read-told (Read.got c e) l = command-told c l
+read-told (Read.stop Why.other i) l = tt
+read-told (Read.stop Why.wrong i) l = (no (λ never. never), tt)
+read-told (Read.stop Why.size i) l = (no (λ never. never), tt)
+
+pub text-told : (text : List ℕ) (l : Lent) → Told (text-needs text l)
+text-told text l = (decLe 1 (span text), read-told (reading text) l)

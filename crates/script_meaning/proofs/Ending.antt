@@ -8,11 +8,10 @@ use mathlib.Core.List.{List}
 use lib.ListN.{length}
 use Rattle.meaning.specs.Bounds.{ROOM, TEXT, DONE, SIZE}
 use Rattle.meaning.proofs.Needs.{first-same}
-use Rattle.form.specs.Form.{form}
 use Rattle.write.specs.Written.{over}
 use Rattle.script_meaning.specs.Record.{Lent}
-use Rattle.script_meaning.specs.Commands.{command-needs}
-use Rattle.script_meaning.specs.Whole.{error-line, command-at, after-command, Plays, blank, RunsScript}
+use Rattle.script_meaning.specs.Commands.{text-needs}
+use Rattle.script_meaning.specs.Whole.{error-line, rest, read-at, after-command, Plays, blank, RunsScript}
 use Rattle.script_meaning.proofs.Fixing.{does-same}
 
 -- The same number, as many bytes written, and the same bytes left.
@@ -20,7 +19,8 @@ abbrev pub SameEnd : (g h v w : ℕ) → (out end : List ℕ) → Type 0
 SameEnd g h v w out end = (g ≡ h) × ((v ≡ w) × (out ≡ end))
 
 -- Two refusals with the same number.
-refused-same : (k : ℕ) (l : Lent) (g h : ℕ) → g ≡ h → SameEnd g h (k + length (error-line g)) (k + length (error-line h)) (over (l .out) k (error-line g)) (over (l .out) k (error-line h))
+refused-same :
+    (k : ℕ) (l : Lent) (g h : ℕ) → g ≡ h → SameEnd g h (k + length (error-line g)) (k + length (error-line h)) (over (l .out) k (error-line g)) (over (l .out) k (error-line h))
 refused-same k l g h e = (e, (ap (λ (x : ℕ). k + length (error-line x)) e, ap (λ (x : ℕ). over (l .out) k (error-line x)) e))
 
 -- From one place on, with the same lent, a script ends in one way only.
@@ -28,43 +28,39 @@ pub plays-same :
     (s : List ℕ) (i : ℕ) (l : Lent) (k g v : ℕ) (out : List ℕ) → Plays s i l k g v out → (h w : ℕ) (end : List ℕ) → Plays s i l k h w end → SameEnd g h v w out end
 plays-same s i l k g v out (Plays.at-end _ _ _ over) h w end (Plays.at-end _ _ _ over′) = (refl, (refl, refl))
 plays-same s i l k g v out (Plays.at-end _ _ _ over) h w end (Plays.no-room _ _ _ some′ full′) = absurd (some′ over)
-plays-same s i l k g v out (Plays.at-end _ _ _ over) h w end (Plays.no-command _ _ _ some′ room′ none′) = absurd (some′ over)
-plays-same s i l k g v out (Plays.at-end _ _ _ over) h w end (Plays.refused _ _ _ f′ some′ room′ spans′ unmet′ refuses′) = absurd (some′ over)
-plays-same s i l k g v out (Plays.at-end _ _ _ over) h w end (Plays.exited _ _ m′ _ n′ some′ room′ spans′ met′ does′ exit′) = absurd (some′ over)
-plays-same s i l k g v out (Plays.at-end _ _ _ over) h w end (Plays.goes-on _ _ m′ _ n′ _ _ _ some′ room′ spans′ met′ does′ stays′ onward′) = absurd (some′ over)
+plays-same s i l k g v out (Plays.at-end _ _ _ over) h w end (Plays.refused _ _ _ f′ some′ room′ unmet′ refuses′) = absurd (some′ over)
+plays-same s i l k g v out (Plays.at-end _ _ _ over) h w end (Plays.exited _ _ m′ _ n′ some′ room′ met′ does′ exit′) = absurd (some′ over)
+plays-same s i l k g v out (Plays.at-end _ _ _ over) h w end (Plays.goes-on _ _ m′ _ n′ _ _ _ some′ room′ met′ does′ stays′ onward′) = absurd (some′ over)
 plays-same s i l k g v out (Plays.no-room _ _ _ some full) h w end (Plays.at-end _ _ _ over′) = absurd (some over′)
 plays-same s i l k g v out (Plays.no-room _ _ _ some full) h w end (Plays.no-room _ _ _ some′ full′) = (refl, (refl, refl))
-plays-same s i l k g v out (Plays.no-room _ _ _ some full) h w end (Plays.no-command _ _ _ some′ room′ none′) = absurd (omega (arith, full, room′))
-plays-same s i l k g v out (Plays.no-room _ _ _ some full) h w end (Plays.refused _ _ _ f′ some′ room′ spans′ unmet′ refuses′) = absurd (omega (arith, full, room′))
-plays-same s i l k g v out (Plays.no-room _ _ _ some full) h w end (Plays.exited _ _ m′ _ n′ some′ room′ spans′ met′ does′ exit′) = absurd (omega (arith, full, room′))
-plays-same s i l k g v out (Plays.no-room _ _ _ some full) h w end (Plays.goes-on _ _ m′ _ n′ _ _ _ some′ room′ spans′ met′ does′ stays′ onward′) = absurd (omega (arith, full, room′))
-plays-same s i l k g v out (Plays.no-command _ _ _ some room none) h w end (Plays.at-end _ _ _ over′) = absurd (some over′)
-plays-same s i l k g v out (Plays.no-command _ _ _ some room none) h w end (Plays.no-room _ _ _ some′ full′) = absurd (omega (arith, full′, room))
-plays-same s i l k g v out (Plays.no-command _ _ _ some room none) h w end (Plays.no-command _ _ _ some′ room′ none′) = (refl, (refl, refl))
-plays-same s i l k g v out (Plays.no-command _ _ _ some room none) h w end (Plays.refused _ _ _ f′ some′ room′ spans′ unmet′ refuses′) = absurd (omega (arith, none, spans′))
-plays-same s i l k g v out (Plays.no-command _ _ _ some room none) h w end (Plays.exited _ _ m′ _ n′ some′ room′ spans′ met′ does′ exit′) = absurd (omega (arith, none, spans′))
-plays-same s i l k g v out (Plays.no-command _ _ _ some room none) h w end (Plays.goes-on _ _ m′ _ n′ _ _ _ some′ room′ spans′ met′ does′ stays′ onward′) = absurd (omega (arith, none, spans′))
-plays-same s i l k g v out (Plays.refused _ _ _ f some room spans unmet refuses) h w end (Plays.at-end _ _ _ over′) = absurd (some over′)
-plays-same s i l k g v out (Plays.refused _ _ _ f some room spans unmet refuses) h w end (Plays.no-room _ _ _ some′ full′) = absurd (omega (arith, full′, room))
-plays-same s i l k g v out (Plays.refused _ _ _ f some room spans unmet refuses) h w end (Plays.no-command _ _ _ some′ room′ none′) = absurd (omega (arith, none′, spans))
-plays-same s i l k g v out (Plays.refused _ _ _ f some room spans unmet refuses) h w end (Plays.refused _ _ _ f′ some′ room′ spans′ unmet′ refuses′) = refused-same k l g h (first-same (command-needs (form (command-at s i)) (command-at s i) l) g h unmet unmet′)
-plays-same s i l k g v out (Plays.refused _ _ _ f some room spans unmet refuses) h w end (Plays.exited _ _ m′ _ n′ some′ room′ spans′ met′ does′ exit′) = absurd (refuses (first-same (command-needs (form (command-at s i)) (command-at s i) l) g DONE unmet met′))
-plays-same s i l k g v out (Plays.refused _ _ _ f some room spans unmet refuses) h w end (Plays.goes-on _ _ m′ _ n′ _ _ _ some′ room′ spans′ met′ does′ stays′ onward′) = absurd (refuses (first-same (command-needs (form (command-at s i)) (command-at s i) l) g DONE unmet met′))
-plays-same s i l k g v out (Plays.exited _ _ m _ n some room spans met does exit) h w end (Plays.at-end _ _ _ over′) = absurd (some over′)
-plays-same s i l k g v out (Plays.exited _ _ m _ n some room spans met does exit) h w end (Plays.no-room _ _ _ some′ full′) = absurd (omega (arith, full′, room))
-plays-same s i l k g v out (Plays.exited _ _ m _ n some room spans met does exit) h w end (Plays.no-command _ _ _ some′ room′ none′) = absurd (omega (arith, none′, spans))
-plays-same s i l k g v out (Plays.exited _ _ m _ n some room spans met does exit) h w end (Plays.refused _ _ _ f′ some′ room′ spans′ unmet′ refuses′) = absurd (refuses′ (first-same (command-needs (form (command-at s i)) (command-at s i) l) h DONE unmet′ met))
-plays-same s i l k g v out (Plays.exited _ _ m _ n some room spans met does exit) h w end (Plays.exited _ _ m′ _ n′ some′ room′ spans′ met′ does′ exit′) =
-    let same = does-same (form (command-at s i)) (command-at s i) k l n n′ m m′ does does′ in
+plays-same s i l k g v out (Plays.no-room _ _ _ some full) h w end (Plays.refused _ _ _ f′ some′ room′ unmet′ refuses′) = absurd (omega (arith, full, room′))
+plays-same s i l k g v out (Plays.no-room _ _ _ some full) h w end (Plays.exited _ _ m′ _ n′ some′ room′ met′ does′ exit′) = absurd (omega (arith, full, room′))
+plays-same s i l k g v out (Plays.no-room _ _ _ some full) h w end (Plays.goes-on _ _ m′ _ n′ _ _ _ some′ room′ met′ does′ stays′ onward′) = absurd (omega (arith, full, room′))
+plays-same s i l k g v out (Plays.refused _ _ _ f some room unmet refuses) h w end (Plays.at-end _ _ _ over′) = absurd (some over′)
+plays-same s i l k g v out (Plays.refused _ _ _ f some room unmet refuses) h w end (Plays.no-room _ _ _ some′ full′) = absurd (omega (arith, full′, room))
+plays-same s i l k g v out (Plays.refused _ _ _ f some room unmet refuses) h w end (Plays.refused _ _ _ f′ some′ room′ unmet′ refuses′) =
+    refused-same k l g h (first-same (text-needs (rest s i) l) g h unmet unmet′)
+plays-same s i l k g v out (Plays.refused _ _ _ f some room unmet refuses) h w end (Plays.exited _ _ m′ _ n′ some′ room′ met′ does′ exit′) =
+    absurd (refuses (first-same (text-needs (rest s i) l) g DONE unmet met′))
+plays-same s i l k g v out (Plays.refused _ _ _ f some room unmet refuses) h w end (Plays.goes-on _ _ m′ _ n′ _ _ _ some′ room′ met′ does′ stays′ onward′) =
+    absurd (refuses (first-same (text-needs (rest s i) l) g DONE unmet met′))
+plays-same s i l k g v out (Plays.exited _ _ m _ n some room met does exit) h w end (Plays.at-end _ _ _ over′) = absurd (some over′)
+plays-same s i l k g v out (Plays.exited _ _ m _ n some room met does exit) h w end (Plays.no-room _ _ _ some′ full′) = absurd (omega (arith, full′, room))
+plays-same s i l k g v out (Plays.exited _ _ m _ n some room met does exit) h w end (Plays.refused _ _ _ f′ some′ room′ unmet′ refuses′) =
+    absurd (refuses′ (first-same (text-needs (rest s i) l) h DONE unmet′ met))
+plays-same s i l k g v out (Plays.exited _ _ m _ n some room met does exit) h w end (Plays.exited _ _ m′ _ n′ some′ room′ met′ does′ exit′) =
+    let same = does-same (read-at s i) k l n n′ m m′ does does′ in
     (refl, (ap (λ (x : ℕ). k + x) (same .0), ap (λ (x : Lent). x .out) (same .1)))
-plays-same s i l k g v out (Plays.exited _ _ m _ n some room spans met does exit) h w end (Plays.goes-on _ _ m′ _ n′ _ _ _ some′ room′ spans′ met′ does′ stays′ onward′) = absurd (true≢false (sym exit ∙ stays′))
-plays-same s i l k g v out (Plays.goes-on _ _ m _ n _ _ _ some room spans met does stays onward) h w end (Plays.at-end _ _ _ over′) = absurd (some over′)
-plays-same s i l k g v out (Plays.goes-on _ _ m _ n _ _ _ some room spans met does stays onward) h w end (Plays.no-room _ _ _ some′ full′) = absurd (omega (arith, full′, room))
-plays-same s i l k g v out (Plays.goes-on _ _ m _ n _ _ _ some room spans met does stays onward) h w end (Plays.no-command _ _ _ some′ room′ none′) = absurd (omega (arith, none′, spans))
-plays-same s i l k g v out (Plays.goes-on _ _ m _ n _ _ _ some room spans met does stays onward) h w end (Plays.refused _ _ _ f′ some′ room′ spans′ unmet′ refuses′) = absurd (refuses′ (first-same (command-needs (form (command-at s i)) (command-at s i) l) h DONE unmet′ met))
-plays-same s i l k g v out (Plays.goes-on _ _ m _ n _ _ _ some room spans met does stays onward) h w end (Plays.exited _ _ m′ _ n′ some′ room′ spans′ met′ does′ exit′) = absurd (true≢false (sym exit′ ∙ stays))
-plays-same s i l k g v out (Plays.goes-on _ _ m _ n _ _ _ some room spans met does stays onward) h w end (Plays.goes-on _ _ m′ _ n′ _ _ _ some′ room′ spans′ met′ does′ stays′ onward′) =
-    let same = does-same (form (command-at s i)) (command-at s i) k l n n′ m m′ does does′ in
+plays-same s i l k g v out (Plays.exited _ _ m _ n some room met does exit) h w end (Plays.goes-on _ _ m′ _ n′ _ _ _ some′ room′ met′ does′ stays′ onward′) =
+    absurd (true≢false (sym exit ∙ stays′))
+plays-same s i l k g v out (Plays.goes-on _ _ m _ n _ _ _ some room met does stays onward) h w end (Plays.at-end _ _ _ over′) = absurd (some over′)
+plays-same s i l k g v out (Plays.goes-on _ _ m _ n _ _ _ some room met does stays onward) h w end (Plays.no-room _ _ _ some′ full′) = absurd (omega (arith, full′, room))
+plays-same s i l k g v out (Plays.goes-on _ _ m _ n _ _ _ some room met does stays onward) h w end (Plays.refused _ _ _ f′ some′ room′ unmet′ refuses′) =
+    absurd (refuses′ (first-same (text-needs (rest s i) l) h DONE unmet′ met))
+plays-same s i l k g v out (Plays.goes-on _ _ m _ n _ _ _ some room met does stays onward) h w end (Plays.exited _ _ m′ _ n′ some′ room′ met′ does′ exit′) =
+    absurd (true≢false (sym exit′ ∙ stays))
+plays-same s i l k g v out (Plays.goes-on _ _ m _ n _ _ _ some room met does stays onward) h w end (Plays.goes-on _ _ m′ _ n′ _ _ _ some′ room′ met′ does′ stays′ onward′) =
+    let same = does-same (read-at s i) k l n n′ m m′ does does′ in
     plays-same s (after-command s i) m (k + n) g v out onward h w end
     (subst (λ (x : ℕ). Plays s (after-command s i) m (k + x) h w end) (sym (same .0)) (subst (λ (x : Lent). Plays s (after-command s i) x (k + n′) h w end) (sym (same .1)) onward′))
 

@@ -1,26 +1,23 @@
 -- Any two outcomes that the promise of a script call allows on the same input are equal.
-use Prim.Native.Nat.{ℕ, _<_}
-use native.Mathlib.Omega.{arith}
+use Prim.Native.Nat.{ℕ}
 use mathlib.Core.Path.{_≡_, refl, sym, _∙_, ap, subst}
-use mathlib.Core.Bool.{Bool}
+use mathlib.Core.Bool.{Bool, false}
 use mathlib.Core.List.{List, [], _∷_, map}
-use mathlib.Core.Logic.{_⊎_, inl, inr}
+use mathlib.Core.Logic.{inl, inr}
 use Rattle.meaning.specs.Bounds.{STEPS, RULES}
 use Rattle.meaning.specs.Rules.{Rule}
-use Rattle.meaning.specs.Tables.{Tables, at, opened, with-rule, with-days}
-use Rattle.meaning.specs.Promise.{Given, Meaning, Obeys}
+use Rattle.meaning.specs.Tables.{Tables, opened, with-rule, with-days}
+use Rattle.meaning.specs.Promise.{Given, Obeys}
 use Rattle.meaning.proofs.Theory.{earliest-unique}
 use Rattle.meaning.proofs.Lists.{past-same}
 use Rattle.meaning.proofs.Determined.{Same, Fixed, determined}
-use Rattle.form.specs.declared.Command.{Command}
-use Rattle.form.specs.declared.Command.the-variants.{SetLogic, Declare, Assert, Push, Pop, CheckSat, GetValue, Exit, Unsupported, Syntax, Oversize}
-use Rattle.form.specs.Form.{form}
-use Rattle.atoms.specs.Atoms.{rules-at}
+use Rattle.reading.specs.Tree.{said-by, rules-of-term, Command}
+use Rattle.reading.specs.Reading.{Why, Read, reading}
+use Rattle.reading.specs.Saying.{resolved}
 use Rattle.levels.proofs.Laws.{popped-same}
-use Rattle.script_meaning.specs.declared.Notes.{Notes}
 use Rattle.script_meaning.specs.Record.{Lent, step-of}
-use Rattle.script_meaning.specs.Effect.{Does, HeldNow, AddsAll, resolved, with-tables, broken-after, broken-left}
-use Rattle.script_meaning.specs.Commands.{own, Commanded, Started, command-meaning, start-meaning}
+use Rattle.script_meaning.specs.Effect.{Does, Changes, prints, HeldNow, AddsAll, with-tables, with-printed, broken-after, broken-left}
+use Rattle.script_meaning.specs.Commands.{command-meaning, start-meaning}
 
 -- A rule that fits leaves one thing only.
 holds-same : (r : Rule) (t u v : Tables) → HeldNow r t u → HeldNow r t v → u ≡ v
@@ -40,30 +37,33 @@ adds-same (r ∷ l) t u v x y (inr (t′, (held, rest))) (inl (unfit, is)) = abs
 adds-same (r ∷ l) t u v x y (inr (a, (held, rest))) (inr (b, (held′, rest′))) =
     adds-same l b u v x y (subst (λ (z : Tables). AddsAll l z x u) (holds-same r t a b held held′) rest) rest′
 
--- Every command does one thing only.
-pub does-same :
-    (c : Command) (s : List ℕ) (k : ℕ) (before : Lent) (w v : ℕ) (after other : Lent) → Does c s k before w after → Does c s k before v other → (w ≡ v) × (after ≡ other)
-does-same SetLogic s k l w v a b (w-is, a-is) (v-is, b-is) = (w-is ∙ sym v-is, a-is ∙ sym b-is)
-does-same (Declare x y) s k l w v a b (w-is, a-is) (v-is, b-is) = (w-is ∙ sym v-is, a-is ∙ sym b-is)
-does-same (Assert i) s k l w v a b (w-is, inl (some, a-is)) (v-is, inl (some′, b-is)) = (w-is ∙ sym v-is, a-is ∙ sym b-is)
-does-same (Assert i) s k l w v a b (w-is, inl (some, a-is)) (v-is, inr (none, rest)) = absurd (some none)
-does-same (Assert i) s k l w v a b (w-is, inr (none, rest)) (v-is, inl (some, b-is)) = absurd (some none)
-does-same (Assert i) s k l w v a b (w-is, inr (none, (t, (x, (adds, a-is))))) (v-is, inr (none′, (u, (y, (adds′, b-is))))) =
-    let same = adds-same (map (resolved (step-of l)) (rules-at s i)) (l .tables) t u x y adds adds′ in
-    (w-is ∙ sym v-is, a-is ∙ ap (λ (z : Tables). with-tables z (broken-after x z) l) (same .0) ∙ ap (λ (z : Bool). with-tables u (broken-after z u) l) (same .1) ∙ sym b-is)
-does-same (Push n) s k l w v a b (w-is, a-is) (v-is, b-is) = (w-is ∙ sym v-is, a-is ∙ sym b-is)
-does-same (Pop n) s k l w v a b (w-is, (t, (p, a-is))) (v-is, (u, (q, b-is))) =
-    (w-is ∙ sym v-is, a-is ∙ ap (λ (z : Tables). with-tables z (broken-left (l .notes .broken) z) l) (popped-same n p q) ∙ sym b-is)
-does-same CheckSat s k l w v a b (w-is, a-is) (v-is, b-is) = (w-is ∙ sym v-is, a-is ∙ sym b-is)
-does-same (GetValue i) s k l w v a b (w-is, a-is) (v-is, b-is) = (w-is ∙ sym v-is, a-is ∙ sym b-is)
-does-same Exit s k l w v a b (w-is, a-is) (v-is, b-is) = (w-is ∙ sym v-is, a-is ∙ sym b-is)
-does-same Unsupported s k l w v a b (w-is, a-is) (v-is, b-is) = (w-is ∙ sym v-is, a-is ∙ sym b-is)
-does-same Syntax s k l w v a b impossible other = absurd impossible
-does-same Oversize s k l w v a b impossible other = absurd impossible
+-- Every command changes one thing only, and does one thing only.
+changes-same : (r : Read Command) (l a b : Lent) → Changes r l a → Changes r l b → a ≡ b
+changes-same (Read.got Command.set-logic e) l a b a-is b-is = a-is ∙ sym b-is
+changes-same (Read.got Command.check-sat e) l a b a-is b-is = a-is ∙ sym b-is
+changes-same (Read.got Command.exit e) l a b a-is b-is = a-is ∙ sym b-is
+changes-same (Read.got (Command.declare w) e) l a b a-is b-is = a-is ∙ sym b-is
+changes-same (Read.got (Command.assert t) e) l a b (inl (some, a-is)) (inl (some′, b-is)) = a-is ∙ sym b-is
+changes-same (Read.got (Command.assert t) e) l a b (inl (some, a-is)) (inr (none, rest)) = absurd (some none)
+changes-same (Read.got (Command.assert t) e) l a b (inr (none, rest)) (inl (some, b-is)) = absurd (some none)
+changes-same (Read.got (Command.assert t) e) l a b (inr (none, (u, (x, (adds, a-is))))) (inr (none′, (v, (y, (adds′, b-is))))) =
+    let same = adds-same (map (resolved (step-of l)) (rules-of-term false t)) (l .tables) u v x y adds adds′ in
+    a-is ∙ ap (λ (z : Tables). with-tables z (broken-after x z) l) (same .0) ∙ ap (λ (z : Bool). with-tables v (broken-after z v) l) (same .1) ∙ sym b-is
+changes-same (Read.got (Command.push n) e) l a b a-is b-is = a-is ∙ sym b-is
+changes-same (Read.got (Command.pop n) e) l a b (t, (p, a-is)) (u, (q, b-is)) =
+    a-is ∙ ap (λ (z : Tables). with-tables z (broken-left (l .notes .broken) z) l) (popped-same (said-by n) p q) ∙ sym b-is
+changes-same (Read.got (Command.get-value ws) e) l a b a-is b-is = a-is ∙ sym b-is
+changes-same (Read.stop Why.other i) l a b a-is b-is = a-is ∙ sym b-is
+changes-same (Read.stop Why.wrong i) l a b impossible other = absurd impossible
+changes-same (Read.stop Why.size i) l a b impossible other = absurd impossible
+
+pub does-same : (r : Read Command) (k : ℕ) (before : Lent) (w v : ℕ) (after other : Lent) → Does r k before w after → Does r k before v other → (w ≡ v) × (after ≡ other)
+does-same r k l w v a b (x, (changes, (w-is, a-is))) (y, (changes′, (v-is, b-is))) =
+    (w-is ∙ sym v-is, a-is ∙ ap (with-printed k (prints r l)) (changes-same r l x y changes changes′) ∙ sym b-is)
 
 pub command-fixed : (text : List ℕ) (l : Lent) → Fixed (command-meaning text l)
 command-fixed text l a b c d after other x y =
-    let same = does-same (form (own text)) (own text) 0 l b d after other (x .done) (y .done) in
+    let same = does-same (reading text) 0 l b d after other (x .done) (y .done) in
     (x .bytes-read ∙ sym (y .bytes-read), same .0, same .1)
 
 -- **Determined**: the answer of a command and all that is lent after it.

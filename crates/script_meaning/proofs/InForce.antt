@@ -3,9 +3,9 @@
 use Prim.Native.Nat.{ℕ, zero, suc, _+_, _≤_, _<_}
 use native.Mathlib.Omega.{arith}
 use mathlib.Core.Path.{_≡_, refl, sym, _∙_, ap, subst}
-use mathlib.Core.Bool.{true, false}
+use mathlib.Core.Bool.{Bool, true, false}
 use mathlib.Core.List.{List, [], _∷_, map}
-use mathlib.Core.Logic.{_⊎_, inl, inr, _↔_}
+use mathlib.Core.Logic.{_⊎_, inl, inr, _↔_, Iff·symm, Iff·trans}
 use lib.ListN.{length, drop}
 use lib.Seq.{drop-nil}
 use lib.IntN.{ℤ}
@@ -16,17 +16,16 @@ use Rattle.meaning.specs.Calls.{rules-of, held-in}
 use Rattle.meaning.proofs.LastDay.{largest-zeros}
 use Rattle.meaning.proofs.Places.{taken-all-free}
 use Rattle.names.proofs.Shelves.{name-old}
-use Rattle.atoms.specs.Atoms.{rules-at}
+use Rattle.reading.specs.Tree.{Term, rules-of-term, Supported}
+use Rattle.reading.specs.Saying.{resolved}
 use Rattle.levels.specs.Levels.{held-to}
 use Rattle.script_meaning.specs.Record.{Lent, Known, step-of}
-use Rattle.script_meaning.specs.Effect.{AddsAll, resolved, forgotten, with-notes, with-tables, with-name}
-use Rattle.script_meaning.specs.Terms.{Term, Holds}
+use Rattle.script_meaning.specs.Effect.{AddsAll, forgotten, with-notes, with-tables, with-name, broken-after}
 use Rattle.script_meaning.specs.Traces.{History, nothing-asserted, with-term, Agrees}
 use Rattle.script_meaning.specs.Whole.{Fresh}
 use Rattle.script_meaning.proofs.Seeking.{step-is, known-name}
 use Rattle.script_meaning.proofs.Adding.{Grown, still-held}
 use Rattle.script_meaning.proofs.Keeping.{Fine, shelved-of}
-use Rattle.script_meaning.proofs.Asserted.{Asserted}
 use Rattle.script_meaning.proofs.Adjoining.{Kept-in, Counted, assertion-kept, assertion-none}
 use Rattle.script_meaning.proofs.Named.{OfTerm, OfLevels, of-with-term, of-drop, of-levels-too, agrees-too, agrees-term}
 
@@ -56,6 +55,12 @@ pub record InForce (l : Lent) (h : History) : Type 0 where
       (k j : ℕ) → k + j ≡ l .tables .counts .marks → Clear (l .notes .broken) j →
       (e : ℕ → ℤ) → KeptTo (l .tables) j e ↔ Agrees (by-name l e) (drop k h)
   pub none : (k j : ℕ) → k + j ≡ l .tables .counts .marks → j + 1 ≡ l .notes .broken → (e : ℕ → ℤ) → Agrees (by-name l e) (drop k h) → ⊥
+
+-- Where no level counts as contradictory, all rules held are kept by exactly the days under which all that is asserted holds.
+pub all-exact : (l : Lent) (h : History) → InForce l h → l .notes .broken ≡ 0 → (e : ℕ → ℤ) → Kept-in e (l .tables) ↔ Agrees (by-name l e) h
+all-exact l h i clean e =
+    Iff·trans (Iff·symm (all-levels (l .tables) (i .fine .sound .tables-sound) (l .tables .counts .marks) (omega arith) e))
+    (i .exact 0 (l .tables .counts .marks) (omega arith) (λ some. absurd (some clean)) e)
 
 -- ---- at the start
 
@@ -148,7 +153,7 @@ named-in-force w l h i g short few = record {
   as-many = i .as-many;
   declared = of-levels-too (Known l) (Known (with-name w l)) (λ v known. omega (arith, stays v known, known)) h (i .declared);
   exact = λ k j levels clear e. let was = i .exact k j levels clear e in
-      ((λ kept. later k e (was .0 kept)), (λ agrees. was .1 (earlier k e agrees)));
+      Iff·trans was (later k e, earlier k e);
   none = λ k j levels level e agrees. i .none k j levels level e (earlier k e agrees);
 }
   where
@@ -164,7 +169,7 @@ named-in-force w l h i g short few = record {
 -- ---- a term asserted
 
 -- Older levels know nothing of it.
-older-same : (k : ℕ) (t : Term) (h : History) → drop (suc k) (with-term t h) ≡ drop (suc k) h
+pub older-same : (k : ℕ) (t : Term) (h : History) → drop (suc k) (with-term t h) ≡ drop (suc k) h
 older-same k t [] = drop-nil k
 older-same k t (l ∷ h) = refl
 
@@ -172,6 +177,18 @@ older-same k t (l ∷ h) = refl
 one-longer : (t : Term) (h : History) (n : ℕ) → length h ≡ n + 1 → length (with-term t h) ≡ n + 1
 one-longer t [] n e = absurd (omega arith)
 one-longer t (l ∷ h) n e = e
+
+-- Where rules are added, the rules of an older level, and of those below it, are the same.
+module _ (t u : Tables) (grown : Grown t u) (j : ℕ) (older : j < t .counts .marks) where
+  pub older-there : (r : ℕ) → held-to j (t .levels) r → held-to j (u .levels) r
+  older-there r (there, low) = (still-held grown r there, omega (arith, low, grown .older-levels r there))
+
+  pub older-here : (r : ℕ) → held-to j (u .levels) r → held-to j (t .levels) r
+  older-here r (there, low) = tell (grown .new-levels r there)
+    where
+      tell : held-in t r ⊎ (at (u .levels) r ≡ t .counts .marks + 1) → held-to j (t .levels) r
+      tell (inl was) = (was, omega (arith, low, grown .older-levels r was))
+      tell (inr new) = absurd (omega (arith, low, new, older))
 
 module _ (l : Lent) (h : History) (i : InForce l h) (t : Term) (of : OfTerm (Known l) t) where
   -- While a level counts as contradictory nothing is added, and the terms up to that level still hold under no days.
@@ -194,24 +211,10 @@ module _ (l : Lent) (h : History) (i : InForce l h) (t : Term) (of : OfTerm (Kno
       none-at zero j levels level e agrees = i .none zero j levels level e (agrees-term (by-name l e) t h .0 agrees .1)
       none-at (suc k) j levels level e agrees = i .none (suc k) j levels level e (subst (Agrees (by-name l e)) (older-same k t h) agrees)
 
-  module _ (s : List ℕ) (n : ℕ) (a : Asserted s n) (is : a .term-is ≡ t) (clean : l .notes .broken ≡ 0) (u : Tables) (grown : Grown (l .tables) u)
-      (few : l .tables .counts .rules + length (map (resolved (step-of l)) (rules-at s n)) ≤ RULES) where
-    sound : Sound (l .tables)
-    sound = i .fine .sound .tables-sound
-
+  module _ (supported : Supported false t) (clean : l .notes .broken ≡ 0) (u : Tables) (grown : Grown (l .tables) u)
+      (few : l .tables .counts .rules + length (map (resolved (step-of l)) (rules-of-term false t)) ≤ RULES) where
     counted : Counted (l .tables)
-    counted = record { room = i .fine .room .tables-room; counted = sound .rules-counted }
-
-    -- The rules of an older level, and of those below it, are the same.
-    older-there : (j : ℕ) → j < l .tables .counts .marks → (r : ℕ) → held-to j (l .tables .levels) r → held-to j (u .levels) r
-    older-there j older r (there, low) = (still-held grown r there, omega (arith, low, grown .older-levels r there))
-
-    older-here : (j : ℕ) → j < l .tables .counts .marks → (r : ℕ) → held-to j (u .levels) r → held-to j (l .tables .levels) r
-    older-here j older r (there, low) = tell (grown .new-levels r there)
-      where
-        tell : held-in (l .tables) r ⊎ (at (u .levels) r ≡ l .tables .counts .marks + 1) → held-to j (l .tables .levels) r
-        tell (inl was) = (was, omega (arith, low, grown .older-levels r was))
-        tell (inr new) = absurd (omega (arith, low, new, older))
+    counted = record { room = i .fine .room .tables-room; counted = i .fine .sound .tables-sound .rules-counted }
 
     -- What belongs to older levels stays.
     older-exact :
@@ -219,21 +222,14 @@ module _ (l : Lent) (h : History) (i : InForce l h) (t : Term) (of : OfTerm (Kno
     older-exact k j levels e =
         let was = i .exact (suc k) j (levels ∙ grown .same-open) (λ some. absurd (some clean)) e in
         let older : j < l .tables .counts .marks = omega (arith, levels, grown .same-open) in (
-          (λ kept. subst (Agrees (by-name l e)) (sym (older-same k t h)) (was .0 (λ r there. subst (Keeps e) (grown .older-rules r (there .0)) (kept r (older-there j older r there))))),
-          (λ agrees r there. let before = older-here j older r there in
+          (λ kept. subst (Agrees (by-name l e)) (sym (older-same k t h)) (was .0 (λ r there. subst (Keeps e) (grown .older-rules r (there .0)) (kept r (older-there (l .tables) u grown j older r there))))),
+          (λ agrees r there. let before = older-here (l .tables) u grown j older r there in
               subst (Keeps e) (sym (grown .older-rules r (before .0))) (was .1 (subst (Agrees (by-name l e)) (older-same k t h) agrees) r before)),
         )
 
-    -- The newest level, as it was.
-    newest : (e : ℕ → ℤ) → Kept-in e (l .tables) ↔ Agrees (by-name l e) h
-    newest e =
-        let all = all-levels (l .tables) sound (l .tables .counts .marks) (omega arith) e in
-        let was = i .exact 0 (l .tables .counts .marks) (omega arith) (λ some. absurd (some clean)) e in
-        ((λ kept. was .0 (all .1 kept)), (λ agrees. all .0 (was .1 agrees)))
-
     -- All rules of the term fit.
-    pub fits-in-force :
-        Fine (with-tables u 0 l) → AddsAll (map (resolved (step-of l)) (rules-at s n)) (l .tables) false u → InForce (with-tables u 0 l) (with-term t h)
+    fits-in-force :
+        Fine (with-tables u 0 l) → AddsAll (map (resolved (step-of l)) (rules-of-term false t)) (l .tables) false u → InForce (with-tables u 0 l) (with-term t h)
     fits-in-force g adds = record {
       fine = g;
       as-many = one-longer t h (u .counts .marks) (i .as-many ∙ ap (λ (m : ℕ). m + 1) (sym (grown .same-open)));
@@ -244,17 +240,17 @@ module _ (l : Lent) (h : History) (i : InForce l h) (t : Term) (of : OfTerm (Kno
       where
         exact-at : (k j : ℕ) → k + j ≡ u .counts .marks → Clear 0 j → (e : ℕ → ℤ) → KeptTo u j e ↔ Agrees (by-name l e) (drop k (with-term t h))
         exact-at zero j levels clear e =
-            let law = assertion-kept e s n a (step-of l) (l .tables) u counted few adds in
+            let law = assertion-kept e t supported (step-of l) (l .tables) u counted few adds in
             let all = all-levels u (g .sound .tables-sound) j (omega (arith, levels)) e in
             let both = agrees-term (by-name l e) t h in (
-              (λ kept. let now = law .0 (all .0 kept) in both .1 (subst (λ (x : Term). Holds x (by-name l e)) is (now .1), newest e .0 (now .0))),
-              (λ agrees. let now = both .0 agrees in all .1 (law .1 (newest e .1 (now .1), subst (λ (x : Term). Holds x (by-name l e)) (sym is) (now .0)))),
+              (λ kept. let now = law .0 (all .0 kept) in both .1 (now .1, all-exact l h i clean e .0 (now .0))),
+              (λ agrees. let now = both .0 agrees in all .1 (law .1 (all-exact l h i clean e .1 (now .1), now .0))),
             )
         exact-at (suc k) j levels clear e = older-exact k j levels e
 
     -- One does not fit.
-    pub clash-in-force :
-        Fine (with-tables u (u .counts .marks + 1) l) → AddsAll (map (resolved (step-of l)) (rules-at s n)) (l .tables) true u →
+    clash-in-force :
+        Fine (with-tables u (u .counts .marks + 1) l) → AddsAll (map (resolved (step-of l)) (rules-of-term false t)) (l .tables) true u →
         InForce (with-tables u (u .counts .marks + 1) l) (with-term t h)
     clash-in-force g adds = record {
       fine = g;
@@ -273,6 +269,12 @@ module _ (l : Lent) (h : History) (i : InForce l h) (t : Term) (of : OfTerm (Kno
         none-at : (k j : ℕ) → k + j ≡ u .counts .marks → j + 1 ≡ u .counts .marks + 1 → (e : ℕ → ℤ) → Agrees (by-name l e) (drop k (with-term t h)) → ⊥
         none-at zero j levels level e agrees =
             let now = agrees-term (by-name l e) t h .0 agrees in
-            assertion-none e s n a (step-of l) (l .tables) u counted few adds (newest e .1 (now .1))
-            (subst (λ (x : Term). Holds x (by-name l e)) (sym is) (now .0))
+            assertion-none e t supported (step-of l) (l .tables) u counted few adds (all-exact l h i clean e .1 (now .1)) (now .0)
         none-at (suc k) j levels level e agrees = omega (arith, levels, level)
+
+    -- So of every assertion whose rules are added.
+    pub added-in-force :
+        (clash : Bool) → Fine (with-tables u (broken-after clash u) l) → AddsAll (map (resolved (step-of l)) (rules-of-term false t)) (l .tables) clash u →
+        InForce (with-tables u (broken-after clash u) l) (with-term t h)
+    added-in-force false = fits-in-force
+    added-in-force true = clash-in-force

@@ -3,38 +3,36 @@ use Prim.Native.Nat.{ℕ, suc, _+_, _*_, _≤_, _<_}
 use native.Mathlib.Omega.{arith}
 use native.Mathlib.Decide.{ℕ-discrete, decLt}
 use mathlib.Core.Path.{_≡_, refl, sym, _∙_, ap, subst}
-use mathlib.Core.Bool.{Bool, true, false, cond}
+use mathlib.Core.Bool.{Bool, true, false}
 use mathlib.Core.List.{List, [], _∷_, map}
-use mathlib.Core.Logic.{_⊎_, inl, inr}
-use lib.Dec.{eqb, ltb}
-use lib.ListN.{length, set, length-set}
+use mathlib.Core.Logic.{inl, inr}
+use lib.Dec.{eqb}
+use lib.ListN.{length, length-set}
 use lib.Seq.{getD-set-same, getD-set-other}
 use borrow.Author.Tests.{lt-ltb, le-ltb, ne-eqb}
-use Rattle.meaning.specs.Bounds.{STEPS, RULES, MARKS, NAME-BYTES, DONE}
-use Rattle.meaning.specs.Rules.{Rule, InBounds}
+use Rattle.meaning.specs.Bounds.{STEPS, NAME-BYTES, DONE}
+use Rattle.meaning.specs.Rules.{InBounds}
 use Rattle.meaning.specs.Tables.{Tables, at}
 use Rattle.meaning.specs.Promise.{First}
 use Rattle.meaning.proofs.Sequences.{Kept}
 use Rattle.lent.specs.Promises.{Border}
-use Rattle.text.specs.Lexicon.{bytes}
-use Rattle.form.specs.declared.Command.{Command}
-use Rattle.form.specs.declared.Command.the-variants.{SetLogic, Declare, Assert, Push, Pop, CheckSat, GetValue, Exit, Unsupported, Syntax, Oversize}
-use Rattle.atoms.specs.Atoms.{Named, rules-at}
+use Rattle.reading.specs.Tree.{Piece, said-by, Named, rules-of-term, Command}
+use Rattle.reading.specs.Reading.{Why, Read, reading}
+use Rattle.reading.specs.Saying.{resolved}
 use Rattle.names.specs.Names.{name-at, Shelved}
 use Rattle.names.proofs.Shelves.{name-new, name-old}
-use Rattle.write.specs.Written.{over}
 use Rattle.write.proofs.Laws.{length-over}
 use Rattle.levels.specs.Levels.{with-marks, Popped}
 use Rattle.levels.proofs.Laws.{with-marks-border, popped-border}
-use Rattle.script_meaning.specs.declared.Notes.{Notes}
 use Rattle.script_meaning.specs.Record.{Lent, StartRoom, ScriptSound, InForm, Known, step-of}
-use Rattle.script_meaning.specs.Effect.{Does, AddsAll, resolved, forgotten, with-notes, with-tables, with-name, checked, broken-after, broken-left}
-use Rattle.script_meaning.specs.Commands.{command-needs}
+use Rattle.script_meaning.specs.Effect.{Does, Changes, with-notes, with-tables, with-name, broken-after, broken-left}
+use Rattle.script_meaning.specs.Commands.{read-needs, text-needs}
 use Rattle.script_meaning.specs.Traces.{with-out}
 use Rattle.script_meaning.proofs.Seeking.{numbered-known}
-use Rattle.script_meaning.proofs.Needed.{RuleMet, EachRule}
-use Rattle.script_meaning.proofs.Granted.{declare-met, assert-met, push-met}
-use Rattle.script_meaning.proofs.Adding.{Each, Grown, adds-kept}
+use Rattle.script_meaning.proofs.Needed.{EachRule}
+use Rattle.script_meaning.proofs.Granted.{declare-met, assert-met, push-met, text-met}
+use Rattle.script_meaning.proofs.Readings.{declared-in-form}
+use Rattle.script_meaning.proofs.Adding.{Each, adds-kept}
 
 -- What is lent has room and is sound.
 pub record Fine (l : Lent) : Type 0 where
@@ -49,7 +47,9 @@ pub tables-border : {l : Lent} → Fine l → Border (l .tables)
 tables-border f = record { sound = f .sound .tables-sound; room = f .room .tables-room }
 
 -- Another record with the same names, a level that is open, and no `sat` beside a contradictory one.
-with-record : (l : Lent) (logic sat : Bool) (b : ℕ) → Fine l → b ≤ l .tables .counts .marks + 1 → ((b ≡ 0 → ⊥) → sat ≡ false) → Fine (with-notes (record { names = l .notes .names; logic = logic; broken = b; sat = sat }) l)
+with-record :
+    (l : Lent) (logic sat : Bool) (b : ℕ) → Fine l → b ≤ l .tables .counts .marks + 1 → ((b ≡ 0 → ⊥) → sat ≡ false) →
+    Fine (with-notes (record { names = l .notes .names; logic = logic; broken = b; sat = sat }) l)
 with-record l logic sat b f level unless = record {
   room = record { tables-room = f .room .tables-room; names-room = f .room .names-room; lens-room = f .room .lens-room };
   sound = record {
@@ -195,34 +195,43 @@ popped-steps n t u p = ap (λ (v : Tables). v .counts .steps) (p .dropped)
 pub kept-of : {t : Tables} → Border t → Kept t
 kept-of b = record { sound = b .sound; room = b .room }
 
--- Every command that is carried out leaves what is sound and has room.
-pub does-fine :
-    (c : Command) (s : List ℕ) (k w : ℕ) (before after : Lent) → Fine before → ((a b : ℕ) → c ≡ Declare a b → InForm (bytes s a b)) →
-    First (command-needs c s before) DONE → Does c s k before w after → Fine after
-does-fine SetLogic s k w before after f named met (w-is, is) =
-    subst Fine (sym is) (with-record before true false (before .notes .broken) f (f .sound .level-open) (λ some. refl))
-does-fine (Declare a b) s k w before after f named met (w-is, is) =
-    let granted = declare-met a b s before met in
-    subst Fine (sym is) (named-fine (bytes s a b) before f (named a b refl) (granted .0) (granted .1))
-does-fine (Assert i) s k w before after f named met (w-is, inl (some, is)) =
-    subst Fine (sym is) (with-record before (before .notes .logic) false (before .notes .broken) f (f .sound .level-open) (λ other. refl))
-does-fine (Assert i) s k w before after f named met (w-is, inr (none, (t, (clash, (adds, is))))) =
-    let granted = assert-met i s before met in
-    let more = adds-kept (map (resolved (step-of before)) (rules-at s i)) (before .tables) t clash (tables-kept f) (rules-in before f (rules-at s i) (granted .0))
-    (omega (arith, granted .1 none, map-length (step-of before) (rules-at s i))) adds in
-    subst Fine (sym is) (tables-fine t (broken-after clash t) before f (more .0) (more .1 .same-steps) (level-after clash t))
-does-fine (Push n) s k w before after f named met (w-is, is) =
+-- What was read is a declaration only of a name in form.
+abbrev pub NamesInForm : Read Command → Type 0
+NamesInForm r = (w : Piece) (e : ℕ) → r ≡ Read.got (Command.declare w) e → InForm (w .letters)
+
+-- Every change that is made leaves what is sound and has room.
+pub changes-fine : (r : Read Command) (l m : Lent) → Fine l → NamesInForm r → First (read-needs r l) DONE → Changes r l m → Fine m
+changes-fine (Read.got Command.set-logic e) l m f named met is =
+    subst Fine (sym is) (with-record l true false (l .notes .broken) f (f .sound .level-open) (λ some. refl))
+changes-fine (Read.got Command.check-sat e) l m f named met is =
+    subst Fine (sym is) (with-record l (l .notes .logic) (eqb (l .notes .broken) 0) (l .notes .broken) f (f .sound .level-open) (ne-eqb (l .notes .broken) 0))
+changes-fine (Read.got Command.exit e) l m f named met is =
+    subst Fine (sym is) (with-record l (l .notes .logic) false (l .notes .broken) f (f .sound .level-open) (λ other. refl))
+changes-fine (Read.got (Command.declare w) e) l m f named met is =
+    let granted = declare-met w l met in
+    subst Fine (sym is) (named-fine (w .letters) l f (named w e refl) (granted .0) (granted .1))
+changes-fine (Read.got (Command.assert t) e) l m f named met (inl (some, is)) =
+    subst Fine (sym is) (with-record l (l .notes .logic) false (l .notes .broken) f (f .sound .level-open) (λ other. refl))
+changes-fine (Read.got (Command.assert t) e) l m f named met (inr (none, (u, (clash, (adds, is))))) =
+    let rs = rules-of-term false t in
+    let granted = assert-met t l met in
+    let more = adds-kept (map (resolved (step-of l)) rs) (l .tables) u clash (tables-kept f) (rules-in l f rs (granted .0))
+    (omega (arith, granted .1 none, map-length (step-of l) rs)) adds in
+    subst Fine (sym is) (tables-fine u (broken-after clash u) l f (more .0) (more .1 .same-steps) (level-after clash u))
+changes-fine (Read.got (Command.push n) e) l m f named met is =
     subst Fine (sym is)
-    (tables-fine (with-marks n (before .tables)) (before .notes .broken) before f (kept-of (with-marks-border n (tables-border f) (push-met n s before met))) refl
+    (tables-fine (with-marks (said-by n) (l .tables)) (l .notes .broken) l f (kept-of (with-marks-border (said-by n) (tables-border f) (push-met n l met))) refl
     (omega (arith, f .sound .level-open)))
-does-fine (Pop n) s k w before after f named met (w-is, (t, (p, is))) =
+changes-fine (Read.got (Command.pop n) e) l m f named met (t, (p, is)) =
     subst Fine (sym is)
-    (tables-fine t (broken-left (before .notes .broken) t) before f (kept-of (popped-border n (tables-border f) p)) (popped-steps n (before .tables) t p) (level-left (before .notes .broken) t))
-does-fine CheckSat s k w before after f named met (w-is, is) =
-    subst Fine (sym is) (with-record _ (before .notes .logic) (eqb (before .notes .broken) 0) (before .notes .broken) (other-fine _ before f) (f .sound .level-open) (ne-eqb (before .notes .broken) 0))
-does-fine (GetValue i) s k w before after f named met (w-is, is) = subst Fine (sym is) (other-fine _ before f)
-does-fine Exit s k w before after f named met (w-is, is) =
-    subst Fine (sym is) (with-record before (before .notes .logic) false (before .notes .broken) f (f .sound .level-open) (λ other. refl))
-does-fine Unsupported s k w before after f named met (w-is, is) = subst Fine (sym is) (other-fine _ before f)
-does-fine Syntax s k w before after f named met impossible = absurd impossible
-does-fine Oversize s k w before after f named met impossible = absurd impossible
+    (tables-fine t (broken-left (l .notes .broken) t) l f (kept-of (popped-border (said-by n) (tables-border f) p))
+    (popped-steps (said-by n) (l .tables) t p) (level-left (l .notes .broken) t))
+changes-fine (Read.got (Command.get-value ws) e) l m f named met is = subst Fine (sym is) f
+changes-fine (Read.stop Why.other i) l m f named met is = subst Fine (sym is) f
+changes-fine (Read.stop Why.wrong i) l m f named met impossible = absurd impossible
+changes-fine (Read.stop Why.size i) l m f named met impossible = absurd impossible
+
+-- **Every command** that is carried out leaves what is sound and has room.
+pub does-fine : (text : List ℕ) (k w : ℕ) (l m : Lent) → Fine l → First (text-needs text l) DONE → Does (reading text) k l w m → Fine m
+does-fine text k w l m f met (mid, (changes, (w-is, is))) =
+    subst Fine (sym is) (other-fine _ mid (changes-fine (reading text) l mid f (declared-in-form text) (text-met text l met .1) changes))

@@ -13,12 +13,10 @@ use Rattle.meaning.specs.Calls.{Split, open-meaning}
 use Rattle.meaning.specs.Runs.{Call, Made, Run}
 use Rattle.meaning.proofs.Needs.{obeys-done}
 use Rattle.meaning.proofs.Sequences.{Kept, call-keeps, run-kept, kept-splits, kept-last}
-use Rattle.form.specs.Form.{form}
 use Rattle.script_meaning.specs.Record.{Lent}
-use Rattle.script_meaning.specs.Commands.{own, command-meaning, start-meaning}
+use Rattle.script_meaning.specs.Commands.{command-meaning, start-meaning}
 use Rattle.script_meaning.specs.Mixed.{MixedRun, MixedOf}
 use Rattle.script_meaning.proofs.Granted.{start-granted, granted}
-use Rattle.script_meaning.proofs.Naming.{declared-in-form}
 use Rattle.script_meaning.proofs.Keeping.{tables-kept, does-fine}
 
 -- A start that is accepted leaves what an accepted Open leaves.
@@ -34,11 +32,12 @@ started-kept l g after x done =
 commanded-kept : (text : List ℕ) (l : Lent) (g : Given) (after : Lent) → Obeys (command-meaning text l) l g after → g .number ≡ DONE → Kept (after .tables)
 commanded-kept text l g after x done =
     let r = granted text l (subst (First (command-meaning text l .asks)) done (x .first-unmet)) in
-    tables-kept
-    (does-fine (form (own text)) (own text) 0 (g .two) l after (record { room = r .room .start-room; sound = r .sound }) (λ a b e. declared-in-form (own text) a b e) (r .met) (x .when-done done .done))
+    tables-kept (does-fine text 0 (g .two) l after (record { room = r .room .start-room; sound = r .sound }) (r .met) (x .when-done done .done))
 
 -- A refused call leaves what was sound.
-refused-kept : {A : Type 0} (g : Given) (l after : Lent) → (g .number ≡ CONFLICT → ⊥) → ((g .number ≡ DONE → ⊥) → (g .number ≡ CONFLICT → ⊥) → A × (after ≡ l)) → (g .number ≡ DONE → Kept (after .tables)) → Kept (l .tables) → Kept (after .tables)
+refused-kept :
+    {A : Type 0} (g : Given) (l after : Lent) → (g .number ≡ CONFLICT → ⊥) → ((g .number ≡ DONE → ⊥) → (g .number ≡ CONFLICT → ⊥) → A × (after ≡ l)) →
+    (g .number ≡ DONE → Kept (after .tables)) → Kept (l .tables) → Kept (after .tables)
 refused-kept g l after clear refused done k = tell (ℕ-discrete (g .number) DONE)
   where
     tell : Dec (g .number ≡ DONE) → Kept (after .tables)

@@ -3,22 +3,22 @@ use Prim.Native.Nat.{ℕ, zero, suc}
 use mathlib.Core.Path.{_≡_, sym, _∙_, ap, subst}
 use mathlib.Core.Bool.{Bool, true, false, not}
 use mathlib.Core.List.{List, [], _∷_, _++_}
-use mathlib.Core.Logic.{_↔_}
+use mathlib.Core.Logic.{_↔_, Iff·not, Iff·and}
 use lib.ListN.{drop}
-use lib.IntN.{ℤ, _-ℤ_}
+use lib.IntN.{ℤ, pos, _-ℤ_}
 use Rattle.text.specs.Lexicon.{same-bytes}
 use Rattle.words.specs.Words.{W-at-most, W-below, W-at-least}
-use Rattle.atoms.specs.Atoms.{Named, named, negated, either-rule, under}
-use lib.IntN.{pos}
-use Rattle.script_meaning.specs.Terms.{Term, atom, negation, conjunction, Compared, Holds, rules-of-term}
+use Rattle.reading.specs.Tree.{amount-of, Term, Named, named, negated, either-rule, under, rules-of-term}
+use Rattle.script_meaning.specs.Terms.{Compared, Holds}
 use Rattle.script_meaning.specs.Traces.{History, with-term, with-levels, AllHold, Agrees}
 use Rattle.script_meaning.proofs.Needed.{RuleMet, EachRule}
 
 -- Every name of the term, of each of the terms, of each level has K.
 abbrev pub OfTerm : (List ℕ → Type 0) → Term → Type 0
-OfTerm K (atom w x y c) = K x × K y
-OfTerm K (negation t) = OfTerm K t
-OfTerm K (conjunction t u) = OfTerm K t × OfTerm K u
+OfTerm K (Term.atom w x y c) = K (x .letters) × K (y .letters)
+OfTerm K (Term.negation t) = OfTerm K t
+OfTerm K (Term.conjunction t u) = OfTerm K t × OfTerm K u
+OfTerm K (Term.also t u) = OfTerm K t × OfTerm K u
 
 abbrev pub OfTerms : (List ℕ → Type 0) → List Term → Type 0
 OfTerms K [] = Unit {0}
@@ -43,20 +43,16 @@ module _ (K : List ℕ → Type 0) where
   of-rule false false false false x y c r = (r .second-known, r .first-known)
 
   -- What holds of every rule of two lists holds of those of each.
-  first-each : (k l : List Named) → EachRule K (k ++ l) → EachRule K k
-  first-each [] l h = tt
-  first-each (r ∷ k) l h = (h .0, first-each k l (h .1))
-
-  second-each : (k l : List Named) → EachRule K (k ++ l) → EachRule K l
-  second-each [] l h = h
-  second-each (r ∷ k) l h = second-each k l (h .1)
+  both-each : (k l : List Named) → EachRule K (k ++ l) → EachRule K k × EachRule K l
+  both-each [] l h = (tt, h)
+  both-each (r ∷ k) l h = let rest = both-each k l (h .1) in ((h .0, rest .0), rest .1)
 
   -- Where the names of a term's rules have K, so have the term's.
   pub of-rules : (odd : Bool) (t : Term) → EachRule K (rules-of-term odd t) → OfTerm K t
-  of-rules odd (atom w x y c) h = of-rule odd (same-bytes w W-at-most) (same-bytes w W-below) (same-bytes w W-at-least) x y c (h .0)
-  of-rules odd (negation t) h = of-rules (not odd) t h
-  of-rules odd (conjunction t u) h =
-      (of-rules odd t (first-each (rules-of-term odd t) (rules-of-term odd u) h), of-rules odd u (second-each (rules-of-term odd t) (rules-of-term odd u) h))
+  of-rules odd (Term.atom w x y c) h = of-rule odd (same-bytes w W-at-most) (same-bytes w W-below) (same-bytes w W-at-least) (x .letters) (y .letters) (amount-of c) (h .0)
+  of-rules odd (Term.negation t) h = of-rules (not odd) t h
+  of-rules odd (Term.conjunction t u) h = let each = both-each (rules-of-term odd t) (rules-of-term odd u) h in (of-rules odd t (each .0), of-rules odd u (each .1))
+  of-rules odd (Term.also t u) h = let each = both-each (rules-of-term odd t) (rules-of-term odd u) h in (of-rules odd t (each .0), of-rules odd u (each .1))
 
   -- Of one term more, of more levels, of fewer levels.
   pub of-with-term : (t : Term) (h : History) → OfTerm K t → OfLevels K h → OfLevels K (with-term t h)
@@ -73,11 +69,12 @@ module _ (K : List ℕ → Type 0) where
   of-drop (suc n) (l ∷ h) of = of-drop n h (of .1)
 
 -- What has K has L too.
-module _ (K L : List ℕ → Type 0) (also : (w : List ℕ) → K w → L w) where
+module _ (K L : List ℕ → Type 0) (too : (w : List ℕ) → K w → L w) where
   of-term-too : (t : Term) → OfTerm K t → OfTerm L t
-  of-term-too (atom w x y c) of = (also x (of .0), also y (of .1))
-  of-term-too (negation t) of = of-term-too t of
-  of-term-too (conjunction t u) of = (of-term-too t (of .0), of-term-too u (of .1))
+  of-term-too (Term.atom w x y c) of = (too (x .letters) (of .0), too (y .letters) (of .1))
+  of-term-too (Term.negation t) of = of-term-too t of
+  of-term-too (Term.conjunction t u) of = (of-term-too t (of .0), of-term-too u (of .1))
+  of-term-too (Term.also t u) of = (of-term-too t (of .0), of-term-too u (of .1))
 
   of-terms-too : (l : List Term) → OfTerms K l → OfTerms L l
   of-terms-too [] of = tt
@@ -90,14 +87,14 @@ module _ (K L : List ℕ → Type 0) (also : (w : List ℕ) → K w → L w) whe
 -- Days d and e are the same for every name that has K.
 module _ (K : List ℕ → Type 0) (d e : List ℕ → ℤ) (same : (w : List ℕ) → K w → d w ≡ e w) where
   holds-too : (t : Term) → OfTerm K t → Holds t d ↔ Holds t e
-  holds-too (atom w x y c) of =
-      let p : (d x -ℤ d y) ≡ (e x -ℤ e y) = ap (λ (z : ℤ). z -ℤ d y) (same x (of .0)) ∙ ap (λ (z : ℤ). e x -ℤ z) (same y (of .1)) in
-      (subst (λ (z : ℤ). Compared w z c) p, subst (λ (z : ℤ). Compared w z c) (sym p))
-  holds-too (negation t) of = let both = holds-too t of in ((λ not-d h. not-d (both .1 h)), (λ not-e h. not-e (both .0 h)))
-  holds-too (conjunction t u) of =
-      let one = holds-too t (of .0) in
-      let two = holds-too u (of .1) in
-      ((λ h. (one .0 (h .0), two .0 (h .1))), (λ h. (one .1 (h .0), two .1 (h .1))))
+  holds-too (Term.atom w x y c) of =
+      let a = x .letters in
+      let b = y .letters in
+      let p : (d a -ℤ d b) ≡ (e a -ℤ e b) = ap (λ (z : ℤ). z -ℤ d b) (same a (of .0)) ∙ ap (λ (z : ℤ). e a -ℤ z) (same b (of .1)) in
+      (subst (λ (z : ℤ). Compared w z (amount-of c)) p, subst (λ (z : ℤ). Compared w z (amount-of c)) (sym p))
+  holds-too (Term.negation t) of = Iff·not (holds-too t of)
+  holds-too (Term.conjunction t u) of = Iff·and (holds-too t (of .0)) (holds-too u (of .1))
+  holds-too (Term.also t u) of = Iff·and (holds-too t (of .0)) (holds-too u (of .1))
 
   all-too : (l : List Term) → OfTerms K l → AllHold d l → AllHold e l
   all-too [] of h = tt

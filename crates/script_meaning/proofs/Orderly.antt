@@ -2,7 +2,7 @@
 use Prim.Native.Nat.{ℕ, _+_, _≤_}
 use native.Mathlib.Omega.{arith}
 use mathlib.Core.Path.{_≡_, sym, ap, subst}
-use mathlib.Core.Bool.{Bool}
+use mathlib.Core.Bool.{Bool, false}
 use mathlib.Core.List.{List, [], _∷_, map}
 use mathlib.Core.Logic.{inl, inr}
 use lib.ListN.{length}
@@ -11,14 +11,14 @@ use Rattle.meaning.specs.Rules.{Rule, InBounds}
 use Rattle.meaning.specs.Tables.{Tables}
 use Rattle.meaning.specs.Promise.{First}
 use Rattle.meaning.proofs.Sequences.{Kept}
-use Rattle.form.specs.declared.Command.{Command}
-use Rattle.form.specs.declared.Command.the-variants.{SetLogic, Declare, Assert, Push, Pop, CheckSat, GetValue, Exit, Unsupported, Syntax, Oversize}
-use Rattle.atoms.specs.Atoms.{rules-at}
+use Rattle.reading.specs.Tree.{said-by, rules-of-term, Command}
+use Rattle.reading.specs.Reading.{Why, Read}
+use Rattle.reading.specs.Saying.{resolved}
 use Rattle.levels.specs.Levels.{InOrder}
 use Rattle.levels.proofs.Ordering.{in-order-none, in-order-rule, in-order-popped}
 use Rattle.script_meaning.specs.Record.{Lent, step-of}
-use Rattle.script_meaning.specs.Effect.{Does, HeldNow, AddsAll, resolved}
-use Rattle.script_meaning.specs.Commands.{command-needs}
+use Rattle.script_meaning.specs.Effect.{Does, Changes, HeldNow, AddsAll}
+use Rattle.script_meaning.specs.Commands.{read-needs}
 use Rattle.script_meaning.specs.Whole.{Fresh}
 use Rattle.script_meaning.proofs.Granted.{assert-met}
 use Rattle.script_meaning.proofs.Adding.{Each, holds-kept}
@@ -47,23 +47,27 @@ adds-orderly (r ∷ l) t u clash k (here, there) room (inr (v, (h, rest))) o =
     adds-orderly l v u clash (holds-kept r t v k here (omega arith) h) (subst (λ (n : ℕ). Each (InBounds n) l) (sym steps) there) (omega (arith, rules)) rest
     (holds-orderly r t v k (omega arith) h o)
 
--- **Every command** that is carried out leaves the rules in order.
+-- **Every command** that is carried out leaves the rules in order: so does every change that is made.
+changes-orderly : (r : Read Command) (l m : Lent) → Fine l → First (read-needs r l) DONE → Changes r l m → Orderly (l .tables) → Orderly (m .tables)
+changes-orderly (Read.got Command.set-logic e) l m f met is o = subst (λ (x : Lent). Orderly (x .tables)) (sym is) o
+changes-orderly (Read.got Command.check-sat e) l m f met is o = subst (λ (x : Lent). Orderly (x .tables)) (sym is) o
+changes-orderly (Read.got Command.exit e) l m f met is o = subst (λ (x : Lent). Orderly (x .tables)) (sym is) o
+changes-orderly (Read.got (Command.declare w) e) l m f met is o = subst (λ (x : Lent). Orderly (x .tables)) (sym is) o
+changes-orderly (Read.got (Command.assert t) e) l m f met (inl (some, is)) o = subst (λ (x : Lent). Orderly (x .tables)) (sym is) o
+changes-orderly (Read.got (Command.assert t) e) l m f met (inr (none, (u, (clash, (adds, is))))) o =
+    let rs = rules-of-term false t in
+    let granted = assert-met t l met in
+    subst (λ (x : Lent). Orderly (x .tables)) (sym is)
+    (adds-orderly (map (resolved (step-of l)) rs) (l .tables) u clash (tables-kept f) (rules-in l f rs (granted .0))
+    (omega (arith, granted .1 none, map-length (step-of l) rs)) adds o)
+changes-orderly (Read.got (Command.push n) e) l m f met is o = subst (λ (x : Lent). Orderly (x .tables)) (sym is) o
+changes-orderly (Read.got (Command.pop n) e) l m f met (t, (p, is)) o =
+    subst (λ (x : Lent). Orderly (x .tables)) (sym is) (in-order-popped (said-by n) (f .sound .tables-sound .counts-in .rules-in) p o)
+changes-orderly (Read.got (Command.get-value ws) e) l m f met is o = subst (λ (x : Lent). Orderly (x .tables)) (sym is) o
+changes-orderly (Read.stop Why.other i) l m f met is o = subst (λ (x : Lent). Orderly (x .tables)) (sym is) o
+changes-orderly (Read.stop Why.wrong i) l m f met impossible o = absurd impossible
+changes-orderly (Read.stop Why.size i) l m f met impossible o = absurd impossible
+
 pub does-orderly :
-    (c : Command) (s : List ℕ) (k w : ℕ) (before after : Lent) → Fine before → First (command-needs c s before) DONE → Does c s k before w after → Orderly (before .tables) → Orderly (after .tables)
-does-orderly SetLogic s k w before after f met (w-is, is) o = subst (λ (l : Lent). Orderly (l .tables)) (sym is) o
-does-orderly (Declare a b) s k w before after f met (w-is, is) o = subst (λ (l : Lent). Orderly (l .tables)) (sym is) o
-does-orderly (Assert i) s k w before after f met (w-is, inl (some, is)) o = subst (λ (l : Lent). Orderly (l .tables)) (sym is) o
-does-orderly (Assert i) s k w before after f met (w-is, inr (none, (t, (clash, (adds, is))))) o =
-    let granted = assert-met i s before met in
-    subst (λ (l : Lent). Orderly (l .tables)) (sym is)
-    (adds-orderly (map (resolved (step-of before)) (rules-at s i)) (before .tables) t clash (tables-kept f) (rules-in before f (rules-at s i) (granted .0))
-    (omega (arith, granted .1 none, map-length (step-of before) (rules-at s i))) adds o)
-does-orderly (Push n) s k w before after f met (w-is, is) o = subst (λ (l : Lent). Orderly (l .tables)) (sym is) o
-does-orderly (Pop n) s k w before after f met (w-is, (t, (p, is))) o =
-    subst (λ (l : Lent). Orderly (l .tables)) (sym is) (in-order-popped n (f .sound .tables-sound .counts-in .rules-in) p o)
-does-orderly CheckSat s k w before after f met (w-is, is) o = subst (λ (l : Lent). Orderly (l .tables)) (sym is) o
-does-orderly (GetValue i) s k w before after f met (w-is, is) o = subst (λ (l : Lent). Orderly (l .tables)) (sym is) o
-does-orderly Exit s k w before after f met (w-is, is) o = subst (λ (l : Lent). Orderly (l .tables)) (sym is) o
-does-orderly Unsupported s k w before after f met (w-is, is) o = subst (λ (l : Lent). Orderly (l .tables)) (sym is) o
-does-orderly Syntax s k w before after f met impossible o = absurd impossible
-does-orderly Oversize s k w before after f met impossible o = absurd impossible
+    (r : Read Command) (k w : ℕ) (l m : Lent) → Fine l → First (read-needs r l) DONE → Does r k l w m → Orderly (l .tables) → Orderly (m .tables)
+does-orderly r k w l m f met (mid, (changes, (w-is, is))) o = subst (λ (x : Lent). Orderly (x .tables)) (sym is) (changes-orderly r l mid f met changes o)

@@ -5,17 +5,19 @@ use native.Mathlib.Decide.{decLt}
 use mathlib.Core.Path.{_≡_, refl, sym, ap}
 use mathlib.Core.Bool.{cond}
 use mathlib.Core.List.{List}
-use mathlib.Core.Logic.{_↔_}
 use lib.Dec.{ltb}
 use lib.IntN.{ℤ, pos}
 use borrow.Author.Tests.{lt-ltb, le-ltb}
 use Rattle.meaning.specs.Tables.{at}
+use Rattle.reading.specs.Tree.{Piece}
 use Rattle.script_meaning.specs.Record.{Lent, name-of, Known, step-of}
+use Rattle.script_meaning.specs.Effect.{shown, day-of, values}
 use Rattle.script_meaning.specs.Traces.{History, Agrees, Satisfiable, Soonest}
 use Rattle.script_meaning.proofs.Seeking.{known-name}
-use Rattle.script_meaning.proofs.Adjoining.{Kept-in}
+use Rattle.script_meaning.proofs.Needed.{EachName}
+use Rattle.script_meaning.proofs.Printing.{shown-same}
 use Rattle.script_meaning.proofs.Named.{agrees-too, agrees-drop}
-use Rattle.script_meaning.proofs.InForce.{InForce, all-levels, by-name}
+use Rattle.script_meaning.proofs.InForce.{InForce, by-name, all-exact}
 
 -- The day of each name in the plan: that of its step. A name that is not declared has day 0.
 abbrev pub plan-of : Lent → List ℕ → ℕ
@@ -24,6 +26,10 @@ plan-of l w = cond (ltb (step-of l w) (l .notes .names)) (at (l .tables .days) (
 -- A declared name has the day of its step.
 pub plan-known : (l : Lent) (w : List ℕ) → Known l w → plan-of l w ≡ at (l .tables .days) (step-of l w)
 plan-known l w known = rw (lt-ltb (step-of l w) (l .notes .names) known) refl
+
+-- So the values of declared names, as `get-value` prints them, are their days in the plan.
+pub values-shown : (l : Lent) (ws : List Piece) → EachName (Known l) ws → values (step-of l) (l .tables .days) ws ≡ shown (plan-of l) ws
+values-shown l = shown-same (day-of (step-of l) (l .tables .days)) (plan-of l) (Known l) (λ w known. sym (plan-known l w known))
 
 module _ (l : Lent) (h : History) (i : InForce l h) where
   -- The days d, step by step: each step has the day of the name that stands for it.
@@ -54,19 +60,13 @@ module _ (l : Lent) (h : History) (i : InForce l h) where
   soonest-if clean = record {
     agrees =
         agrees-too (Known l) (by-name l (λ v. pos (at (l .tables .days) v))) (λ w. pos (plan-of l w)) (λ w known. ap pos (sym (plan-known l w known))) h (i .declared)
-        (exact (λ v. pos (at (l .tables .days) v)) .0 (i .fine .sound .tables-sound .days-earliest .plan));
+        (all-exact l h i clean (λ v. pos (at (l .tables .days) v)) .0 (i .fine .sound .tables-sound .days-earliest .plan));
     no-later = λ q agrees w. tell q agrees w (decLt (step-of l w) (l .notes .names));
   }
     where
-      exact : (e : ℕ → ℤ) → Kept-in e (l .tables) ↔ Agrees (by-name l e) h
-      exact e =
-          let all = all-levels (l .tables) (i .fine .sound .tables-sound) (l .tables .counts .marks) (omega arith) e in
-          let law = i .exact 0 (l .tables .counts .marks) (omega arith) (λ some. absurd (some clean)) e in
-          ((λ kept. law .0 (all .1 kept)), (λ agrees. all .0 (law .1 agrees)))
-
       tell : (q : List ℕ → ℕ) → Agrees (λ w. pos (q w)) h → (w : List ℕ) → Dec (step-of l w < l .notes .names) → plan-of l w ≤ q w
       tell q agrees w (yes known) =
-          let kept = exact (λ v. pos (q (name-of l v))) .1 (agrees-by-step (λ x. pos (q x)) agrees) in
+          let kept = all-exact l h i clean (λ v. pos (q (name-of l v))) .1 (agrees-by-step (λ x. pos (q x)) agrees) in
           omega (
             arith,
             plan-known l w known,

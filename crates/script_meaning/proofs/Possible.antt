@@ -2,13 +2,13 @@
 -- a pop finds the earliest plan of the rules left, as Add and Back do.
 use Prim.Native.Nat.{ℕ, _+_, _-_, _≤_}
 use native.Mathlib.Omega.{arith}
-use native.Mathlib.Decide.{ℕ-discrete, decLe}
+use native.Mathlib.Decide.{ℕ-discrete}
 use mathlib.Core.Path.{_≡_, refl, sym, ap, subst}
 use mathlib.Core.Bool.{Bool, true, false}
 use mathlib.Core.List.{List, [], _∷_, map}
 use mathlib.Core.Logic.{_⊎_, inl, inr}
 use lib.ListN.{length, replicate, length-replicate}
-use Rattle.meaning.specs.Bounds.{STEPS, RULES, DONE, SHORT, CONFLICT}
+use Rattle.meaning.specs.Bounds.{STEPS, RULES, DONE, SHORT, CONFLICT, SYNTAX, SIZE}
 use Rattle.meaning.specs.Rules.{Rule, InSteps, InBounds, Earliest, Refutes}
 use Rattle.meaning.specs.Tables.{Tables, at, down-to, with-days}
 use Rattle.meaning.specs.Promise.{First}
@@ -20,19 +20,19 @@ use Rattle.meaning.proofs.Sequences.{Kept}
 use Rattle.meaning.proofs.Possible.{Allowed, Outcome, allowed-outcome, refusal-met, written, written-at, written-past, plan-fits, plan-or-ring, open-met, add-met}
 use Rattle.lent.specs.Promises.{Border}
 use Rattle.span.specs.Span.{span}
-use Rattle.form.specs.declared.Command.{Command}
-use Rattle.form.specs.declared.Command.the-variants.{SetLogic, Declare, Assert, Push, Pop, CheckSat, GetValue, Exit, Unsupported, Syntax, Oversize}
-use Rattle.form.specs.Form.{form}
-use Rattle.atoms.specs.Atoms.{rules-at}
+use Rattle.reading.specs.Tree.{said-by, rules-of-term, Command}
+use Rattle.reading.specs.Reading.{Why, Read, reading}
+use Rattle.reading.specs.Saying.{resolved}
 use Rattle.levels.specs.Levels.{Popped}
 use Rattle.script_meaning.specs.Record.{Lent, StartRoom, ScriptRoom, ScriptSound, step-of, no-notes}
-use Rattle.script_meaning.specs.Effect.{Does, HeldNow, AddsAll, resolved}
-use Rattle.script_meaning.specs.Commands.{own, command-needs, command-meaning, start-meaning}
-use Rattle.script_meaning.proofs.Granted.{assert-met, granted}
+use Rattle.script_meaning.specs.Effect.{Does, Changes, HeldNow, AddsAll}
+use Rattle.script_meaning.specs.Commands.{read-needs, text-needs, command-meaning, start-meaning}
+use Rattle.script_meaning.proofs.Needed.{last-met}
+use Rattle.script_meaning.proofs.Granted.{assert-met, text-met, granted}
 use Rattle.script_meaning.proofs.Refusing.{never-conflict}
 use Rattle.script_meaning.proofs.Adding.{Each, holds-kept}
 use Rattle.script_meaning.proofs.Keeping.{Fine, tables-kept, tables-border, rules-in, map-length}
-use Rattle.script_meaning.proofs.Decided.{start-room?, script-room?, script-sound?, first-told, command-told}
+use Rattle.script_meaning.proofs.Decided.{start-room?, script-room?, script-sound?, first-told, text-told}
 
 -- ---- commands whose needs are met
 
@@ -92,45 +92,46 @@ pop-some n t b = (
     plan : ℕ → ℕ
     plan = planned .0
 
--- A command whose needs are all met can be carried out.
-pub does-some : (c : Command) (s : List ℕ) (k : ℕ) (l : Lent) → Fine l → First (command-needs c s l) DONE → (w : ℕ) × ((m : Lent) × Does c s k l w m)
-does-some SetLogic s k l f met = (_, (_, (refl, refl)))
-does-some (Declare a b) s k l f met = (_, (_, (refl, refl)))
-does-some (Assert i) s k l f met = tell (ℕ-discrete (l .notes .broken) 0)
+-- A text whose needs are all met can be carried out.
+changes-some : (r : Read Command) (l : Lent) → Fine l → First (read-needs r l) DONE → (m : Lent) × Changes r l m
+changes-some (Read.got Command.set-logic e) l f met = (_, refl)
+changes-some (Read.got Command.check-sat e) l f met = (_, refl)
+changes-some (Read.got Command.exit e) l f met = (_, refl)
+changes-some (Read.got (Command.declare w) e) l f met = (_, refl)
+changes-some (Read.got (Command.assert t) e) l f met = tell (ℕ-discrete (l .notes .broken) 0)
   where
-    tell : Dec (l .notes .broken ≡ 0) → (w : ℕ) × ((m : Lent) × Does (Assert i) s k l w m)
-    tell (no some) = (0, (_, (refl, inl (some, refl))))
+    tell : Dec (l .notes .broken ≡ 0) → (m : Lent) × Changes (Read.got (Command.assert t) e) l m
+    tell (no some) = (_, inl (some, refl))
     tell (yes none) =
-        let g = assert-met i s l met in
-        let a = adds-some (map (resolved (step-of l)) (rules-at s i)) (l .tables) (tables-kept f) (rules-in l f (rules-at s i) (g .0))
-        (omega (arith, g .1 none, map-length (step-of l) (rules-at s i))) in
-        (0, (_, (refl, inr (none, (a .1 .0, (a .0, (a .1 .1, refl)))))))
-does-some (Push n) s k l f met = (_, (_, (refl, refl)))
-does-some (Pop n) s k l f met =
-    let p = pop-some n (l .tables) (tables-border f) in
-    (0, (_, (refl, (p .0, (p .1, refl)))))
-does-some CheckSat s k l f met = (_, (_, (refl, refl)))
-does-some (GetValue i) s k l f met = (_, (_, (refl, refl)))
-does-some Exit s k l f met = (_, (_, (refl, refl)))
-does-some Unsupported s k l f met = (_, (_, (refl, refl)))
-does-some Syntax s k l f (inl (e, none)) = absurd (omega (arith, e))
-does-some Syntax s k l f (inr (impossible, rest)) = absurd impossible
-does-some Oversize s k l f (inl (e, none)) = absurd (omega (arith, e))
-does-some Oversize s k l f (inr (impossible, rest)) = absurd impossible
+        let rs = rules-of-term false t in
+        let g = assert-met t l met in
+        let a = adds-some (map (resolved (step-of l)) rs) (l .tables) (tables-kept f) (rules-in l f rs (g .0)) (omega (arith, g .1 none, map-length (step-of l) rs)) in
+        (_, inr (none, (a .1 .0, (a .0, (a .1 .1, refl)))))
+changes-some (Read.got (Command.push n) e) l f met = (_, refl)
+changes-some (Read.got (Command.pop n) e) l f met =
+    let p = pop-some (said-by n) (l .tables) (tables-border f) in
+    (_, (p .0, (p .1, refl)))
+changes-some (Read.got (Command.get-value ws) e) l f met = (_, refl)
+changes-some (Read.stop Why.other i) l f met = (_, refl)
+changes-some (Read.stop Why.wrong i) l f met = absurd (last-met SYNTAX ⊥ (λ e. omega arith) met)
+changes-some (Read.stop Why.size i) l f met = absurd (last-met SIZE ⊥ (λ e. omega arith) met)
+
+pub does-some : (r : Read Command) (k : ℕ) (l : Lent) → Fine l → First (read-needs r l) DONE → (w : ℕ) × ((m : Lent) × Does r k l w m)
+does-some r k l f met =
+    let (mid, changes) = changes-some r l f met in
+    (_, (_, (mid, (changes, (refl, refl)))))
 
 -- ---- the calls, where all is met
 
 -- **Command can be met**: where all its needs are met DONE is allowed.
-pub command-met :
-    (text : List ℕ) (l : Lent) → ScriptRoom 0 l → ScriptSound l → 1 ≤ span text → First (command-needs (form (own text)) (own text) l) DONE →
-    Allowed (command-meaning text l) l DONE
-command-met text l room sound spans met =
-    let d = does-some (form (own text)) (own text) 0 l (record { room = room .start-room; sound = sound }) met in
+pub command-met : (text : List ℕ) (l : Lent) → ScriptRoom 0 l → ScriptSound l → First (text-needs text l) DONE → Allowed (command-meaning text l) l DONE
+command-met text l room sound met =
+    let d = does-some (reading text) 0 l (record { room = room .start-room; sound = sound }) (text-met text l met .1) in
     record {
       answer = record { number = DONE; one = span text; two = d .0 };
       after = d .1 .0;
       keeps = record {
-        first-unmet = inr (room, inr (sound, inr (spans, met)));
+        first-unmet = inr (room, inr (sound, met));
         when-done = λ e. record { bytes-read = refl; done = d .1 .1 };
         on-conflict = λ e. absurd (omega (arith, e));
         when-refused = λ refused. absurd (refused refl);
@@ -168,17 +169,16 @@ start-possible l = tell (start-room? l)
 -- **Every input of command** has an outcome that its promise allows.
 pub command-possible : (text : List ℕ) (l : Lent) → Outcome (command-meaning text l) l
 command-possible text l =
-    let first = first-told (command-meaning text l .asks) (script-room? 0 l, (script-sound? l, (decLe 1 (span text), command-told (form (own text)) (own text) l))) in
+    let first = first-told (command-meaning text l .asks) (script-room? 0 l, (script-sound? l, text-told text l)) in
     tell (first .0) (first .1) (ℕ-discrete (first .0) DONE)
   where
     not-conflict : (g : ℕ) → First (command-meaning text l .asks) g → g ≡ CONFLICT → ⊥
     not-conflict g (inl (is, unmet)) e = omega (arith, is, e)
     not-conflict g (inr (room, inl (is, unmet))) e = omega (arith, is, e)
-    not-conflict g (inr (room, inr (sound, inl (is, unmet)))) e = omega (arith, is, e)
-    not-conflict g (inr (room, inr (sound, inr (spans, first)))) e = never-conflict (form (own text)) (own text) l g first e
+    not-conflict g (inr (room, inr (sound, first))) e = never-conflict text l g first e
 
     tell : (g : ℕ) → First (command-meaning text l .asks) g → Dec (g ≡ DONE) → Outcome (command-meaning text l) l
     tell g first (no refuses) = allowed-outcome (refusal-met (command-meaning text l) l g refuses (not-conflict g first) first)
     tell g first (yes done) =
         let x = granted text l (subst (First (command-meaning text l .asks)) done first) in
-        allowed-outcome (command-met text l (x .room) (x .sound) (x .spans) (x .met))
+        allowed-outcome (command-met text l (x .room) (x .sound) (x .met))

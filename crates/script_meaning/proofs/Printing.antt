@@ -1,137 +1,106 @@
 -- The bytes that a command prints, and that they have room: at most ROOM.
 use Prim.Native.Nat.{ℕ, _+_, _*_, _-_, _≤_, _<_}
 use native.Mathlib.Omega.{arith}
-use native.Mathlib.Decide.{decLt}
-use mathlib.Core.Path.{_≡_, refl, sym, _∙_, ap, subst}
+use mathlib.Core.Path.{_≡_, refl, _∙_, ap, subst}
 use mathlib.Core.Bool.{Bool, true, false}
 use mathlib.Core.List.{List, [], _∷_, _++_}
 use mathlib.Core.Logic.{inl, inr}
 use lib.Dec.{eqb}
-use lib.ListN.{length, length-append}
-use borrow.Author.Tests.{le-ltb}
-use Rattle.meaning.specs.Bounds.{LARGEST, ROOM, DONE, STEPS}
+use lib.ListN.{length}
+use Rattle.meaning.specs.Bounds.{LARGEST, ROOM, ASKED, DONE, STEPS}
 use Rattle.meaning.specs.Tables.{at}
 use Rattle.meaning.specs.Calls.{rules-of, held-in}
 use Rattle.meaning.specs.Promise.{First}
 use Rattle.meaning.proofs.DayBound.{day-bound}
-use Rattle.form.specs.declared.Command.{Command}
-use Rattle.form.specs.declared.Command.the-variants.{SetLogic, Declare, Assert, Push, Pop, CheckSat, GetValue, Exit, Unsupported, Syntax, Oversize}
-use Rattle.form.specs.Form.{form}
-use Rattle.atoms.specs.Atoms.{Named, rules-at}
-use Rattle.write.specs.Written.{over, decimal}
-use Rattle.write.proofs.Laws.{over-none, part-written, part-before}
+use Rattle.reading.specs.Tree.{Piece, Command}
+use Rattle.reading.specs.Reading.{Why, Read, reading}
+use Rattle.write.specs.Written.{over}
+use Rattle.write.proofs.Laws.{part-written, part-before}
 use Rattle.script_meaning.specs.Record.{Lent, Known, step-of}
-use Rattle.script_meaning.specs.Effect.{Does, Asserts, either-answer, SAT, UNSAT, UNSUPPORTED, asked, pair, shown-pairs, shown, day-of, values}
-use Rattle.script_meaning.specs.Commands.{command-needs}
+use Rattle.script_meaning.specs.Effect.{Does, Changes, prints, either-answer, SAT, UNSAT, pair, shown-pairs, shown, day-of}
+use Rattle.script_meaning.specs.Commands.{read-needs, text-needs}
 use Rattle.script_meaning.specs.Told.{part}
 use Rattle.script_meaning.proofs.Seeking.{known-short}
-use Rattle.script_meaning.proofs.Needed.{EachName, names-met}
-use Rattle.script_meaning.proofs.Granted.{value-met}
+use Rattle.script_meaning.proofs.Needed.{EachName}
+use Rattle.script_meaning.proofs.Granted.{value-met, text-met}
+use Rattle.reading.proofs.Begun.{few-asked}
 use Rattle.script_meaning.proofs.Keeping.{Fine, shelved-of}
-use Rattle.script_meaning.proofs.Naming.{asked-few}
 use Rattle.script_meaning.proofs.Lengths.{shown-short}
-use Rattle.script_meaning.proofs.Planning.{plan-of, plan-known}
-
--- The bytes that the command c of text s prints.
-abbrev pub printed : Command → List ℕ → Lent → List ℕ
-printed SetLogic s l = []
-printed (Declare a b) s l = []
-printed (Assert i) s l = []
-printed (Push n) s l = []
-printed (Pop n) s l = []
-printed CheckSat s l = either-answer (eqb (l .notes .broken) 0) SAT UNSAT
-printed (GetValue i) s l = values (step-of l) (l .tables .days) (asked s i)
-printed Exit s l = []
-printed Unsupported s l = UNSUPPORTED
-printed Syntax s l = []
-printed Oversize s l = []
 
 -- What is left was there, with those bytes written over it from place k on.
 pub record Written (k n : ℕ) (w : List ℕ) (before after : List ℕ) : Type 0 where
   pub as-many : n ≡ length w
   pub left : after ≡ over before k w
 
--- A command that prints nothing leaves the bytes as they were.
-silent : (k n : ℕ) (l m : Lent) → n ≡ 0 → m .out ≡ l .out → Written k n [] (l .out) (m .out)
-silent k n l m none same = record { as-many = none; left = same ∙ sym (over-none (l .out) k) }
+-- No change is made in the bytes for the answer.
+pub changes-out : (r : Read Command) (l m : Lent) → Changes r l m → m .out ≡ l .out
+changes-out (Read.got Command.set-logic e) l m is = ap (λ (x : Lent). x .out) is
+changes-out (Read.got Command.check-sat e) l m is = ap (λ (x : Lent). x .out) is
+changes-out (Read.got Command.exit e) l m is = ap (λ (x : Lent). x .out) is
+changes-out (Read.got (Command.declare w) e) l m is = ap (λ (x : Lent). x .out) is
+changes-out (Read.got (Command.assert t) e) l m (inl (some, is)) = ap (λ (x : Lent). x .out) is
+changes-out (Read.got (Command.assert t) e) l m (inr (none, (u, (clash, (adds, is))))) = ap (λ (x : Lent). x .out) is
+changes-out (Read.got (Command.push n) e) l m is = ap (λ (x : Lent). x .out) is
+changes-out (Read.got (Command.pop n) e) l m (t, (popped, is)) = ap (λ (x : Lent). x .out) is
+changes-out (Read.got (Command.get-value ws) e) l m is = ap (λ (x : Lent). x .out) is
+changes-out (Read.stop Why.other i) l m is = ap (λ (x : Lent). x .out) is
+changes-out (Read.stop Why.wrong i) l m impossible = absurd impossible
+changes-out (Read.stop Why.size i) l m impossible = absurd impossible
 
--- An assertion writes nothing.
-asserts-out : (rs : List Named) (l m : Lent) → Asserts rs l m → m .out ≡ l .out
-asserts-out rs l m (inl (some, is)) = ap (λ (x : Lent). x .out) is
-asserts-out rs l m (inr (none, (t, (clash, (adds, is))))) = ap (λ (x : Lent). x .out) is
+-- Every command writes the bytes that it prints and no others.
+pub does-printed : (r : Read Command) (k n : ℕ) (l m : Lent) → Does r k l n m → Written k n (prints r l) (l .out) (m .out)
+does-printed r k n l m (mid, (changes, (n-is, is))) = record {
+  as-many = n-is;
+  left = ap (λ (x : Lent). x .out) is ∙ ap (λ (b : List ℕ). over b k (prints r l)) (changes-out r l mid changes);
+}
 
--- Every command writes those bytes and no others.
-pub does-printed : (c : Command) (s : List ℕ) (k n : ℕ) (l m : Lent) → Does c s k l n m → Written k n (printed c s l) (l .out) (m .out)
-does-printed SetLogic s k n l m does = silent k n l m (does .0) (ap (λ (x : Lent). x .out) (does .1))
-does-printed (Declare a b) s k n l m does = silent k n l m (does .0) (ap (λ (x : Lent). x .out) (does .1))
-does-printed (Assert i) s k n l m does = silent k n l m (does .0) (asserts-out (rules-at s i) l m (does .1))
-does-printed (Push i) s k n l m does = silent k n l m (does .0) (ap (λ (x : Lent). x .out) (does .1))
-does-printed (Pop i) s k n l m (n-is, (t, (popped, is))) = silent k n l m n-is (ap (λ (x : Lent). x .out) is)
-does-printed CheckSat s k n l m does = record { as-many = does .0; left = ap (λ (x : Lent). x .out) (does .1) }
-does-printed (GetValue i) s k n l m does = record { as-many = does .0; left = ap (λ (x : Lent). x .out) (does .1) }
-does-printed Exit s k n l m does = silent k n l m (does .0) (ap (λ (x : Lent). x .out) (does .1))
-does-printed Unsupported s k n l m does = record { as-many = does .0; left = ap (λ (x : Lent). x .out) (does .1) }
-does-printed Syntax s k n l m does = absurd does
-does-printed Oversize s k n l m does = absurd does
-
--- The values of declared names are their days in the plan.
-pairs-shown : (l : Lent) (ws : List (List ℕ)) → EachName (Known l) ws → shown-pairs (day-of (step-of l) (l .tables .days)) ws ≡ shown-pairs (plan-of l) ws
-pairs-shown l [] each = refl
-pairs-shown l (w ∷ ws) each =
-    ap (λ (d : ℕ). 32 ∷ (pair w d ++ shown-pairs (day-of (step-of l) (l .tables .days)) ws)) (sym (plan-known l w (each .0)))
-    ∙ ap (λ (v : List ℕ). 32 ∷ (pair w (plan-of l w) ++ v)) (pairs-shown l ws (each .1))
-
-pub values-shown : (l : Lent) (ws : List (List ℕ)) → EachName (Known l) ws → values (step-of l) (l .tables .days) ws ≡ shown (plan-of l) ws
-values-shown l [] each = refl
-values-shown l (w ∷ ws) each =
-    ap (λ (d : ℕ). 40 ∷ (pair w d ++ shown-pairs (day-of (step-of l) (l .tables .days)) ws)) (sym (plan-known l w (each .0)))
-    ∙ ap (λ (v : List ℕ). 40 ∷ (pair w (plan-of l w) ++ v)) (pairs-shown l ws (each .1))
-
--- A day of the plan fits 32 bits, so the values of at most ASKED names have room.
-plan-small : (l : Lent) → Fine l → (w : List ℕ) → plan-of l w < 4294967296
-plan-small l f w = tell (decLt (step-of l w) (l .notes .names))
+-- The day of a declared name fits 32 bits.
+day-small : (l : Lent) → Fine l → (w : List ℕ) → Known l w → day-of (step-of l) (l .tables .days) w < 4294967296
+day-small l f w known =
+    let t = f .sound .tables-sound in
+    small (l .tables .counts .steps) (f .sound .all-steps)
+    (day-bound (l .tables .counts .steps) (rules-of (l .tables)) (held-in (l .tables)) (at (l .tables .days)) (t .rules-good) (t .days-earliest) (step-of l w)
+    (omega (arith, known, f .sound .names-in, f .sound .all-steps)))
   where
-    tell : Dec (step-of l w < l .notes .names) → plan-of l w < 4294967296
-    tell (yes known) =
-        let t = f .sound .tables-sound in
-        let day =
-        day-bound (l .tables .counts .steps) (rules-of (l .tables)) (held-in (l .tables)) (at (l .tables .days)) (t .rules-good) (t .days-earliest)
-        (step-of l w) (omega (arith, known, f .sound .names-in, f .sound .all-steps)) in
-        small (l .tables .counts .steps) (at (l .tables .days) (step-of l w)) (plan-of l w) (f .sound .all-steps) day (plan-known l w known)
-      where
-        small : (n d p : ℕ) → n ≡ STEPS → d ≤ (n - 1) * LARGEST → p ≡ d → p < 4294967296
-        small n d p steps day is =
-            let bound : d ≤ (STEPS - 1) * LARGEST = subst (λ (x : ℕ). d ≤ (x - 1) * LARGEST) steps day in
-            omega arith
-    tell (no unknown) = rw (le-ltb (step-of l w) (l .notes .names) (omega arith)) (omega arith)
+    small : (n : ℕ) → n ≡ STEPS → at (l .tables .days) (step-of l w) ≤ (n - 1) * LARGEST → at (l .tables .days) (step-of l w) < 4294967296
+    small n steps day =
+        let bound : at (l .tables .days) (step-of l w) ≤ (STEPS - 1) * LARGEST = subst (λ (x : ℕ). at (l .tables .days) (step-of l w) ≤ (x - 1) * LARGEST) steps day in
+        omega arith
 
-module _ (l : Lent) (f : Fine l) where
-  shown-room : (ws : List (List ℕ)) → EachName (Known l) ws → length (shown (plan-of l) ws) ≤ 46 * length ws + 3
-  shown-room = shown-short (plan-of l) (Known l) (λ w known. known-short (l .names) (l .lens) w (l .notes .names) (shelved-of f) known) (plan-small l f)
+answer-room : (b : Bool) → length (either-answer b SAT UNSAT) ≤ ROOM
+answer-room true = omega arith
+answer-room false = omega arith
 
-  answer-room : (b : Bool) → length (either-answer b SAT UNSAT) ≤ ROOM
-  answer-room true = omega arith
-  answer-room false = omega arith
+-- What was read asks for at most ASKED names.
+abbrev pub FewAsked : Read Command → Type 0
+FewAsked r = (ws : List Piece) (e : ℕ) → r ≡ Read.got (Command.get-value ws) e → length ws ≤ ASKED
 
-  -- The names that a get-value asks for are declared, and what it prints are their days in the plan.
-  pub value-names : (s : List ℕ) (i : ℕ) → First (command-needs (GetValue i) s l) DONE → EachName (Known l) (asked s i)
-  value-names s i met = names-met (Known l) (asked s i) (value-met i s l met)
+-- Every command has room for what it prints.
+pub prints-room : (r : Read Command) (l : Lent) → Fine l → FewAsked r → First (read-needs r l) DONE → length (prints r l) ≤ ROOM
+prints-room (Read.got Command.set-logic e) l f few met = omega arith
+prints-room (Read.got Command.check-sat e) l f few met = answer-room (eqb (l .notes .broken) 0)
+prints-room (Read.got Command.exit e) l f few met = omega arith
+prints-room (Read.got (Command.declare w) e) l f few met = omega arith
+prints-room (Read.got (Command.assert t) e) l f few met = omega arith
+prints-room (Read.got (Command.push n) e) l f few met = omega arith
+prints-room (Read.got (Command.pop n) e) l f few met = omega arith
+prints-room (Read.got (Command.get-value ws) e) l f few met =
+    let short = shown-short (day-of (step-of l) (l .tables .days)) (Known l) (λ w known. known-short (l .names) (l .lens) w (l .notes .names) (shelved-of f) known) (day-small l f) in
+    omega (arith, short ws (value-met ws l met), few ws e refl)
+prints-room (Read.stop why i) l f few met = omega arith
 
-  -- Every command has room for what it prints.
-  pub printed-room : (c : Command) (s : List ℕ) → form s ≡ c → First (command-needs c s l) DONE → length (printed c s l) ≤ ROOM
-  printed-room SetLogic s is met = omega arith
-  printed-room (Declare a b) s is met = omega arith
-  printed-room (Assert i) s is met = omega arith
-  printed-room (Push n) s is met = omega arith
-  printed-room (Pop n) s is met = omega arith
-  printed-room CheckSat s is met = answer-room (eqb (l .notes .broken) 0)
-  printed-room (GetValue i) s is met =
-      let each = value-names s i met in
-      omega (arith, ap length (values-shown l (asked s i) each), shown-room (asked s i) each, asked-few s i is)
-  printed-room Exit s is met = omega arith
-  printed-room Unsupported s is met = omega arith
-  printed-room Syntax s is met = omega arith
-  printed-room Oversize s is met = omega arith
+pub printed-room : (text : List ℕ) (l : Lent) → Fine l → First (text-needs text l) DONE → length (prints (reading text) l) ≤ ROOM
+printed-room text l f met = prints-room (reading text) l f (λ ws e is. few-asked text ws e is .1) (text-met text l met .1)
+
+-- Names with the same days are shown alike.
+module _ (p q : List ℕ → ℕ) (K : List ℕ → Type 0) (same : (w : List ℕ) → K w → p w ≡ q w) where
+  pairs-same : (ws : List Piece) → EachName K ws → shown-pairs p ws ≡ shown-pairs q ws
+  pairs-same [] each = refl
+  pairs-same (w ∷ ws) each = λ i. 32 ∷ (pair (w .letters) (same (w .letters) (each .0) i) ++ pairs-same ws (each .1) i)
+
+  pub shown-same : (ws : List Piece) → EachName K ws → shown p ws ≡ shown q ws
+  shown-same [] each = refl
+  shown-same (w ∷ ws) each = λ i. 40 ∷ (pair (w .letters) (same (w .letters) (each .0) i) ++ pairs-same ws (each .1) i)
 
 -- What was written stands there; what stood before it still does.
 pub written-part : (k n : ℕ) (w before after : List ℕ) → Written k n w before after → k + length w ≤ length before → part k n after ≡ w

@@ -13,7 +13,7 @@ use Rattle.text.specs.Lexicon.{same-bytes}
 use Rattle.names.specs.Names.{name-at, Shelved, Unknown, Found, AllDifferent}
 use Rattle.text.proofs.Equal.{same-equal, equal-same}
 use Rattle.names.proofs.Unique.{found-unique}
-use Rattle.script_meaning.specs.Record.{seek, step-in, KnownIn}
+use Rattle.reading.specs.Saying.{seek, step-in, KnownIn}
 
 module _ (names lens w : List ℕ) where
   -- r is the number of a name w among the `left` names from number k on, or it is past them and none of them is w.

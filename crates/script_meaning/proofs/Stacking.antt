@@ -4,7 +4,7 @@ use native.Mathlib.Omega.{arith}
 use native.Mathlib.Decide.{decLt}
 use mathlib.Core.Path.{_≡_, refl, sym, _∙_, ap, subst}
 use mathlib.Core.List.{[], _∷_}
-use mathlib.Core.Logic.{_↔_}
+use mathlib.Core.Logic.{_↔_, Iff·symm, Iff·trans}
 use lib.ListN.{length, drop, length-drop}
 use lib.Seq.{drop-nil}
 use lib.IntN.{ℤ}
@@ -24,7 +24,7 @@ use Rattle.script_meaning.proofs.InForce.{InForce, KeptTo, all-levels, 
 -- ---- levels put on
 
 -- Of the newest levels some are taken off again, or all and older ones too.
-newest-off : (n k : ℕ) (h : History) → k ≤ n → drop k (with-levels n h) ≡ with-levels (n - k) h
+pub newest-off : (n k : ℕ) (h : History) → k ≤ n → drop k (with-levels n h) ≡ with-levels (n - k) h
 newest-off n zero h below = ap (λ (m : ℕ). with-levels m h) same
   where
     same : n ≡ n - 0
@@ -35,7 +35,7 @@ newest-off (suc n) (suc k) h below = newest-off n k h (omega arith) ∙ ap (λ (
     same : n - k ≡ suc n - suc k
     same = omega arith
 
-all-off : (n k : ℕ) (h : History) → n ≤ k → drop k (with-levels n h) ≡ drop (k - n) h
+pub all-off : (n k : ℕ) (h : History) → n ≤ k → drop k (with-levels n h) ≡ drop (k - n) h
 all-off zero k h above = ap (λ (m : ℕ). drop m h) same
   where
     same : k ≡ k - 0
@@ -60,17 +60,13 @@ module _ (n : ℕ) (l : Lent) (h : History) (i : InForce l h) where
     where
       tell : Dec (j < l .tables .counts .marks) → KeptTo (l .tables) j e ↔ Agrees (by-name l e) (drop k (with-levels n h))
       tell (yes older) =
-          let was = i .exact (k - n) j (omega arith) clear e in
-          let off : drop (k - n) h ≡ drop k (with-levels n h) = sym (all-off n k h (omega arith)) in
-          ((λ kept. subst (Agrees (by-name l e)) off (was .0 kept)), (λ agrees. was .1 (subst (Agrees (by-name l e)) (sym off) agrees)))
+          subst (λ (x : History). KeptTo (l .tables) j e ↔ Agrees (by-name l e) x) (sym (all-off n k h (omega arith))) (i .exact (k - n) j (omega arith) clear e)
       tell (no newer) =
-          let was = i .exact 0 (l .tables .counts .marks) (omega arith) (λ some. omega (arith, clear some)) e in
+          let newest = l .tables .counts .marks in
           let all = all-levels (l .tables) (i .fine .sound .tables-sound) in
-          let off : drop k (with-levels n h) ≡ with-levels (n - k) h = newest-off n k h (omega arith) in
-          let empty = agrees-levels (by-name l e) (n - k) h in (
-            (λ kept. subst (Agrees (by-name l e)) (sym off) (empty .1 (was .0 (all (l .tables .counts .marks) (omega arith) e .1 (all j (omega arith) e .0 kept))))),
-            (λ agrees. all j (omega arith) e .1 (all (l .tables .counts .marks) (omega arith) e .0 (was .1 (empty .0 (subst (Agrees (by-name l e)) off agrees))))),
-          )
+          let was = i .exact 0 newest (omega arith) (λ some. omega (arith, clear some)) e in
+          subst (λ (x : History). KeptTo (l .tables) j e ↔ Agrees (by-name l e) x) (sym (newest-off n k h (omega arith)))
+          (Iff·trans (all j (omega arith) e) (Iff·trans (Iff·symm (all newest (omega arith) e)) (Iff·trans was (Iff·symm (agrees-levels (by-name l e) (n - k) h)))))
 
   pushed-none :
       (k j : ℕ) → k + j ≡ l .tables .counts .marks + n → j + 1 ≡ l .notes .broken → (e : ℕ → ℤ) → Agrees (by-name l e) (drop k (with-levels n h)) → ⊥
@@ -91,14 +87,14 @@ module _ (n : ℕ) (l : Lent) (h : History) (i : InForce l h) where
 -- ---- levels taken off
 
 -- What is left of tables where n marks are dropped: the rules whose level is not above the marks left, with their levels.
-record Left (n : ℕ) (t u : Tables) : Type 0 where
-  marks-left : u .counts .marks + n ≡ t .counts .marks
-  same-rules : u .rules ≡ t .rules
-  still-there : (i : ℕ) → held-to (u .counts .marks) (t .levels) i → held-in u i
-  none-new : (i : ℕ) → held-in u i → held-to (u .counts .marks) (t .levels) i
-  same-levels : (i : ℕ) → held-in u i → at (u .levels) i ≡ at (t .levels) i
+pub record Left (n : ℕ) (t u : Tables) : Type 0 where
+  pub marks-left : u .counts .marks + n ≡ t .counts .marks
+  pub same-rules : u .rules ≡ t .rules
+  pub still-there : (i : ℕ) → held-to (u .counts .marks) (t .levels) i → held-in u i
+  pub none-new : (i : ℕ) → held-in u i → held-to (u .counts .marks) (t .levels) i
+  pub same-levels : (i : ℕ) → held-in u i → at (u .levels) i ≡ at (t .levels) i
 
-left-of : (n : ℕ) (t u : Tables) → n ≤ t .counts .marks → Popped n t u → Left n t u
+pub left-of : (n : ℕ) (t u : Tables) → n ≤ t .counts .marks → Popped n t u → Left n t u
 left-of n t u few p = subst (Left n t) (sym (p .dropped)) (record {
   marks-left = omega arith;
   same-rules = refl;
@@ -108,7 +104,7 @@ left-of n t u few p = subst (Left n t) (sym (p .dropped)) (record {
 })
 
 -- Levels taken off in two steps.
-drop-drop : (n k : ℕ) (h : History) → drop k (drop n h) ≡ drop (n + k) h
+pub drop-drop : (n k : ℕ) (h : History) → drop k (drop n h) ≡ drop (n + k) h
 drop-drop zero k h = ap (λ (m : ℕ). drop m h) same
   where
     same : k ≡ zero + k
@@ -119,17 +115,28 @@ drop-drop (suc n) k (l ∷ h) = drop-drop n k h ∙ ap (λ (m : ℕ). drop m (l 
     same : suc (n + k) ≡ suc n + k
     same = omega arith
 
-module _ (n : ℕ) (l : Lent) (h : History) (i : InForce l h) (few : n ≤ l .tables .counts .marks) (u : Tables) (left : Left n (l .tables) u) where
-  -- A level left is clear where it was, and the contradictory level is left only where it was it.
-  left-clear : (j : ℕ) → j ≤ u .counts .marks → Clear (broken-left (l .notes .broken) u) j → Clear (l .notes .broken) j
-  left-clear j in-it clear some = tell (decLt (u .counts .marks + 1) (l .notes .broken))
-    where
-      tell : Dec (u .counts .marks + 1 < l .notes .broken) → j + 1 < l .notes .broken
-      tell (yes deeper) = omega arith
-      tell (no stays) =
-          let same : broken-left (l .notes .broken) u ≡ l .notes .broken = rw (le-ltb (u .counts .marks + 1) (l .notes .broken) (omega arith)) refl in
-          omega (arith, same, clear (λ z. some (sym same ∙ z)))
+-- A level left is clear where it was.
+pub left-clear : (b : ℕ) (u : Tables) (j : ℕ) → j ≤ u .counts .marks → Clear (broken-left b u) j → Clear b j
+left-clear b u j in-it clear some = tell (decLt (u .counts .marks + 1) b)
+  where
+    tell : Dec (u .counts .marks + 1 < b) → j + 1 < b
+    tell (yes deeper) = omega arith
+    tell (no stays) =
+        let same : broken-left b u ≡ b = rw (le-ltb (u .counts .marks + 1) b (omega arith)) refl in
+        omega (arith, same, clear (λ z. some (sym same ∙ z)))
 
+-- Each level that is left has the rules that it had.
+module _ (n : ℕ) (t u : Tables) (left : Left n t u) (j : ℕ) (in-it : j ≤ u .counts .marks) where
+  pub left-there : (r : ℕ) → held-to j (t .levels) r → held-to j (u .levels) r
+  left-there r there =
+      let stays = left .still-there r (there .0, omega (arith, there .1, in-it)) in
+      (stays, omega (arith, there .1, left .same-levels r stays))
+
+  pub left-here : (r : ℕ) → held-to j (u .levels) r → held-to j (t .levels) r
+  left-here r there = (left .none-new r (there .0) .0, omega (arith, there .1, left .same-levels r (there .0)))
+
+module _ (n : ℕ) (l : Lent) (h : History) (i : InForce l h) (few : n ≤ l .tables .counts .marks) (u : Tables) (left : Left n (l .tables) u) where
+  -- The contradictory level is left only where it was it.
   left-level : (j : ℕ) → j + 1 ≡ broken-left (l .notes .broken) u → j + 1 ≡ l .notes .broken
   left-level j level = tell (decLt (u .counts .marks + 1) (l .notes .broken))
     where
@@ -141,26 +148,21 @@ module _ (n : ℕ) (l : Lent) (h : History) (i : InForce l h) (few : n ≤ l .ta
           let same : broken-left (l .notes .broken) u ≡ l .notes .broken = rw (le-ltb (u .counts .marks + 1) (l .notes .broken) (omega arith)) refl in
           level ∙ same
 
-  -- Each level that is left has the rules that it had.
+  -- So it has them, and those below it.
   rule-stays : (r : ℕ) → rules-of u r ≡ rules-of (l .tables) r
   rule-stays r = ap (λ (x : Columns). rule-at x r) (left .same-rules)
 
   left-kept : (j : ℕ) → j ≤ u .counts .marks → (e : ℕ → ℤ) → KeptTo (l .tables) j e ↔ KeptTo u j e
   left-kept j in-it e = (
-    (λ kept r there. let was = left .none-new r (there .0) in
-        subst (Keeps e) (sym (rule-stays r)) (kept r (was .0, omega (arith, there .1, left .same-levels r (there .0))))),
-    (λ kept r there. let stays = left .still-there r (there .0, omega (arith, there .1, in-it)) in
-        subst (Keeps e) (rule-stays r) (kept r (stays, omega (arith, there .1, left .same-levels r stays)))),
+    (λ kept r there. subst (Keeps e) (sym (rule-stays r)) (kept r (left-here n (l .tables) u left j in-it r there))),
+    (λ kept r there. subst (Keeps e) (rule-stays r) (kept r (left-there n (l .tables) u left j in-it r there))),
   )
 
   left-exact :
       (k j : ℕ) → k + j ≡ u .counts .marks → Clear (broken-left (l .notes .broken) u) j → (e : ℕ → ℤ) → KeptTo u j e ↔ Agrees (by-name l e) (drop k (drop n h))
   left-exact k j levels clear e =
-      let was = i .exact (n + k) j (omega (arith, levels, left .marks-left)) (left-clear j (omega arith) clear) e in
-      let same = left-kept j (omega (arith, levels)) e in (
-        (λ kept. subst (Agrees (by-name l e)) (sym (drop-drop n k h)) (was .0 (same .1 kept))),
-        (λ agrees. same .0 (was .1 (subst (Agrees (by-name l e)) (drop-drop n k h) agrees))),
-      )
+      subst (λ (x : History). KeptTo u j e ↔ Agrees (by-name l e) x) (sym (drop-drop n k h))
+      (Iff·trans (Iff·symm (left-kept j (omega (arith, levels)) e)) (i .exact (n + k) j (omega (arith, levels, left .marks-left)) (left-clear (l .notes .broken) u j (omega arith) clear) e))
 
   pop-left-in-force : Fine (with-tables u (broken-left (l .notes .broken) u) l) → InForce (with-tables u (broken-left (l .notes .broken) u) l) (drop n h)
   pop-left-in-force g = record {

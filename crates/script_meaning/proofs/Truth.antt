@@ -3,17 +3,18 @@
 use Prim.Native.Nat.{ℕ, _+_, _≤_, _<_}
 use native.Mathlib.Omega.{arith}
 use native.Mathlib.Decide.{decLe}
+use mathlib.Core.Path.{_≡_}
 use mathlib.Core.Bool.{Bool, true, false, true≢false}
 use mathlib.Core.List.{List, [], _∷_, _++_}
-use mathlib.Core.Logic.{_↔_}
+use mathlib.Core.Logic.{_↔_, Iff·trans, Iff·and}
 use lib.IntN.{ℤ, pos, negℤ, _-ℤ_}
 use lib.Signed.{_≤ℤ_, _<ℤ_}
 use Rattle.meaning.specs.Reckoning.{up, dn}
 use Rattle.meaning.proofs.Whole.{le→, →le, lt→, →lt, minus-is, up-neg, dn-neg}
 use Rattle.text.specs.Lexicon.{same-bytes}
 use Rattle.words.specs.Words.{W-at-most, W-below, W-at-least}
-use Rattle.atoms.specs.Atoms.{Named, named, negated, either-rule, said}
-use Rattle.script_meaning.specs.Terms.{Term, atom, negation, conjunction, either-type, Compared, Holds, rules-of-term, Supported, KeptBy, AllKept}
+use Rattle.reading.specs.Tree.{Term, amount-of, Named, named, negated, either-rule, said, rules-of-term, Supported}
+use Rattle.script_meaning.specs.Terms.{either-type, Compared, Holds, KeptBy, AllKept}
 
 -- A difference of x and y, and an amount c.
 module _ (x y c : ℤ) where
@@ -108,20 +109,23 @@ module _ (d : List ℕ → ℤ) where
       by-rules n (yes h) = h
       by-rules n (no m) = absurd (n (λ a. m (e .1 a)))
 
+  -- Of two terms under an even number of `not`.
+  both-hold :
+      (t u : Term) (odd : Bool) → odd ≡ false → AllKept d (rules-of-term odd t) ↔ Turned odd (Holds t d) → AllKept d (rules-of-term odd u) ↔ Turned odd (Holds u d) →
+      AllKept d (rules-of-term odd t ++ rules-of-term odd u) ↔ Turned odd (Holds t d × Holds u d)
+  both-hold t u true even first second = absurd (true≢false even)
+  both-hold t u false even first second = Iff·trans (all-kept (rules-of-term false t) (rules-of-term false u)) (Iff·and first second)
+
   turned-holds : (t : Term) (odd : Bool) → Supported odd t → AllKept d (rules-of-term odd t) ↔ Turned odd (Holds t d)
-  turned-holds (atom w x y c) true h =
-      let is = said-kept w x y c in
-      let opposite = negated-kept (said w x y c) in
+  turned-holds (Term.atom w x y c) true h =
+      let is = said-kept w (x .letters) (y .letters) (amount-of c) in
+      let opposite = negated-kept (said w (x .letters) (y .letters) (amount-of c)) in
       (λ k a. opposite .0 (k .0) (is .1 a), λ n. (opposite .1 (λ k. n (is .0 k)), tt))
-  turned-holds (atom w x y c) false h = let is = said-kept w x y c in (λ k. is .0 (k .0), λ a. (is .1 a, tt))
-  turned-holds (negation t) true h = cancel (rules-of-term false t) (Holds t d) (turned-holds t false h)
-  turned-holds (negation t) false h = turned-holds t true h
-  turned-holds (conjunction t u) true h = absurd (true≢false (h .0))
-  turned-holds (conjunction t u) false h =
-      let first = turned-holds t false (h .1 .0) in
-      let second = turned-holds u false (h .1 .1) in
-      let all = all-kept (rules-of-term false t) (rules-of-term false u) in
-      (λ k. (first .0 (all .0 k .0), second .0 (all .0 k .1)), λ a. all .1 (first .1 (a .0), second .1 (a .1)))
+  turned-holds (Term.atom w x y c) false h = let is = said-kept w (x .letters) (y .letters) (amount-of c) in (λ k. is .0 (k .0), λ a. (is .1 a, tt))
+  turned-holds (Term.negation t) true h = cancel (rules-of-term false t) (Holds t d) (turned-holds t false h)
+  turned-holds (Term.negation t) false h = turned-holds t true h
+  turned-holds (Term.conjunction t u) odd h = both-hold t u odd (h .0) (turned-holds t odd (h .1 .0)) (turned-holds u odd (h .1 .1))
+  turned-holds (Term.also t u) odd h = both-hold t u odd (h .0) (turned-holds t odd (h .1 .0)) (turned-holds u odd (h .1 .1))
 
 -- The rules of a term are kept by d exactly when the term holds under d.
 pub term-holds : (t : Term) (d : List ℕ → ℤ) → Supported false t → AllKept d (rules-of-term false t) ↔ Holds t d

@@ -7,11 +7,10 @@ use lib.ListN.{length, take}
 use Rattle.meaning.specs.Bounds.{ROOM, DONE}
 use Rattle.meaning.specs.Promise.{Given, Obeys}
 use Rattle.text.specs.Lexicon.{END, token-at}
-use Rattle.form.specs.Form.{form}
 use Rattle.script_meaning.specs.Record.{Lent}
 use Rattle.script_meaning.specs.Commands.{start-meaning, command-meaning}
 use Rattle.script_meaning.specs.Traces.{with-out}
-use Rattle.script_meaning.specs.Whole.{exits, error-line, rest, command-at}
+use Rattle.script_meaning.specs.Whole.{exits, error-line, rest, read-at}
 
 -- One command call, on the text from the first token after place i on. The caller lends `out` for its answer, ROOM bytes or more, fresh ones or those of the call
 -- before; nothing else that is lent was touched since.
@@ -27,9 +26,9 @@ pub record CallsAt (s : List ℕ) (i : ℕ) (l : Lent) (answer : Given) (after :
 pub data GoesBy {S : Type 0} (out : S → List ℕ) (Calls : ℕ → S → Given → S → Type 0) (s : List ℕ) : ℕ → S → (g : ℕ) → (b : List ℕ) → Type 0 where
   at-end : (i : ℕ) (l : S) → token-at s i .kind ≡ END → GoesBy out Calls s i l DONE []
   refused : (i : ℕ) (l : S) (a : Given) (m : S) → Calls i l a m → (a .number ≡ DONE → ⊥) → GoesBy out Calls s i l (a .number) (error-line (a .number))
-  exited : (i : ℕ) (l : S) (a : Given) (m : S) → Calls i l a m → a .number ≡ DONE → exits (form (command-at s i)) ≡ true → GoesBy out Calls s i l DONE (take (a .two) (out m))
+  exited : (i : ℕ) (l : S) (a : Given) (m : S) → Calls i l a m → a .number ≡ DONE → exits (read-at s i) ≡ true → GoesBy out Calls s i l DONE (take (a .two) (out m))
   goes-on :
-      (i : ℕ) (l : S) (a : Given) (m : S) → Calls i l a m → a .number ≡ DONE → exits (form (command-at s i)) ≡ false →
+      (i : ℕ) (l : S) (a : Given) (m : S) → Calls i l a m → a .number ≡ DONE → exits (read-at s i) ≡ false →
       (g : ℕ) (b : List ℕ) → GoesBy out Calls s (token-at s i .from + a .one) m g b → GoesBy out Calls s i l g (take (a .two) (out m) ++ b)
 
 abbrev pub Goes : List ℕ → ℕ → Lent → (g : ℕ) → (b : List ℕ) → Type 0

@@ -2,66 +2,64 @@
 use Prim.Native.Nat.{ℕ, _+_, _≤_, _<_}
 use mathlib.Core.Path.{_≡_}
 use mathlib.Core.Bool.{true, false}
-use mathlib.Core.List.{List, [], _∷_}
-use lib.ListN.{length, take}
-use Rattle.meaning.specs.Bounds.{STEPS, RULES, MARKS, SHORT, DAMAGED, AMOUNT, FULL, NOMARK, SYNTAX, MODE, NAME, SIZE}
-use Rattle.meaning.specs.Rules.{InAmount}
+use mathlib.Core.List.{List, [], _∷_, _++_}
+use lib.ListN.{length}
+use Rattle.meaning.specs.Bounds.{STEPS, RULES, MARKS, SHORT, DAMAGED, FULL, NOMARK, SYNTAX, MODE, SIZE}
 use Rattle.meaning.specs.Tables.{Tables}
 use Rattle.meaning.specs.Promise.{Meaning, Need, needs, no-conflict}
 use Rattle.meaning.specs.Calls.{Opened}
-use Rattle.text.specs.Lexicon.{bytes}
 use Rattle.span.specs.Span.{span}
-use Rattle.form.specs.declared.Command.{Command}
-use Rattle.form.specs.declared.Command.the-variants.{SetLogic, Declare, Assert, Push, Pop, CheckSat, GetValue, Exit, Unsupported, Syntax, Oversize}
-use Rattle.form.specs.Form.{form}
-use Rattle.atoms.specs.Atoms.{Named, rules-at}
+use Rattle.reading.specs.Tree.{said-by, rules-of-term, Command}
+use Rattle.reading.specs.Reading.{Why, Read, reading}
+use Rattle.reading.specs.Saying.{said-needs}
 use Rattle.script_meaning.specs.Record.{Lent, StartRoom, ScriptRoom, ScriptSound, Known, no-notes}
-use Rattle.script_meaning.specs.Effect.{asked, Does}
+use Rattle.script_meaning.specs.Effect.{Does}
 
--- The leftmost of NAME and AMOUNT over the rules of a term, in an atom NAME first. K says which names are declared.
-abbrev pub term-needs : (List ℕ → Type 0) → List Named → List Need → List Need
-term-needs K [] rest = rest
-term-needs K (r ∷ rs) rest = needs NAME (K (r .first)) ∷ needs NAME (K (r .second)) ∷ needs AMOUNT (InAmount (r .amount)) ∷ term-needs K rs rest
+-- Where a command may stand: the logic is set, for `set-logic` not yet; `get-value` only after a `sat`; `exit` anywhere.
+abbrev pub mode-needs : Command → Lent → List Need
+mode-needs Command.set-logic l = needs MODE (l .notes .logic ≡ false) ∷ []
+mode-needs Command.check-sat l = needs MODE (l .notes .logic ≡ true) ∷ []
+mode-needs Command.exit l = []
+mode-needs (Command.declare w) l = needs MODE (l .notes .logic ≡ true) ∷ []
+mode-needs (Command.assert t) l = needs MODE (l .notes .logic ≡ true) ∷ []
+mode-needs (Command.push n) l = needs MODE (l .notes .logic ≡ true) ∷ []
+mode-needs (Command.pop n) l = needs MODE (l .notes .logic ≡ true) ∷ []
+mode-needs (Command.get-value ws) l = needs MODE (l .notes .logic ≡ true) ∷ needs MODE (l .notes .sat ≡ true) ∷ []
 
--- Every name is declared.
-abbrev pub name-needs : (List ℕ → Type 0) → List (List ℕ) → List Need
-name-needs K [] = []
-name-needs K (w ∷ ws) = needs NAME (K w) ∷ name-needs K ws
+-- The places that it takes, or the levels that it closes. A term's rules need places only while no level counts as contradictory.
+abbrev pub room-needs : Command → Lent → List Need
+room-needs Command.set-logic l = []
+room-needs Command.check-sat l = []
+room-needs Command.exit l = []
+room-needs (Command.declare w) l = needs FULL (l .notes .names < STEPS) ∷ []
+room-needs (Command.assert t) l = needs FULL (l .notes .broken ≡ 0 → l .tables .counts .rules + length (rules-of-term false t) ≤ RULES) ∷ []
+room-needs (Command.push n) l = needs FULL (l .tables .counts .marks + said-by n ≤ MARKS) ∷ []
+room-needs (Command.pop n) l = needs NOMARK (said-by n ≤ l .tables .counts .marks) ∷ []
+room-needs (Command.get-value ws) l = []
 
--- The logic is set.
-abbrev pub logic-need : Lent → List Need → List Need
-logic-need l rest = needs MODE (l .notes .logic ≡ true) ∷ rest
+-- What a command needs: MODE; then NAME and AMOUNT; then FULL, for `pop` NOMARK.
+abbrev pub command-needs : Command → Lent → List Need
+command-needs c l = mode-needs c l ++ (said-needs (Known l) c ++ room-needs c l)
 
--- What the command c of text s needs, after its form: MODE; then NAME and AMOUNT; then FULL, for `pop` NOMARK. A term's rules need places only while no
--- level counts as contradictory.
-abbrev pub command-needs : Command → List ℕ → Lent → List Need
-command-needs SetLogic s l = needs MODE (l .notes .logic ≡ false) ∷ []
-command-needs (Declare a b) s l = logic-need l (needs NAME (Known l (bytes s a b) → ⊥) ∷ needs FULL (l .notes .names < STEPS) ∷ [])
-command-needs (Assert i) s l =
-    logic-need l (term-needs (Known l) (rules-at s i) (needs FULL (l .notes .broken ≡ 0 → l .tables .counts .rules + length (rules-at s i) ≤ RULES) ∷ []))
-command-needs (Push n) s l = logic-need l (needs FULL (l .tables .counts .marks + n ≤ MARKS) ∷ [])
-command-needs (Pop n) s l = logic-need l (needs NOMARK (n ≤ l .tables .counts .marks) ∷ [])
-command-needs CheckSat s l = logic-need l []
-command-needs (GetValue i) s l = logic-need l (needs MODE (l .notes .sat ≡ true) ∷ name-needs (Known l) (asked s i))
-command-needs Exit s l = []
-command-needs Unsupported s l = []
-command-needs Syntax s l = needs SYNTAX ⊥ ∷ []
-command-needs Oversize s l = needs SIZE ⊥ ∷ []
+-- What a text needs that was read as r: what its command needs; nothing where it is unsupported. A departure from the form is SYNTAX, a size fault SIZE.
+abbrev pub read-needs : Read Command → Lent → List Need
+read-needs (Read.got c e) l = command-needs c l
+read-needs (Read.stop Why.other i) l = []
+read-needs (Read.stop Why.wrong i) l = needs SYNTAX ⊥ ∷ []
+read-needs (Read.stop Why.size i) l = needs SIZE ⊥ ∷ []
 
--- The text of the command that the text begins with, from its opening bracket to the closing one.
-abbrev pub own : List ℕ → List ℕ
-own text = take (span text) text
+-- What a text needs: first that it begins with a command, whose brackets close and whose pieces are tokens.
+abbrev pub text-needs : List ℕ → Lent → List Need
+text-needs text l = needs SYNTAX (1 ≤ span text) ∷ read-needs (reading text) l
 
 -- **Command**: one command is carried out, on the text from its opening bracket on. It gives the bytes read and the bytes written.
 pub record Commanded (text : List ℕ) (before : Lent) (a b : ℕ) (after : Lent) : Type 0 where
   pub bytes-read : a ≡ span text
-  pub done : Does (form (own text)) (own text) 0 before b after
+  pub done : Does (reading text) 0 before b after
 
 abbrev pub command-meaning : List ℕ → Lent → Meaning Lent
 command-meaning text before = record {
-  asks =
-      needs SHORT (ScriptRoom 0 before) ∷ needs DAMAGED (ScriptSound before) ∷ needs SYNTAX (1 ≤ span text)
-      ∷ command-needs (form (own text)) (own text) before;
+  asks = needs SHORT (ScriptRoom 0 before) ∷ needs DAMAGED (ScriptSound before) ∷ text-needs text before;
   done = Commanded text before;
   conflict = no-conflict;
 }

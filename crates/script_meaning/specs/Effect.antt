@@ -1,29 +1,23 @@
 -- What each command does to the tables and the record, and what it prints.
-use Prim.Native.Nat.{ℕ, zero, suc, _+_, _*_, _≤_, _<_}
+use Prim.Native.Nat.{ℕ, _+_, _*_}
 use mathlib.Core.Path.{_≡_}
 use mathlib.Core.Bool.{Bool, true, false, cond}
 use mathlib.Core.List.{List, [], _∷_, _++_, map}
 use mathlib.Core.Logic.{_⊎_}
-use lib.Dec.{eqb, leb, ltb}
+use lib.Dec.{eqb, ltb}
 use lib.ListN.{length, set}
 use Rattle.meaning.specs.Bounds.{NAME-BYTES}
 use Rattle.meaning.specs.Rules.{Rule, Fits}
 use Rattle.meaning.specs.Tables.{Tables, at, with-rule, with-days}
 use Rattle.meaning.specs.Promise.{Planned}
 use Rattle.meaning.specs.Calls.{rules-of, held-in, rules-and, held-and}
-use Rattle.text.specs.Lexicon.{SYMBOL, token-at, bytes}
-use Rattle.form.specs.declared.Command.{Command}
-use Rattle.form.specs.declared.Command.the-variants.{SetLogic, Declare, Assert, Push, Pop, CheckSat, GetValue, Exit, Unsupported, Syntax, Oversize}
-use Rattle.form.specs.Form.{lexeme}
-use Rattle.atoms.specs.Atoms.{Named, rules-at, past}
+use Rattle.reading.specs.Tree.{Piece, said-by, Named, rules-of-term, Command}
+use Rattle.reading.specs.Reading.{Why, Read}
+use Rattle.reading.specs.Saying.{resolved}
 use Rattle.levels.specs.Levels.{with-marks, Popped}
 use Rattle.write.specs.Written.{over, decimal}
 use Rattle.script_meaning.specs.declared.Notes.{Notes}
 use Rattle.script_meaning.specs.Record.{Lent, step-of}
-
--- The rule over steps that a rule over names says, where S gives the step of each name.
-abbrev pub resolved : (List ℕ → ℕ) → Named → Rule
-resolved S r = record { first = S (r .first); second = S (r .second); amount = r .amount }
 
 -- The rule fits and is held now, and the days are the earliest plan.
 pub record HeldNow (r : Rule) (t u : Tables) : Type 0 where
@@ -90,38 +84,26 @@ broken-after clash t = cond clash (t .counts .marks + 1) 0
 abbrev pub broken-left : ℕ → Tables → ℕ
 broken-left b t = cond (ltb (t .counts .marks + 1) b) 0 b
 
-abbrev pub either-names : Bool → List (List ℕ) → List (List ℕ) → List (List ℕ)
-either-names true a b = a
-either-names false a b = b
-
--- The names that a get-value asks for, from place i on. The fuel is more than there are tokens left.
-unfoldable pub asked-from : (fuel : ℕ) → List ℕ → ℕ → List (List ℕ)
-asked-from zero s i = []
-asked-from (suc f) s i = either-names (eqb (token-at s i .kind) SYMBOL) (lexeme s (token-at s i) ∷ asked-from f s (past s i)) []
-
-abbrev pub asked : List ℕ → ℕ → List (List ℕ)
-asked s i = asked-from (suc (length s)) s i
-
 -- The name w with its day: (name day).
 abbrev pub pair : List ℕ → ℕ → List ℕ
 pair w day = 40 ∷ (w ++ (32 ∷ (decimal day ++ (41 ∷ []))))
 
 -- Further pairs, each after a space, with the days p of the names; then the closing bracket and a line feed.
-abbrev pub shown-pairs : (List ℕ → ℕ) → List (List ℕ) → List ℕ
+abbrev pub shown-pairs : (List ℕ → ℕ) → List Piece → List ℕ
 shown-pairs p [] = 41 ∷ 10 ∷ []
-shown-pairs p (w ∷ ws) = 32 ∷ (pair w (p w) ++ shown-pairs p ws)
+shown-pairs p (w ∷ ws) = 32 ∷ (pair (w .letters) (p (w .letters)) ++ shown-pairs p ws)
 
 -- The days p of the names, as get-value prints them: ((name day) (name day) ..).
-abbrev pub shown : (List ℕ → ℕ) → List (List ℕ) → List ℕ
+abbrev pub shown : (List ℕ → ℕ) → List Piece → List ℕ
 shown p [] = 40 ∷ 41 ∷ 10 ∷ []
-shown p (w ∷ ws) = 40 ∷ (pair w (p w) ++ shown-pairs p ws)
+shown p (w ∷ ws) = 40 ∷ (pair (w .letters) (p (w .letters)) ++ shown-pairs p ws)
 
 -- The day of a name, where S gives its step.
 abbrev pub day-of : (List ℕ → ℕ) → List ℕ → List ℕ → ℕ
 day-of S days w = at days (S w)
 
 -- What get-value prints, where S gives the step of each name.
-abbrev pub values : (List ℕ → ℕ) → List ℕ → List (List ℕ) → List ℕ
+abbrev pub values : (List ℕ → ℕ) → List ℕ → List Piece → List ℕ
 values S days = shown (day-of S days)
 
 -- sat, unsat, unsupported, each with a line feed.
@@ -145,24 +127,34 @@ Asserts rs before after =
     ⊎ ((before .notes .broken ≡ 0)
     × ((t : Tables) × ((clash : Bool) × (AddsAll (map (resolved (step-of before)) rs) (before .tables) clash t × (after ≡ with-tables t (broken-after clash t) before)))))
 
--- check-sat: `sat` exactly when no level counts as contradictory.
-abbrev pub checked : ℕ → Lent → Lent
-checked k l =
-    with-notes (sat-told (l .notes))
-    (with-printed k (either-answer (eqb (l .notes .broken) 0) SAT UNSAT) l)
+-- What is printed where a text is carried out that was read as r: `sat` exactly when no level counts as contradictory; the days of the names asked for; `unsupported`.
+abbrev pub prints : Read Command → Lent → List ℕ
+prints (Read.got Command.set-logic e) l = []
+prints (Read.got Command.check-sat e) l = either-answer (eqb (l .notes .broken) 0) SAT UNSAT
+prints (Read.got Command.exit e) l = []
+prints (Read.got (Command.declare w) e) l = []
+prints (Read.got (Command.assert t) e) l = []
+prints (Read.got (Command.push n) e) l = []
+prints (Read.got (Command.pop n) e) l = []
+prints (Read.got (Command.get-value ws) e) l = values (step-of l) (l .tables .days) ws
+prints (Read.stop w i) l = UNSUPPORTED
 
--- What the command c of text s does to what is lent, printing w bytes from place k on.
-abbrev pub Does : Command → List ℕ → ℕ → Lent → ℕ → Lent → Type 0
-Does SetLogic s k before w after =
-    (w ≡ 0) × (after ≡ with-notes (logic-set (before .notes)) before)
-Does (Declare a b) s k before w after = (w ≡ 0) × (after ≡ with-name (bytes s a b) before)
-Does (Assert i) s k before w after = (w ≡ 0) × Asserts (rules-at s i) before after
-Does (Push n) s k before w after = (w ≡ 0) × (after ≡ with-tables (with-marks n (before .tables)) (before .notes .broken) before)
-Does (Pop n) s k before w after =
-    (w ≡ 0) × ((t : Tables) × (Popped n (before .tables) t × (after ≡ with-tables t (broken-left (before .notes .broken) t) before)))
-Does CheckSat s k before w after = (w ≡ length (either-answer (eqb (before .notes .broken) 0) SAT UNSAT)) × (after ≡ checked k before)
-Does (GetValue i) s k before w after = (w ≡ length (values (step-of before) (before .tables .days) (asked s i))) × (after ≡ with-printed k (values (step-of before) (before .tables .days) (asked s i)) before)
-Does Exit s k before w after = (w ≡ 0) × (after ≡ with-notes (forgotten (before .notes)) before)
-Does Unsupported s k before w after = (w ≡ length UNSUPPORTED) × (after ≡ with-printed k UNSUPPORTED before)
-Does Syntax s k before w after = ⊥
-Does Oversize s k before w after = ⊥
+-- What it changes, but for the bytes printed. Nothing where it is unsupported; what departs from the form, or has a size fault, is not carried out.
+abbrev pub Changes : Read Command → Lent → Lent → Type 0
+Changes (Read.got Command.set-logic e) before after = after ≡ with-notes (logic-set (before .notes)) before
+Changes (Read.got Command.check-sat e) before after = after ≡ with-notes (sat-told (before .notes)) before
+Changes (Read.got Command.exit e) before after = after ≡ with-notes (forgotten (before .notes)) before
+Changes (Read.got (Command.declare w) e) before after = after ≡ with-name (w .letters) before
+Changes (Read.got (Command.assert t) e) before after = Asserts (rules-of-term false t) before after
+Changes (Read.got (Command.push n) e) before after = after ≡ with-tables (with-marks (said-by n) (before .tables)) (before .notes .broken) before
+Changes (Read.got (Command.pop n) e) before after =
+    (t : Tables) × (Popped (said-by n) (before .tables) t × (after ≡ with-tables t (broken-left (before .notes .broken) t) before))
+Changes (Read.got (Command.get-value ws) e) before after = after ≡ before
+Changes (Read.stop Why.other i) before after = after ≡ before
+Changes (Read.stop Why.wrong i) before after = ⊥
+Changes (Read.stop Why.size i) before after = ⊥
+
+-- A text that was read as r is carried out: it changes what it changes, and prints w bytes from place k on.
+abbrev pub Does : Read Command → ℕ → Lent → ℕ → Lent → Type 0
+Does r k before w after =
+    (mid : Lent) × (Changes r before mid × ((w ≡ length (prints r before)) × (after ≡ with-printed k (prints r before) mid)))

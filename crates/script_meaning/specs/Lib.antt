@@ -1,5 +1,5 @@
--- What scripts mean. Before these files read those of the readers, each in its crate's specs/: text Lexicon (white space, comments, tokens), words Words, span Span, form Form (the form of commands
--- and terms), atoms Atoms (the rules of a term). Then, in this order:
+-- What scripts mean. Before these files read those of the readers, each in its crate's specs/: text Lexicon (white space, comments, tokens), words Words, span Span (where a command ends), and of reading
+-- Tree (terms and commands), Spelling (the grammar), Reading (what stops a reading, and where), Saying (names and amounts). Then, in this order:
 -- what is lent to a script call, and when it is sound;
 pub mod Record
 -- what each command does to it, and prints;
@@ -16,5 +16,7 @@ pub mod Terms
 pub mod Traces
 -- a whole script by start and command calls;
 pub mod ByCalls
--- what the answers say.
+-- what the answers say;
 pub mod Told
+-- what is accepted, from the text of the commands alone.
+pub mod Accepted

@@ -1,7 +1,7 @@
 -- The script's record, all that is lent to a script call, and when it is sound.
-use Prim.Native.Nat.{ℕ, zero, suc, _+_, _*_, _≤_, _<_}
+use Prim.Native.Nat.{ℕ, _+_, _*_, _≤_, _<_}
 use mathlib.Core.Path.{_≡_}
-use mathlib.Core.Bool.{Bool, true, false, cond}
+use mathlib.Core.Bool.{Bool, true, false}
 use mathlib.Core.List.{List}
 use lib.ListN.{length}
 use lib.IntN.{ℤ}
@@ -9,9 +9,10 @@ use Rattle.meaning.specs.declared.Counts.{Counts}
 use Rattle.meaning.specs.Bounds.{STEPS, NAME-BYTES, ROOM}
 use Rattle.meaning.specs.Tables.{Tables, Room, Sound, at}
 use Rattle.lent.specs.Lent.{tables}
-use Rattle.text.specs.Lexicon.{SYMBOL, tok, token-at, same-bytes}
+use Rattle.text.specs.Lexicon.{SYMBOL, tok, token-at}
 use Rattle.words.specs.Words.{reserved}
 use Rattle.names.specs.Names.{name-at, AllDifferent}
+use Rattle.reading.specs.Saying.{step-in, KnownIn}
 use Rattle.script_meaning.specs.declared.Notes.{Notes}
 
 -- The empty record.
@@ -69,19 +70,7 @@ pub record ScriptSound (l : Lent) : Type 0 where
   pub level-open : l .notes .broken ≤ l .tables .counts .marks + 1
   pub no-sat : (l .notes .broken ≡ 0 → ⊥) → l .notes .sat ≡ false
 
--- The number of the name w, seeking from number k over `left` names; past the last where none of them is w.
-unfoldable pub seek : (left k : ℕ) → List ℕ → List ℕ → List ℕ → ℕ
-seek zero k names lens w = k
-seek (suc left) k names lens w = cond (same-bytes (name-at names lens k) w) k (seek left (k + 1) names lens w)
-
--- The step that the name w stands for among n names: steps are numbered as declared. Where w is not declared, n.
-abbrev pub step-in : ℕ → List ℕ → List ℕ → List ℕ → ℕ
-step-in n names lens w = seek n 0 names lens w
-
--- The name is one of the n that are declared.
-abbrev pub KnownIn : ℕ → List ℕ → List ℕ → List ℕ → Type 0
-KnownIn n names lens w = step-in n names lens w < n
-
+-- The step of a name, and whether it is declared.
 abbrev pub step-of : Lent → List ℕ → ℕ
 step-of l = step-in (l .notes .names) (l .names) (l .lens)
 

@@ -8,14 +8,12 @@ use Rattle.meaning.specs.Bounds.{DONE}
 use Rattle.meaning.specs.Tables.{Tables}
 use Rattle.meaning.specs.Promise.{Given, First}
 use Rattle.meaning.specs.Runs.{Call, Made}
-use Rattle.span.specs.Span.{span}
-use Rattle.form.specs.declared.Command.{Command}
-use Rattle.form.specs.declared.Command.the-variants.{SetLogic, Declare, Assert, Push, Pop, CheckSat, GetValue, Exit, Unsupported, Syntax, Oversize}
-use Rattle.form.specs.Form.{form}
+use Rattle.reading.specs.Tree.{said-by, Term, Command}
+use Rattle.reading.specs.Reading.{Read, reading}
 use Rattle.script_meaning.specs.Record.{Lent}
 use Rattle.script_meaning.specs.Effect.{Does}
-use Rattle.script_meaning.specs.Commands.{own, command-needs}
-use Rattle.script_meaning.specs.Terms.{Term, Holds, amount-said, IsTerm}
+use Rattle.script_meaning.specs.Commands.{text-needs}
+use Rattle.script_meaning.specs.Terms.{Holds}
 use Rattle.script_meaning.specs.Whole.{Fresh}
 use Rattle.script_meaning.specs.Mixed.{on-tables}
 
@@ -37,20 +35,18 @@ abbrev pub with-levels : ℕ → History → History
 with-levels zero h = h
 with-levels (suc n) h = [] ∷ with-levels n h
 
--- What the command c of text s, where it is carried out, does to what is asserted. The text of an assertion is a term, and that is asserted, whatever is asserted
--- already; `push` puts empty levels on, `pop` takes the newest levels off, and no other command asserts or forgets anything.
-abbrev pub Follows : Command → List ℕ → History → History → Type 0
-Follows SetLogic s h j = j ≡ h
-Follows (Declare a b) s h j = j ≡ h
-Follows (Assert i) s h j = (t : Term) × ((e : ℕ) × (IsTerm s (amount-said s) i t e × (j ≡ with-term t h)))
-Follows (Push n) s h j = j ≡ with-levels n h
-Follows (Pop n) s h j = j ≡ drop n h
-Follows CheckSat s h j = j ≡ h
-Follows (GetValue i) s h j = j ≡ h
-Follows Exit s h j = j ≡ h
-Follows Unsupported s h j = j ≡ h
-Follows Syntax s h j = ⊥
-Follows Oversize s h j = ⊥
+-- What is asserted after a text that was read as r and is carried out: the term of an assertion is asserted, whatever is asserted already; `push` puts empty levels on, `pop` takes
+-- the newest levels off, and nothing else asserts or forgets anything.
+abbrev pub follows : Read Command → History → History
+follows (Read.got Command.set-logic e) h = h
+follows (Read.got Command.check-sat e) h = h
+follows (Read.got Command.exit e) h = h
+follows (Read.got (Command.declare w) e) h = h
+follows (Read.got (Command.assert t) e) h = with-term t h
+follows (Read.got (Command.push n) e) h = with-levels (said-by n) h
+follows (Read.got (Command.pop n) e) h = drop (said-by n) h
+follows (Read.got (Command.get-value ws) e) h = h
+follows (Read.stop w i) h = h
 
 -- Every term of the list holds under the days d, which gives each name its day; every term of every level.
 abbrev pub AllHold : (List ℕ → ℤ) → List Term → Type 0
@@ -93,7 +89,7 @@ with-out out l = record { tables = l .tables; notes = l .notes; names = l .names
 pub data Traced : Lent → History → Type 0 where
   fresh : (l : Lent) → Fresh l → Traced l nothing-asserted
   carried-out :
-      (l : Lent) (h : History) → Traced l h → (text : List ℕ) (k w : ℕ) (m : Lent) (j : History) → 1 ≤ span text →
-      First (command-needs (form (own text)) (own text) l) DONE → Does (form (own text)) (own text) k l w m → Follows (form (own text)) (own text) h j → Traced m j
+      (l : Lent) (h : History) → Traced l h → (text : List ℕ) (k w : ℕ) (m : Lent) → First (text-needs text l) DONE → Does (reading text) k l w m →
+      Traced m (follows (reading text) h)
   quiet-call : (l : Lent) (h : History) → Traced l h → (c : Call) (g : Given) (t : Tables) → Made c (l .tables) g t → Quiet c g → Traced (on-tables t l) h
   other-bytes : (l : Lent) (h : History) → Traced l h → (out : List ℕ) → Traced (with-out out l) h

@@ -3,45 +3,42 @@ use Prim.Native.Nat.{ℕ, _+_, _*_, _≤_, _<_}
 use mathlib.Core.Path.{_≡_}
 use mathlib.Core.Bool.{Bool, true, false}
 use mathlib.Core.List.{List, [], _∷_, _++_}
-use lib.ListN.{length, take, drop, replicate}
+use lib.ListN.{length, drop, replicate}
 use lib.IntN.{pos}
-use Rattle.meaning.specs.Bounds.{STEPS, RULES, WATCHED, NAME-BYTES, ROOM, TEXT, DONE, SHORT, SYNTAX, SIZE}
+use Rattle.meaning.specs.Bounds.{STEPS, RULES, WATCHED, NAME-BYTES, ROOM, TEXT, DONE, SHORT, SIZE}
 use Rattle.meaning.specs.Tables.{at, steps-alone}
 use Rattle.meaning.specs.Promise.{First}
 use Rattle.text.specs.Lexicon.{END, token-at}
 use Rattle.span.specs.Span.{span}
-use Rattle.form.specs.declared.Command.{Command}
-use Rattle.form.specs.declared.Command.the-variants.{SetLogic, Declare, Assert, Push, Pop, CheckSat, GetValue, Exit, Unsupported, Syntax, Oversize}
-use Rattle.form.specs.Form.{form}
+use Rattle.reading.specs.Tree.{Command}
+use Rattle.reading.specs.Reading.{Read, reading}
 use Rattle.write.specs.Written.{over, decimal}
 use Rattle.script_meaning.specs.Record.{Lent, StartRoom, no-notes}
 use Rattle.script_meaning.specs.Effect.{Does}
-use Rattle.script_meaning.specs.Commands.{own, command-needs}
+use Rattle.script_meaning.specs.Commands.{text-needs}
 
 -- The command is exit.
-abbrev pub exits : Command → Bool
-exits SetLogic = false
-exits (Declare a b) = false
-exits (Assert i) = false
-exits (Push n) = false
-exits (Pop n) = false
-exits CheckSat = false
-exits (GetValue i) = false
-exits Exit = true
-exits Unsupported = false
-exits Syntax = false
-exits Oversize = false
+abbrev pub exits : Read Command → Bool
+exits (Read.got Command.set-logic e) = false
+exits (Read.got Command.check-sat e) = false
+exits (Read.got Command.exit e) = true
+exits (Read.got (Command.declare w) e) = false
+exits (Read.got (Command.assert t) e) = false
+exits (Read.got (Command.push n) e) = false
+exits (Read.got (Command.pop n) e) = false
+exits (Read.got (Command.get-value ws) e) = false
+exits (Read.stop w i) = false
 
 -- What a refusal prints: (error "N") and a line feed, N its number.
 abbrev pub error-line : ℕ → List ℕ
 error-line g = 40 ∷ 101 ∷ 114 ∷ 114 ∷ 111 ∷ 114 ∷ 32 ∷ 34 ∷ (decimal g ++ (34 ∷ 41 ∷ 10 ∷ []))
 
--- The text from the first token after place i on, and the command that it begins with.
+-- The text from the first token after place i on, and what it is read as.
 abbrev pub rest : List ℕ → ℕ → List ℕ
 rest s i = drop (token-at s i .from) s
 
-abbrev pub command-at : List ℕ → ℕ → List ℕ
-command-at s i = own (rest s i)
+abbrev pub read-at : List ℕ → ℕ → Read Command
+read-at s i = reading (rest s i)
 
 -- The place past the command.
 abbrev pub after-command : List ℕ → ℕ → ℕ
@@ -53,20 +50,15 @@ after-command s i = token-at s i .from + span (rest s i)
 pub data Plays (s : List ℕ) : ℕ → Lent → ℕ → (g w : ℕ) → (out : List ℕ) → Type 0 where
   at-end : (i : ℕ) (l : Lent) (k : ℕ) → token-at s i .kind ≡ END → Plays s i l k DONE k (l .out)
   no-room : (i : ℕ) (l : Lent) (k : ℕ) → (token-at s i .kind ≡ END → ⊥) → length (l .out) < k + ROOM → Plays s i l k SHORT k (l .out)
-  no-command :
-      (i : ℕ) (l : Lent) (k : ℕ) → (token-at s i .kind ≡ END → ⊥) → k + ROOM ≤ length (l .out) → span (rest s i) ≡ 0 →
-      Plays s i l k SYNTAX (k + length (error-line SYNTAX)) (over (l .out) k (error-line SYNTAX))
   refused :
-      (i : ℕ) (l : Lent) (k g : ℕ) → (token-at s i .kind ≡ END → ⊥) → k + ROOM ≤ length (l .out) → 1 ≤ span (rest s i) →
-      First (command-needs (form (command-at s i)) (command-at s i) l) g → (g ≡ DONE → ⊥) → Plays s i l k g (k + length (error-line g)) (over (l .out) k (error-line g))
+      (i : ℕ) (l : Lent) (k g : ℕ) → (token-at s i .kind ≡ END → ⊥) → k + ROOM ≤ length (l .out) → First (text-needs (rest s i) l) g → (g ≡ DONE → ⊥) →
+      Plays s i l k g (k + length (error-line g)) (over (l .out) k (error-line g))
   exited :
-      (i : ℕ) (l l′ : Lent) (k w : ℕ) → (token-at s i .kind ≡ END → ⊥) → k + ROOM ≤ length (l .out) → 1 ≤ span (rest s i) →
-      First (command-needs (form (command-at s i)) (command-at s i) l) DONE → Does (form (command-at s i)) (command-at s i) k l w l′ →
-      exits (form (command-at s i)) ≡ true → Plays s i l k DONE (k + w) (l′ .out)
+      (i : ℕ) (l l′ : Lent) (k w : ℕ) → (token-at s i .kind ≡ END → ⊥) → k + ROOM ≤ length (l .out) → First (text-needs (rest s i) l) DONE →
+      Does (read-at s i) k l w l′ → exits (read-at s i) ≡ true → Plays s i l k DONE (k + w) (l′ .out)
   goes-on :
-      (i : ℕ) (l l′ : Lent) (k w g v : ℕ) (out : List ℕ) → (token-at s i .kind ≡ END → ⊥) → k + ROOM ≤ length (l .out) → 1 ≤ span (rest s i) →
-      First (command-needs (form (command-at s i)) (command-at s i) l) DONE → Does (form (command-at s i)) (command-at s i) k l w l′ →
-      exits (form (command-at s i)) ≡ false → Plays s (after-command s i) l′ (k + w) g v out → Plays s i l k g v out
+      (i : ℕ) (l l′ : Lent) (k w g v : ℕ) (out : List ℕ) → (token-at s i .kind ≡ END → ⊥) → k + ROOM ≤ length (l .out) → First (text-needs (rest s i) l) DONE →
+      Does (read-at s i) k l w l′ → exits (read-at s i) ≡ false → Plays s (after-command s i) l′ (k + w) g v out → Plays s i l k g v out
 
 -- What is lent at the start of a script: tables with room, STEPS steps on day 0, no rule, mark or watched rule, every place free, and an empty record.
 pub record Fresh (l : Lent) : Type 0 where

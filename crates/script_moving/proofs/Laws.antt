@@ -1,57 +1,60 @@
 -- The tables after a command's rules are added, its marks set and its marks dropped: sound, and with the days of the open marks kept.
 use Prim.Native.Nat.{ℕ, _+_, _-_, _≤_, _<_}
 use native.Mathlib.Omega.{arith}
-use mathlib.Core.Path.{_≡_, refl, sym, ap, subst}
+use mathlib.Core.Path.{_≡_, sym, ap, subst}
 use mathlib.Core.Bool.{Bool}
-use mathlib.Core.List.{List, [], _∷_, map}
+use mathlib.Core.List.{List}
 use mathlib.Core.Logic.{_⊎_, inl, inr}
 use lib.ListN.{length}
 use Rattle.meaning.specs.declared.Counts.{Counts}
+use Rattle.meaning.specs.Bounds.{RULES}
 use Rattle.meaning.specs.Rules.{InBounds}
-use Rattle.meaning.specs.Tables.{Tables, at}
+use Rattle.meaning.specs.Tables.{Columns, Tables, rule-at, at}
 use Rattle.meaning.specs.Calls.{rules-of, held-in}
 use Rattle.meaning.proofs.Places.{down-to-held}
+use Rattle.meaning.proofs.Sequences.{Kept}
 use Rattle.lent.specs.Promises.{Border}
-use Rattle.form.specs.declared.Command.{Command}
-use Rattle.atoms.specs.Atoms.{Named, rules-at}
+use Rattle.reading.specs.declared.Kind.{Kind}
 use Rattle.levels.specs.Levels.{KeptDays, Popped, held-to, with-marks, more-marks}
 use Rattle.levels.proofs.Laws.{kept-same, with-marks-border, popped-border}
-use Rattle.script_meaning.specs.Record.{KnownIn, step-in}
-use Rattle.script_meaning.specs.Effect.{AddsAll, resolved}
-use Rattle.script_meaning.proofs.Needed.{EachRule, rules-met}
+use Rattle.script_meaning.specs.Effect.{AddsAll}
 use Rattle.script_meaning.proofs.Adding.{Each, Grown, still-held, adds-kept}
-use Rattle.script_meaning.proofs.Keeping.{map-length}
 use Rattle.script_meaning.proofs.Orderly.{adds-orderly}
-use Rattle.asserts.proofs.Reach.{AllWithin, added-within}
-use Rattle.script_moving.specs.Moving.{Movable, Moves, OrderKept, term-place, pushes, pops}
-
--- Rules whose names are declared and whose amounts are within bounds are rules within bounds, where there are as many steps as names or more.
-each-in : (steps n : ℕ) (names lens : List ℕ) → n ≤ steps → (rs : List Named) → EachRule (KnownIn n names lens) rs → Each (InBounds steps) (map (resolved (step-in n names lens)) rs)
-each-in steps n names lens few [] each = tt
-each-in steps n names lens few (r ∷ rs) (here, there) = (
-  record {
-    steps-in = record { first-in = omega (arith, here .first-known); second-in = omega (arith, here .second-known) };
-    amount-in = here .amount-in;
-  },
-  each-in steps n names lens few rs there,
-)
+use Rattle.asserts.specs.Rows.{rows-from, RowsFine}
+use Rattle.asserts.proofs.Reach.{wider, AllWithin, added-within}
+use Rattle.asserts.proofs.Rows.{rows-length, rows-each}
+use Rattle.script_moving.specs.Moving.{adds, pushes, pops, Movable, Moves, OrderKept}
 
 -- What adding a command's rules leaves.
 pub record Held (t u : Tables) : Type 0 where
   pub border : Border u
   pub grown : Grown t u
 
-pub rules-added :
-    (c : Command) (broken : ℕ) (s : List ℕ) (n : ℕ) (names lens : List ℕ) (i : ℕ) (t u : Tables) (clash : Bool) → i ≡ term-place c broken (length s) →
-    Movable c broken s n names lens (t .counts) → Border t → AddsAll (map (resolved (step-in n names lens)) (rules-at s i)) t clash u → Held t u
-rules-added c broken s n names lens i t u clash place movable b adds =
-    let rs = rules-at s (term-place c broken (length s)) in
-    let each = rules-met (KnownIn n names lens) rs [] (movable .rules-fine) .0 in
-    let kept = adds-kept (map (resolved (step-in n names lens)) rs) t u clash (record { sound = b .sound; room = b .room })
-    (each-in (t .counts .steps) n names lens (movable .names-known) rs each)
-    (omega (arith, movable .places, map-length (step-in n names lens) rs))
-    (subst (λ (j : ℕ). AddsAll (map (resolved (step-in n names lens)) (rules-at s j)) t clash u) place adds) in
-    record { border = record { room = kept .0 .room; sound = kept .0 .sound }; grown = kept .1 }
+-- The rules of k rows were added to the tables t, over e steps.
+module _
+    (e : ℕ) (rows : Columns) (k : ℕ) (t u : Tables) (clash : Bool) (fine : RowsFine e rows k) (places : t .counts .rules + k ≤ RULES) (b : Border t) (w : AllWithin e t)
+    (added : AddsAll (rows-from rows 0 k) t clash u) where
+  before : Kept t
+  before = record { sound = b .sound; room = b .room }
+
+  few : t .counts .rules + length (rows-from rows 0 k) ≤ RULES
+  few = omega (arith, places, rows-length rows 0 k)
+
+  each : Each (InBounds (t .counts .steps)) (rows-from rows 0 k)
+  each = rows-each (t .counts .steps) rows k (λ i l. wider e (t .counts .steps) (w .steps-there) (rule-at rows i) (fine i l))
+
+  pub rows-added : Held t u
+  rows-added =
+      let kept = adds-kept (rows-from rows 0 k) t u clash before each few added in
+      record { border = record { room = kept .0 .room; sound = kept .0 .sound }; grown = kept .1 }
+
+  -- The rules are in order still where they must be.
+  pub order-stays : (kept : List ℕ) → OrderKept (t .counts .rules) (t .levels) kept → OrderKept (u .counts .rules) (u .levels) kept
+  order-stays kept ordered some = adds-orderly (rows-from rows 0 k) t u clash before each few added (ordered some)
+
+  -- They speak of the steps that they must.
+  pub rows-within : AllWithin e u
+  rows-within = added-within e (rows-from rows 0 k) t u clash before (rows-each e rows k fine) few w added
 
 -- The days that were kept of the open marks are kept still: a new rule has a level that is above theirs.
 pub days-stay :
@@ -72,18 +75,6 @@ days-stay t u kept g k =
     from : (j i : ℕ) → j < t .counts .marks → held-to j (t .levels) i → held-to j (u .levels) i
     from j i j-in (h, low) = (still-held g i h, omega (arith, low, g .older-levels i h))
 
--- The rules are in order still where they must be.
-pub order-stays :
-    (c : Command) (broken : ℕ) (s : List ℕ) (n : ℕ) (names lens : List ℕ) (i : ℕ) (t u : Tables) (clash : Bool) (kept : List ℕ) → i ≡ term-place c broken (length s) →
-    Movable c broken s n names lens (t .counts) → Border t → AddsAll (map (resolved (step-in n names lens)) (rules-at s i)) t clash u → OrderKept (t .counts .rules) (t .levels) kept →
-    OrderKept (u .counts .rules) (u .levels) kept
-order-stays c broken s n names lens i t u clash kept place movable b adds ordered some =
-    let rs = rules-at s (term-place c broken (length s)) in
-    let each = rules-met (KnownIn n names lens) rs [] (movable .rules-fine) .0 in
-    adds-orderly (map (resolved (step-in n names lens)) rs) t u clash (record { sound = b .sound; room = b .room }) (each-in (t .counts .steps) n names lens (movable .names-known) rs each)
-    (omega (arith, movable .places, map-length (step-in n names lens) rs))
-    (subst (λ (j : ℕ). AddsAll (map (resolved (step-in n names lens)) (rules-at s j)) t clash u) place adds) (ordered some)
-
 -- Where the counts are those of n more marks, the tables are those with n more marks.
 pub pushed-same :
     (n : ℕ) (t : Tables) (counts : Counts) → counts ≡ more-marks n (t .counts) →
@@ -92,10 +83,9 @@ pushed-same n t counts counts-are = ap (λ (k : Counts). record { counts = k; ru
 
 -- The tables that were moved are sound and have room.
 pub moves-border :
-    (c : Command) (broken : ℕ) (s : List ℕ) (n : ℕ) (names lens : List ℕ) (t u : Tables) (clash : Bool) → Movable c broken s n names lens (t .counts) → Border t →
-    Moves c broken s (step-in n names lens) t clash u → Border u
-moves-border c broken s n names lens t u clash movable b (v, (adds, dropped)) =
-    let held = rules-added c broken s n names lens (term-place c broken (length s)) t v clash refl movable b adds in
+    (c : Kind) (broken e : ℕ) (rows : Columns) (t u : Tables) (clash : Bool) → Movable c broken e rows (t .counts) → Border t → AllWithin e t → Moves c broken rows t clash u → Border u
+moves-border c broken e rows t u clash movable b w (v, (added, dropped)) =
+    let held = rows-added e rows (adds c broken) t v clash (movable .rows-fine) (movable .places) b w added in
     popped-border (pops c) (with-marks-border (pushes c) (held .border) (omega (arith, held .grown .same-open, movable .marks-fit))) dropped
 
 -- Where marks are dropped, rules are left out: the others speak of the steps that they spoke of.
@@ -104,13 +94,9 @@ popped-within e k t u w p =
     subst (AllWithin e) (sym (p .dropped))
     (record { steps-there = w .steps-there; rules-within = λ i h. w .rules-within i (down-to-held (t .counts .marks - k) t i .0 h .0) })
 
--- Where names and rules speak of steps below e alone, so do the rules of the tables that were moved.
+-- Where rows and rules speak of steps below e alone, so do the rules of the tables that were moved.
 pub moves-within :
-    (e : ℕ) (c : Command) (broken : ℕ) (s : List ℕ) (n : ℕ) (names lens : List ℕ) (t u : Tables) (clash : Bool) → Movable c broken s n names lens (t .counts) → Border t → n ≤ e →
-    AllWithin e t → Moves c broken s (step-in n names lens) t clash u → AllWithin e u
-moves-within e c broken s n names lens t u clash movable b few w (v, (adds, dropped)) =
-    let rs = rules-at s (term-place c broken (length s)) in
-    let each = rules-met (KnownIn n names lens) rs [] (movable .rules-fine) .0 in
-    let grown = added-within e (map (resolved (step-in n names lens)) rs) t v clash (record { sound = b .sound; room = b .room }) (each-in e n names lens few rs each)
-    (omega (arith, movable .places, map-length (step-in n names lens) rs)) w adds in
+    (c : Kind) (broken e : ℕ) (rows : Columns) (t u : Tables) (clash : Bool) → Movable c broken e rows (t .counts) → Border t → AllWithin e t → Moves c broken rows t clash u → AllWithin e u
+moves-within c broken e rows t u clash movable b w (v, (added, dropped)) =
+    let grown = rows-within e rows (adds c broken) t v clash (movable .rows-fine) (movable .places) b w added in
     popped-within e (pops c) (with-marks (pushes c) v) u (record { steps-there = grown .steps-there; rules-within = grown .rules-within }) dropped

@@ -1,113 +1,88 @@
-// What a command does to the tables: the rules of its term are added, its marks set and those that it drops dropped. The parts are called in a row, each with
-// nothing to do where it is not its turn: rules are added from the end of the text, where no atom stands; 0 marks are set or dropped.
+// What a command does to the tables: the rules of its rows are added, its marks set and those that it drops dropped. The parts are called in a row, each with
+// nothing to do where it is not its turn: no row is added, 0 marks are set or dropped.
 ghost use mathlib.Core.Path.{_≡_};
-ghost use Prim.Native.Nat.{_≤_};
 ghost use Rattle.meaning.specs.Tables.{rule-at};
 ghost use Rattle.lent.specs.Lent.{columns, held-by};
 ghost use Rattle.lent.specs.Idle.{unwatched};
 ghost use Rattle.lent.specs.Promises.{Border};
 ghost use Rattle.chains.specs.Chains.{LentChains};
-ghost use Rattle.text.specs.Table.{TABLE};
-ghost use Rattle.names.specs.Names.{Shelved, Indexed, AllDifferent};
 ghost use Rattle.levels.specs.Levels.{KeptDays};
-ghost use Rattle.script_meaning.specs.Record.{step-in};
 ghost use Rattle.asserts.specs.Within.{Within};
-ghost use Rattle.script_moving.specs.Moving.{term-place, pushes, pops, Movable, Moves, OrderKept};
-use form::Command;
+ghost use Rattle.script_moving.specs.Moving.{adds, pushes, pops, Movable, Moves, OrderKept};
 use meaning::Counts;
+use reading::Kind;
 
-// What a command asks of the tables: where the term begins whose rules are added (the end of the text where there is none), and how many marks are set and
-// dropped.
+// What a command asks of the tables: how many rows are added, and how many marks are set and dropped.
 struct Work {
-    term: usize,
+    rows: usize,
     push: usize,
     pop: usize,
 }
 
-// The work of a command on a text of len bytes.
-fn work_of(c: Command, broken: u32, len: usize) -> Work
-    ensures { λ r. ⌜ (r .term ≡ term-place c broken len) × ((r .push ≡ pushes c) × (r .pop ≡ pops c)) ⌝ }
+// The work of a command of this kind.
+fn work_of(c: Kind, broken: u32) -> Work
+    ensures { λ r. ⌜ (r .rows ≡ adds c broken) × ((r .push ≡ pushes c) × (r .pop ≡ pops c)) ⌝ }
 {
     match c {
-        Command::Assert(i) => {
+        Kind::Assert(k) => {
             if broken == 0 {
                 return Work {
-                    term: i,
+                    rows: k,
                     push: 0,
                     pop: 0,
                 };
             }
             Work {
-                term: len,
+                rows: 0,
                 push: 0,
                 pop: 0,
             }
         }
-        Command::Push(n) => Work {
-            term: len,
+        Kind::Push(n) => Work {
+            rows: 0,
             push: n as usize,
             pop: 0,
         },
-        Command::Pop(n) => Work {
-            term: len,
+        Kind::Pop(n) => Work {
+            rows: 0,
             push: 0,
             pop: n as usize,
         },
-        Command::SetLogic => Work {
-            term: len,
+        Kind::SetLogic => Work {
+            rows: 0,
             push: 0,
             pop: 0,
         },
-        Command::Declare(_, _) => Work {
-            term: len,
+        Kind::Declare(_, _) => Work {
+            rows: 0,
             push: 0,
             pop: 0,
         },
-        Command::CheckSat => Work {
-            term: len,
+        Kind::CheckSat => Work {
+            rows: 0,
             push: 0,
             pop: 0,
         },
-        Command::GetValue(_) => Work {
-            term: len,
+        Kind::GetValue(_) => Work {
+            rows: 0,
             push: 0,
             pop: 0,
         },
-        Command::Exit => Work {
-            term: len,
-            push: 0,
-            pop: 0,
-        },
-        Command::Unsupported => Work {
-            term: len,
-            push: 0,
-            pop: 0,
-        },
-        Command::Syntax => Work {
-            term: len,
-            push: 0,
-            pop: 0,
-        },
-        Command::Oversize => Work {
-            term: len,
+        Kind::Exit => Work {
+            rows: 0,
             push: 0,
             pop: 0,
         },
     }
 }
 
-// Adds the rules of the command's term, sets its marks and drops those that it drops. The names and the rules held speak of steps below e alone.
+// Adds the rules of the command's rows, sets its marks and drops those that it drops. The rows and the rules held speak of steps below e alone.
 pub fn move_tables(
-    c: Command,
+    c: Kind,
     broken: u32,
-    s: &[u8],
-    tab: &[u8; text::PLACES],
-    n: usize,
-    names: &[u8],
-    lens: &[u8],
-    hashes: &[u16],
-    name_heads: &[u16],
-    name_nexts: &[u16],
+    row_xs: &[u16],
+    row_ys: &[u16],
+    row_cs: &[i32],
     counts: Counts,
     xs: &mut [u16],
     ys: &mut [u16],
@@ -119,37 +94,27 @@ pub fn move_tables(
     kept: &mut [u32],
     e: u32,
 ) -> asserts::Added
-    requires { ⌜ now tab ≡ TABLE ⌝ }
-    requires { ⌜ Shelved n (now names) (now lens) ⌝ }
-    requires { ⌜ Indexed n (now names) (now lens) (now hashes) (now «name_heads») (now «name_nexts») ⌝ }
-    requires { ⌜ AllDifferent n (now names) (now lens) ⌝ }
-    requires { ⌜ Movable c broken (now s) n (now names) (now lens) counts ⌝ }
+    requires { ⌜ Movable c broken e (columns (now «row_xs») (now «row_ys») (now «row_cs»)) counts ⌝ }
     requires { ⌜ Border (unwatched counts (now xs) (now ys) (now cs) (now days) (now levels)) ⌝ }
     requires { ⌜ LentChains (counts .steps) (held-by (now levels)) (now xs) (now heads) (now nexts) ⌝ }
     requires { ⌜ KeptDays (rule-at (columns (now xs) (now ys) (now cs))) (counts .steps) (counts .marks) (now levels) (now kept) ⌝ }
     requires { ⌜ OrderKept (counts .rules) (now levels) (now kept) ⌝ }
-    requires { ⌜ n ≤ e ⌝ }
     requires { ⌜ Within e counts (now levels) (columns (now xs) (now ys) (now cs)) ⌝ }
     ensures { λ r. ⌜
-        Moves c broken (now (s .entry)) (step-in n (now (names .entry)) (now (lens .entry)))
+        Moves c broken (columns (now («row_xs» .entry)) (now («row_ys» .entry)) (now («row_cs» .entry)))
         (unwatched counts (now (xs .entry)) (now (ys .entry)) (now (cs .entry)) (now (days .entry)) (now (levels .entry)))
         (r .clash)
         (unwatched (r .counts) (now (xs .exit)) (now (ys .exit)) (now (cs .exit)) (now (days .exit)) (now (levels .exit))) ⌝ }
     ensures { λ r. ⌜ LentChains (r .counts .steps) (held-by (now (levels .exit))) (now (xs .exit)) (now (heads .exit)) (now (nexts .exit)) ⌝ }
     ensures { λ r. ⌜ KeptDays (rule-at (columns (now (xs .exit)) (now (ys .exit)) (now (cs .exit)))) (r .counts .steps) (r .counts .marks) (now (levels .exit)) (now (kept .exit)) ⌝ }
 {
-    let work = work_of(c, broken, s.len());
-    let term = work.term;
+    let work = work_of(c, broken);
+    let in_order = 0 < kept.len();
     let added = asserts::add_rules(
-        s,
-        tab,
-        term,
-        n,
-        names,
-        lens,
-        hashes,
-        name_heads,
-        name_nexts,
+        work.rows,
+        row_xs,
+        row_ys,
+        row_cs,
         counts,
         xs,
         ys,
@@ -159,6 +124,7 @@ pub fn move_tables(
         heads,
         nexts,
         e,
+        in_order,
     );
     let grown = added.counts;
     let pushed = levels::push(grown, days, kept, work.push);
@@ -173,7 +139,7 @@ pub fn move_tables(
         nexts,
         kept,
         work.pop,
-        0 < kept.len(),
+        in_order,
     );
     asserts::Added {
         counts: popped,

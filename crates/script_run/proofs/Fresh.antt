@@ -56,7 +56,7 @@ zeros n = replicate {A = ℕ} n 0
 abbrev pub all-off : List ℕ
 all-off = replicate {A = ℕ} RULES OFF
 
-long : (n : ℕ) → n ≤ length (zeros n)
+pub long : (n : ℕ) → n ≤ length (zeros n)
 long n = omega (arith, length-replicate {A = ℕ} n 0)
 
 none-set : (n v : ℕ) → v < n → at (zeros n) v ≡ 0

@@ -6,11 +6,10 @@ use mathlib.Core.Path.{_≡_, ap}
 use mathlib.Core.List.{List}
 use mathlib.Core.Logic.{inl, inr}
 use Rattle.meaning.specs.Bounds.{DONE}
-use Rattle.form.specs.declared.Command.{Command}
-use Rattle.form.specs.declared.Command.the-variants.{SetLogic, Declare, Assert, Push, Pop, CheckSat, GetValue, Exit, Unsupported, Syntax, Oversize}
-use Rattle.form.specs.Form.{form}
+use Rattle.reading.specs.Tree.{Command}
+use Rattle.reading.specs.Reading.{Why, Read, reading}
 use Rattle.script_meaning.specs.Record.{Lent}
-use Rattle.script_meaning.specs.Effect.{Does}
+use Rattle.script_meaning.specs.Effect.{Changes, Does}
 use Rattle.script_command.specs.declared.Carried.{Carried}
 use Rattle.script_command.specs.Carrying.{Carries}
 
@@ -18,23 +17,26 @@ use Rattle.script_command.specs.Carrying.{Carries}
 abbrev named : Lent → ℕ
 named l = l .notes .names
 
-does-named : (c : Command) (s : List ℕ) (k w : ℕ) (before after : Lent) → Does c s k before w after → named before ≤ named after
-does-named SetLogic s k w before after (w-is, is) = omega (arith, ap named is)
-does-named (Declare a b) s k w before after (w-is, is) = omega (arith, ap named is)
-does-named (Assert i) s k w before after (w-is, inl (some, is)) = omega (arith, ap named is)
-does-named (Assert i) s k w before after (w-is, inr (none, (t, (clash, (adds, is))))) = omega (arith, ap named is)
-does-named (Push n) s k w before after (w-is, is) = omega (arith, ap named is)
-does-named (Pop n) s k w before after (w-is, (t, (p, is))) = omega (arith, ap named is)
-does-named CheckSat s k w before after (w-is, is) = omega (arith, ap named is)
-does-named (GetValue i) s k w before after (w-is, is) = omega (arith, ap named is)
-does-named Exit s k w before after (w-is, is) = omega (arith, ap named is)
-does-named Unsupported s k w before after (w-is, is) = omega (arith, ap named is)
-does-named Syntax s k w before after d = absurd d
-does-named Oversize s k w before after d = absurd d
+changes-named : (r : Read Command) (before after : Lent) → Changes r before after → named before ≤ named after
+changes-named (Read.got Command.set-logic e) before after is = omega (arith, ap named is)
+changes-named (Read.got Command.check-sat e) before after is = omega (arith, ap named is)
+changes-named (Read.got Command.exit e) before after is = omega (arith, ap named is)
+changes-named (Read.got (Command.declare w) e) before after is = omega (arith, ap named is)
+changes-named (Read.got (Command.assert t) e) before after (inl (some, is)) = omega (arith, ap named is)
+changes-named (Read.got (Command.assert t) e) before after (inr (none, (u, (clash, (adds, is))))) = omega (arith, ap named is)
+changes-named (Read.got (Command.push n) e) before after is = omega (arith, ap named is)
+changes-named (Read.got (Command.pop n) e) before after (t, (popped, is)) = omega (arith, ap named is)
+changes-named (Read.got (Command.get-value ws) e) before after is = omega (arith, ap named is)
+changes-named (Read.stop Why.other i) before after is = omega (arith, ap named is)
+changes-named (Read.stop Why.wrong i) before after impossible = absurd impossible
+changes-named (Read.stop Why.size i) before after impossible = absurd impossible
+
+does-named : (r : Read Command) (k w : ℕ) (before after : Lent) → Does r k before w after → named before ≤ named after
+does-named r k w before after (mid, (changes, (w-is, is))) = omega (arith, changes-named r before mid changes, ap named is)
 
 pub carried-named : (s : List ℕ) (k : ℕ) (before : Lent) (r : Carried) (after : Lent) → Carries s k before r after → before .notes .names ≤ after .notes .names
 carried-named s k before r after carries = tell (ℕ-discrete (r .number) DONE)
   where
     tell : Dec (r .number ≡ DONE) → before .notes .names ≤ after .notes .names
-    tell (yes done) = does-named (form s) s k (r .written) before after (carries .when-done done)
+    tell (yes done) = does-named (reading s) k (r .written) before after (carries .when-done done)
     tell (no refused) = omega (arith, ap named (carries .when-refused refused .0))

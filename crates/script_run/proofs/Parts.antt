@@ -4,16 +4,15 @@ use native.Mathlib.Omega.{arith}
 use mathlib.Core.Path.{_≡_, refl, sym, _∙_, ap, subst}
 use mathlib.Core.List.{List, [], _++_}
 use lib.ListN.{length, take, length-append}
-use Rattle.meaning.specs.Bounds.{ROOM, TEXT, DONE, SHORT, SYNTAX}
-use Rattle.form.specs.Form.{form}
+use Rattle.meaning.specs.Bounds.{ROOM, TEXT, DONE, SHORT}
 use Rattle.write.specs.Written.{over}
 use Rattle.write.proofs.Laws.{length-over, over-append, over-none, part-written}
 use Rattle.script_meaning.specs.Record.{Lent}
-use Rattle.script_meaning.specs.Whole.{error-line, command-at, after-command, Plays, blank, RunsScript}
+use Rattle.script_meaning.specs.Whole.{error-line, rest, read-at, after-command, Plays, blank, RunsScript}
 use Rattle.script_meaning.specs.Traces.{with-out}
 use Rattle.script_run.specs.Reaching.{Reaches, Parts}
 use Rattle.script_run.proofs.Reaching.{reaches-plays}
-use Rattle.script_run.proofs.Printing.{first-same, prints, after-both}
+use Rattle.script_run.proofs.Printing.{first-same, prints-there, after-both}
 
 module _ (s : List ℕ) where
   -- From place i to place j the bytes b are printed, and the same into any other bytes that have room for them and for one command more.
@@ -33,8 +32,8 @@ module _ (s : List ℕ) where
         subst (λ (x : List ℕ). Reaches s i (with-out o l) h i (with-out x l) (h + 0)) (sym (over-none o h))
         (subst (λ (x : ℕ). Reaches s i (with-out o l) h i (with-out o l) x) (omega arith) (Reaches.there i (with-out o l) h));
   }
-  comes i l k j m v (Reaches.carried _ _ l₁ _ w _ _ _ some room long met does stays on) =
-      let p = prints (form (command-at s i)) (command-at s i) k l w l₁ does in
+  comes i l k j m v (Reaches.carried _ _ l₁ _ w _ _ _ some room met does stays on) =
+      let p = prints-there (read-at s i) k l w l₁ does in
       let c = comes (after-command s i) l₁ (k + w) j m v on in
       record {
         printed = p .printed ++ c .printed;
@@ -44,7 +43,7 @@ module _ (s : List ℕ) where
             let both : length (p .printed ++ c .printed) ≡ w + length (c .printed) = length-append (p .printed) (c .printed) ∙ ap (λ (x : ℕ). x + length (c .printed)) (p .long) in
             let then = c .elsewhere (over o h (p .printed)) (h + w) (omega (arith, fits, both, length-over o h (p .printed))) in
             Reaches.carried i (with-out o l) (with-out (over o h (p .printed)) l₁) h w j (with-out (over o h (p .printed ++ c .printed)) m) (h + length (p .printed ++ c .printed)) some
-            (omega (arith, fits, both)) long (first-same (form (command-at s i)) (command-at s i) l o DONE met) (p .elsewhere o h) stays
+            (omega (arith, fits, both)) (first-same (rest s i) l o DONE met) (p .elsewhere o h) stays
             (subst (λ (x : List ℕ). Reaches s (after-command s i) (with-out (over o h (p .printed)) l₁) (h + w) j (with-out x m) (h + length (p .printed ++ c .printed)))
             (after-both o h w (p .printed) (c .printed) (p .long))
             (subst (λ (x : ℕ). Reaches s (after-command s i) (with-out (over o h (p .printed)) l₁) (h + w) j (with-out (over (over o h (p .printed)) (h + w) (c .printed)) m) x)
@@ -68,31 +67,25 @@ module _ (s : List ℕ) where
         (subst (λ (x : ℕ). Plays s i (with-out o l) h DONE x o) (omega arith) (Plays.at-end i (with-out o l) h over-here));
   }
   ends i l k g w out (Plays.no-room _ _ _ some short) other = absurd (other refl)
-  ends i l k g w out (Plays.no-command _ _ _ some room none) other = record {
-    printed = error-line SYNTAX;
-    long = refl;
-    there = refl;
-    elsewhere = λ o h fits. Plays.no-command i (with-out o l) h some (omega (arith, fits)) none;
-  }
-  ends i l k g w out (Plays.refused _ _ _ _ some room long first not-done) other = record {
+  ends i l k g w out (Plays.refused _ _ _ _ some room first not-done) other = record {
     printed = error-line g;
     long = refl;
     there = refl;
-    elsewhere = λ o h fits. Plays.refused i (with-out o l) h g some (omega (arith, fits)) long (first-same (form (command-at s i)) (command-at s i) l o g first) not-done;
+    elsewhere = λ o h fits. Plays.refused i (with-out o l) h g some (omega (arith, fits)) (first-same (rest s i) l o g first) not-done;
   }
-  ends i l k g w out (Plays.exited _ _ l₁ _ u some room long met does over-here) other =
-      let p = prints (form (command-at s i)) (command-at s i) k l u l₁ does in
+  ends i l k g w out (Plays.exited _ _ l₁ _ u some room met does over-here) other =
+      let p = prints-there (read-at s i) k l u l₁ does in
       record {
         printed = p .printed;
         long = omega (arith, p .long);
         there = p .there;
         elsewhere = λ o h fits.
             subst (λ (x : ℕ). Plays s i (with-out o l) h DONE (h + x) (over o h (p .printed))) (sym (p .long))
-            (Plays.exited i (with-out o l) (with-out (over o h (p .printed)) l₁) h u some (omega (arith, fits)) long
-            (first-same (form (command-at s i)) (command-at s i) l o DONE met) (p .elsewhere o h) over-here);
+            (Plays.exited i (with-out o l) (with-out (over o h (p .printed)) l₁) h u some (omega (arith, fits))
+            (first-same (rest s i) l o DONE met) (p .elsewhere o h) over-here);
       }
-  ends i l k g w out (Plays.goes-on _ _ l₁ _ u _ _ _ some room long met does stays on) other =
-      let p = prints (form (command-at s i)) (command-at s i) k l u l₁ does in
+  ends i l k g w out (Plays.goes-on _ _ l₁ _ u _ _ _ some room met does stays on) other =
+      let p = prints-there (read-at s i) k l u l₁ does in
       let c = ends (after-command s i) l₁ (k + u) g w out on other in
       record {
         printed = p .printed ++ c .printed;
@@ -102,7 +95,7 @@ module _ (s : List ℕ) where
             let both : length (p .printed ++ c .printed) ≡ u + length (c .printed) = length-append (p .printed) (c .printed) ∙ ap (λ (x : ℕ). x + length (c .printed)) (p .long) in
             let then = c .elsewhere (over o h (p .printed)) (h + u) (omega (arith, fits, both, length-over o h (p .printed))) in
             Plays.goes-on i (with-out o l) (with-out (over o h (p .printed)) l₁) h u g (h + length (p .printed ++ c .printed)) (over o h (p .printed ++ c .printed)) some
-            (omega (arith, fits, both)) long (first-same (form (command-at s i)) (command-at s i) l o DONE met) (p .elsewhere o h) stays
+            (omega (arith, fits, both)) (first-same (rest s i) l o DONE met) (p .elsewhere o h) stays
             (subst (λ (x : List ℕ). Plays s (after-command s i) (with-out (over o h (p .printed)) l₁) (h + u) g (h + length (p .printed ++ c .printed)) x)
             (after-both o h u (p .printed) (c .printed) (p .long))
             (subst (λ (x : ℕ). Plays s (after-command s i) (with-out (over o h (p .printed)) l₁) (h + u) g x (over (over o h (p .printed)) (h + u) (c .printed)))

@@ -16,14 +16,14 @@ module _ (s : List ℕ) where
   pub reaches-plays :
       (i : ℕ) (l : Lent) (k j : ℕ) (m : Lent) (v g w : ℕ) (out : List ℕ) → Reaches s i l k j m v → Plays s j m v g w out → Plays s i l k g w out
   reaches-plays i l k j m v g w out (Reaches.there _ _ _) then = then
-  reaches-plays i l k j m v g w out (Reaches.carried _ _ l₁ _ u _ _ _ some room long met does stays on) then =
-      Plays.goes-on i l l₁ k u g w out some room long met does stays (reaches-plays (after-command s i) l₁ (k + u) j m v g w out on then)
+  reaches-plays i l k j m v g w out (Reaches.carried _ _ l₁ _ u _ _ _ some room met does stays on) then =
+      Plays.goes-on i l l₁ k u g w out some room met does stays (reaches-plays (after-command s i) l₁ (k + u) j m v g w out on then)
 
   pub reaches-on :
       (i : ℕ) (l : Lent) (k j : ℕ) (m : Lent) (v h : ℕ) (n : Lent) (w : ℕ) → Reaches s i l k j m v → Reaches s j m v h n w → Reaches s i l k h n w
   reaches-on i l k j m v h n w (Reaches.there _ _ _) then = then
-  reaches-on i l k j m v h n w (Reaches.carried _ _ l₁ _ u _ _ _ some room long met does stays on) then =
-      Reaches.carried i l l₁ k u h n w some room long met does stays (reaches-on (after-command s i) l₁ (k + u) j m v h n w on then)
+  reaches-on i l k j m v h n w (Reaches.carried _ _ l₁ _ u _ _ _ some room met does stays on) then =
+      Reaches.carried i l l₁ k u h n w some room met does stays (reaches-on (after-command s i) l₁ (k + u) j m v h n w on then)
 
 -- A part is under way: from place i on, with l lent, place j is reached, with m lent and k bytes written.
 pub record Underway (s : List ℕ) (i : ℕ) (l : Lent) (j k : ℕ) (m : Lent) : Type 0 where

@@ -7,21 +7,18 @@ use lib.ListN.{length, take}
 use Rattle.meaning.specs.Bounds.{ROOM, DONE, SHORT}
 use Rattle.meaning.specs.Promise.{First}
 use Rattle.text.specs.Lexicon.{END, token-at}
-use Rattle.span.specs.Span.{span}
-use Rattle.form.specs.Form.{form}
 use Rattle.script_meaning.specs.Record.{Lent}
 use Rattle.script_meaning.specs.Effect.{Does}
-use Rattle.script_meaning.specs.Commands.{command-needs}
-use Rattle.script_meaning.specs.Whole.{rest, command-at, after-command, exits, Plays}
+use Rattle.script_meaning.specs.Commands.{text-needs}
+use Rattle.script_meaning.specs.Whole.{rest, read-at, after-command, exits, Plays}
 
 -- The script s from place i on, with l lent and k bytes written so far, comes to place j, with m lent and v bytes written, when some of its commands are
 -- carried out, none of them `exit`. Each is carried out as where the whole script plays.
 pub data Reaches (s : List ℕ) : ℕ → Lent → ℕ → ℕ → Lent → ℕ → Type 0 where
   there : (i : ℕ) (l : Lent) (k : ℕ) → Reaches s i l k i l k
   carried :
-      (i : ℕ) (l l′ : Lent) (k w j : ℕ) (m : Lent) (v : ℕ) → (token-at s i .kind ≡ END → ⊥) → k + ROOM ≤ length (l .out) → 1 ≤ span (rest s i) →
-      First (command-needs (form (command-at s i)) (command-at s i) l) DONE → Does (form (command-at s i)) (command-at s i) k l w l′ →
-      exits (form (command-at s i)) ≡ false → Reaches s (after-command s i) l′ (k + w) j m v → Reaches s i l k j m v
+      (i : ℕ) (l l′ : Lent) (k w j : ℕ) (m : Lent) (v : ℕ) → (token-at s i .kind ≡ END → ⊥) → k + ROOM ≤ length (l .out) → First (text-needs (rest s i) l) DONE →
+      Does (read-at s i) k l w l′ → exits (read-at s i) ≡ false → Reaches s (after-command s i) l′ (k + w) j m v → Reaches s i l k j m v
 
 -- **A part of a script**: s from place i on, with l lent and no byte written yet, as far as the bytes for the answers go. It is played with the number g; w bytes
 -- are written, and l′ is left. It pauses exactly for want of room: place j is reached, at which the next part begins; and with room for one command at least,

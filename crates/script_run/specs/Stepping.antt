@@ -4,39 +4,30 @@ use mathlib.Core.Path.{_≡_}
 use mathlib.Core.Bool.{Bool, true, false}
 use mathlib.Core.List.{List}
 use lib.ListN.{length}
-use Rattle.meaning.specs.Bounds.{ROOM, DONE, SHORT, SYNTAX}
+use Rattle.meaning.specs.Bounds.{ROOM, DONE, SHORT}
 use Rattle.text.specs.Lexicon.{END, token-at}
-use Rattle.span.specs.Span.{span}
 use Rattle.write.specs.Written.{over}
 use Rattle.script_meaning.specs.Record.{Lent}
-use Rattle.script_meaning.specs.Whole.{error-line, rest, after-command, Plays, blank}
+use Rattle.script_meaning.specs.Whole.{error-line, Plays, blank}
 use Rattle.script_run.specs.declared.Begun.{Begun}
 use Rattle.script_run.specs.Reaching.{Reaches}
 
--- A command begins at place `from`, after place i, and ends before place `end`; n bytes are lent, and k of them written.
-pub record CommandThere (s : List ℕ) (i n k from end : ℕ) : Type 0 where
+-- Something stands after place i, from place `from` on; n bytes are lent, and k of them written.
+pub record CommandThere (s : List ℕ) (i n k from : ℕ) : Type 0 where
   pub not-over : token-at s i .kind ≡ END → ⊥
   pub room : k + ROOM ≤ n
   pub from-is : from ≡ token-at s i .from
-  pub some : 1 ≤ span (rest s i)
-  pub end-is : end ≡ after-command s i
-  pub within : end ≤ length s
-  pub onward : i < end
+  pub within : from ≤ length s
+  pub onward : i ≤ from
 
 -- No command can be carried out, and the script ends with the number.
 pub data Halts (s : List ℕ) (i n k : ℕ) : ℕ → Type 0 where
   over-there : token-at s i .kind ≡ END → Halts s i n k DONE
   short-there : (token-at s i .kind ≡ END → ⊥) → n < k + ROOM → Halts s i n k SHORT
-  none-there : (token-at s i .kind ≡ END → ⊥) → k + ROOM ≤ n → span (rest s i) ≡ 0 → Halts s i n k SYNTAX
 
 pub record Begins (s : List ℕ) (i n k : ℕ) (b : Begun) : Type 0 where
-  pub when-ready : b .ready ≡ true → CommandThere s i n k (b .from) (b .end)
+  pub when-ready : b .ready ≡ true → CommandThere s i n k (b .from)
   pub when-not : b .ready ≡ false → Halts s i n k (b .number)
-
--- SYNTAX was printed from place k on, any other number not; e is the place past what is written.
-pub record Halted (out : List ℕ) (k g : ℕ) (out′ : List ℕ) (e : ℕ) : Type 0 where
-  pub syntax : g ≡ SYNTAX → (out′ ≡ over out k (error-line g)) × (e ≡ k + length (error-line g))
-  pub quiet : (g ≡ SYNTAX → ⊥) → (out′ ≡ out) × (e ≡ k)
 
 -- A refusal was printed from place k on, where there is one; e is the place past what is written, w bytes where there is none; it is at most ROOM bytes on.
 pub record Settled (out : List ℕ) (k g w : ℕ) (out′ : List ℕ) (e : ℕ) : Type 0 where

@@ -3,13 +3,13 @@ ghost use mathlib.Core.Path.{_≡_};
 ghost use Prim.Native.Nat.{ℕ, _+_, _≤_, _<_};
 ghost use lib.ListN.{length};
 ghost use mathlib.Core.Bool.{Bool, true, false};
-ghost use Rattle.meaning.specs.Bounds.{ROOM, DONE, SYNTAX};
+ghost use Rattle.meaning.specs.Bounds.{RULES, ROOM, DONE};
 ghost use Rattle.text.specs.Table.{TABLE};
 ghost use Rattle.write.specs.Written.{over, decimal};
 ghost use Rattle.script_meaning.specs.Whole.{error-line, RunsScript};
 ghost use Rattle.script_command.specs.Carrying.{in-hand, Maintained};
 ghost use Rattle.script_run.specs.Reaching.{Advances};
-ghost use Rattle.script_run.specs.Stepping.{Begins, Halted, Settled, GoesOn, Steps, PlaysFresh};
+ghost use Rattle.script_run.specs.Stepping.{Begins, Settled, GoesOn, Steps, PlaysFresh};
 use meaning::Counts;
 use script_meaning::Notes;
 
@@ -30,12 +30,11 @@ pub struct Played {
     pub notes: Notes,
 }
 
-// Whether a command can be carried out from a place on: where it begins and ends; where none can, the number with which the script ends.
+// Whether a command can be carried out from a place on, and where it begins; where none can, the number with which the script ends.
 struct Begun {
     ready: bool,
     number: u32,
     from: usize,
-    end: usize,
 }
 
 // How one command ended: the refusal's number; whether the script goes on, or pauses for want of room, and from which place; how many bytes are written so far; the
@@ -61,7 +60,7 @@ fn put_error(out: &mut [u8], at: usize, number: u32) -> usize
 }
 
 // Whether a command can be carried out from place at on, where to of len bytes are written: not at the end of the text (0), not where fewer than ROOM bytes
-// are left (SHORT), not where no command stands (SYNTAX).
+// are left (SHORT).
 fn begin(s: &[u8], tab: &[u8; text::PLACES], at: usize, len: usize, to: usize) -> Begun
     requires { ⌜ now tab ≡ TABLE ⌝ }
     ensures { λ r. ⌜ Begins (now (s .entry)) at len to r ⌝ }
@@ -73,7 +72,6 @@ fn begin(s: &[u8], tab: &[u8; text::PLACES], at: usize, len: usize, to: usize) -
             ready: false,
             number: 0,
             from: from,
-            end: from,
         };
     }
     if len < to || len - to < meaning::ROOM {
@@ -81,35 +79,13 @@ fn begin(s: &[u8], tab: &[u8; text::PLACES], at: usize, len: usize, to: usize) -
             ready: false,
             number: meaning::SHORT,
             from: from,
-            end: from,
-        };
-    }
-    let size = span::span_of(&s[from..], tab);
-    if size == 0 {
-        return Begun {
-            ready: false,
-            number: meaning::SYNTAX,
-            from: from,
-            end: from,
         };
     }
     Begun {
         ready: true,
         number: 0,
         from: from,
-        end: from + size,
     }
-}
-
-// Ends a script where no command can be carried out: SYNTAX is printed, any other number is not. Gives back the place past what is written.
-fn halt(out: &mut [u8], to: usize, number: u32) -> usize
-    requires { ⌜ (number ≡ SYNTAX → to + ROOM ≤ length (now out)) ⌝ }
-    ensures { λ r. ⌜ Halted (now (out .entry)) to number (now (out .exit)) r ⌝ }
-{
-    if number == meaning::SYNTAX {
-        return put_error(out, to, number);
-    }
-    to
 }
 
 // After a command: prints its refusal where there is one, and gives back the place past what is written.
@@ -139,6 +115,9 @@ fn one(
     s: &[u8],
     tab: &[u8; text::PLACES],
     at: usize,
+    row_xs: &mut [u16],
+    row_ys: &mut [u16],
+    row_cs: &mut [i32],
     counts: Counts,
     notes: Notes,
     xs: &mut [u16],
@@ -158,28 +137,32 @@ fn one(
     to: usize,
 ) -> Step
     requires { ⌜ now tab ≡ TABLE ⌝ }
+    requires { ⌜ RULES ≤ length (now «row_xs») ⌝ }
+    requires { ⌜ length (now «row_xs») ≤ length (now «row_ys») ⌝ }
+    requires { ⌜ length (now «row_xs») ≤ length (now «row_cs») ⌝ }
     requires { ⌜ Maintained (notes .names) (in-hand counts (now xs) (now ys) (now cs) (now days) (now levels) notes (now names) (now lens) (now out)) (now heads) (now nexts) (now kept) (now hashes) (now «name_heads») (now «name_nexts») ⌝ }
     ensures { λ r. ⌜ Steps (now (s .entry)) at (in-hand counts (now (xs .entry)) (now (ys .entry)) (now (cs .entry)) (now (days .entry)) (now (levels .entry)) notes (now (names .entry)) (now (lens .entry)) (now (out .entry))) to (r .number) (r .going) (r .paused) (r .at) (r .to) (in-hand (r .counts) (now (xs .exit)) (now (ys .exit)) (now (cs .exit)) (now (days .exit)) (now (levels .exit)) (r .notes) (now (names .exit)) (now (lens .exit)) (now (out .exit))) ⌝ }
     ensures { λ r. ⌜ Maintained (r .notes .names) (in-hand (r .counts) (now (xs .exit)) (now (ys .exit)) (now (cs .exit)) (now (days .exit)) (now (levels .exit)) (r .notes) (now (names .exit)) (now (lens .exit)) (now (out .exit))) (now (heads .exit)) (now (nexts .exit)) (now (kept .exit)) (now (hashes .exit)) (now («name_heads» .exit)) (now («name_nexts» .exit)) ⌝ }
 {
     let b = begin(s, tab, at, out.len(), to);
     if !b.ready {
-        let past = halt(out, to, b.number);
         return Step {
             number: b.number,
             going: false,
             paused: b.number == meaning::SHORT,
             at: at,
-            to: past,
+            to: to,
             counts: counts,
             notes: notes,
         };
     }
     let from = b.from;
-    let end = b.end;
     let r = script_command::carry(
-        &s[from..end],
+        &s[from..],
         tab,
+        row_xs,
+        row_ys,
+        row_cs,
         counts,
         notes,
         xs,
@@ -206,7 +189,7 @@ fn one(
         number: r.number,
         going: goes_on(r.number, r.ended),
         paused: false,
-        at: end,
+        at: from + r.read,
         to: past,
         counts: held,
         notes: noted,
@@ -219,6 +202,9 @@ pub fn advance(
     s: &[u8],
     tab: &[u8; text::PLACES],
     start: usize,
+    row_xs: &mut [u16],
+    row_ys: &mut [u16],
+    row_cs: &mut [i32],
     counts: Counts,
     notes: Notes,
     xs: &mut [u16],
@@ -237,6 +223,9 @@ pub fn advance(
     out: &mut [u8],
 ) -> Played
     requires { ⌜ now tab ≡ TABLE ⌝ }
+    requires { ⌜ RULES ≤ length (now «row_xs») ⌝ }
+    requires { ⌜ length (now «row_xs») ≤ length (now «row_ys») ⌝ }
+    requires { ⌜ length (now «row_xs») ≤ length (now «row_cs») ⌝ }
     requires { ⌜ Maintained (notes .names) (in-hand counts (now xs) (now ys) (now cs) (now days) (now levels) notes (now names) (now lens) (now out)) (now heads) (now nexts) (now kept) (now hashes) (now «name_heads») (now «name_nexts») ⌝ }
     ensures { λ r. ⌜ Advances (now (s .entry)) start (in-hand counts (now (xs .entry)) (now (ys .entry)) (now (cs .entry)) (now (days .entry)) (now (levels .entry)) notes (now (names .entry)) (now (lens .entry)) (now (out .entry))) (r .number) (r .paused) (r .at) (r .written) (in-hand (r .counts) (now (xs .exit)) (now (ys .exit)) (now (cs .exit)) (now (days .exit)) (now (levels .exit)) (r .notes) (now (names .exit)) (now (lens .exit)) (now (out .exit))) ⌝ }
     ensures { λ r. ⌜ Maintained (r .notes .names) (in-hand (r .counts) (now (xs .exit)) (now (ys .exit)) (now (cs .exit)) (now (days .exit)) (now (levels .exit)) (r .notes) (now (names .exit)) (now (lens .exit)) (now (out .exit))) (now (heads .exit)) (now (nexts .exit)) (now (kept .exit)) (now (hashes .exit)) (now («name_heads» .exit)) (now («name_nexts» .exit)) ⌝ }
@@ -250,6 +239,9 @@ pub fn advance(
             s,
             tab,
             at,
+            row_xs,
+            row_ys,
+            row_cs,
             held,
             noted,
             xs,
@@ -307,10 +299,16 @@ fn play_fresh(s: &[u8], out: &mut [u8]) -> Ran
     let mut hashes = [0u16; meaning::STEPS];
     let mut name_heads = [0u16; names::BUCKETS];
     let mut name_nexts = [0u16; meaning::STEPS];
+    let mut row_xs = [0u16; meaning::RULES];
+    let mut row_ys = [0u16; meaning::RULES];
+    let mut row_cs = [0i32; meaning::RULES];
     let played = advance(
         s,
         &tab,
         0,
+        &mut row_xs,
+        &mut row_ys,
+        &mut row_cs,
         counts,
         notes,
         &mut xs,

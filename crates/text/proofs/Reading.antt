@@ -7,7 +7,7 @@ use native.Mathlib.Decide.{ℕ-discrete}
 use native.Mathlib.Omega.{arith}
 use lib.Dec.{T, eqb, ltb, eqb→eq, ltb→lt, lt→ltb}
 use lib.ListN.{getD}
-use Rattle.text.specs.Lexicon.{both, class, grown, kind}
+use Rattle.text.specs.Lexicon.{both, either, class, grown, kind}
 use Rattle.text.specs.Table.{TABLE}
 
 pub both-left : (a b : Bool) → T (both a b) → T a
@@ -65,13 +65,43 @@ pub grown-small : (p k : ℕ) → p < 16 → k < 16 → grown p k < 16
 unfolding grown-right
 grown-small p k h g = ltb→lt (grown p k) 16 (both-right (eqb (getD TABLE (256 + 16 * p + k) 0) (grown p k)) (ltb (grown p k) 16) (grown-all p k h g))
 
--- A symbol that goes on with a letter, of a class from 12 to 15, stays one.
-stays : ℕ → Bool
-stays k = implies (ltb 11 k) (eqb (grown 10 k) 10)
+-- Where a or b holds and a does not, b does.
+pub other : (a b : Bool) → T (either a b) → (T a → ⊥) → T b
+other true b t d = absurd (d tt)
+other false b t d = t
 
-pub symbol-stays : (k : ℕ) → k < 16 → 11 < k → grown 10 k ≡ 10
-unfolding stays
-symbol-stays k h g = eqb→eq (grown 10 k) 10 (given (ltb 11 k) (eqb (grown 10 k) 10) (at 16 stays tt k h) (lt→ltb 11 k g))
+-- A class above lo, neither of # nor of the colon.
+abbrev pub Unmarked : ℕ → ℕ → Type 0
+Unmarked lo k = (lo < k) × (k ≡ 10 → ⊥) × (k ≡ 11 → ⊥)
+
+pub below-marks : (lo k : ℕ) → lo < k → k < 10 → Unmarked lo k
+below-marks lo k h g = (h, λ e. omega arith, λ e. omega arith)
+
+pub of-letter : (lo k : ℕ) → lo < 12 → 11 < k → Unmarked lo k
+of-letter lo k h g = (omega arith, λ e. omega arith, λ e. omega arith)
+
+-- With a byte of such a class p is a symbol.
+makes-symbol : ℕ → ℕ → ℕ → Bool
+makes-symbol p lo k = implies (ltb lo k) (either (eqb k 10) (either (eqb k 11) (eqb (grown p k) 10)))
+
+symbol-made : (p lo : ℕ) → T (below 16 (makes-symbol p lo)) → (k : ℕ) → k < 16 → Unmarked lo k → grown p k ≡ 10
+unfolding makes-symbol
+symbol-made p lo all k h u =
+    eqb→eq (grown p k) 10
+    (other (eqb k 11) (eqb (grown p k) 10)
+    (other (eqb k 10) (either (eqb k 11) (eqb (grown p k) 10))
+    (given (ltb lo k) (either (eqb k 10) (either (eqb k 11) (eqb (grown p k) 10))) (at 16 (makes-symbol p lo) all k h) (lt→ltb lo k (u .0)))
+    (λ t. u .1 (eqb→eq k 10 t)))
+    (λ t. u .2 (eqb→eq k 11 t)))
+
+-- A symbol begins with a point or a letter, and goes on with these and digits.
+pub symbol-begins : (k : ℕ) → k < 16 → Unmarked 8 k → grown 0 k ≡ 10
+unfolding makes-symbol
+symbol-begins = symbol-made 0 8 tt
+
+pub symbol-stays : (k : ℕ) → k < 16 → Unmarked 5 k → grown 10 k ≡ 10
+unfolding makes-symbol
+symbol-stays = symbol-made 10 5 tt
 
 kind-right : ℕ → Bool
 kind-right p = eqb (getD TABLE (512 + p) 0) (kind p)

@@ -1,5 +1,5 @@
 -- What a token says of its place and its bytes: by the cases of what stands behind white space and comments. These are the laws for callers of
--- `text::token`; the contract's equation is the last argument of `token-placed`.
+-- `text::token` and `text::symbol`; the contract's equation is the last argument of `token-placed`.
 use mathlib.Core.Path.{_≡_, refl, sym, subst, ap, _∙_}
 use mathlib.Core.Bool.{false}
 use mathlib.Core.List.{List}
@@ -103,7 +103,7 @@ module _ (s : List ℕ) (i : ℕ) where
           subst (Placed s i) (sym (stands s (start s i) l)) (of-class (start s i) first l new)
       by-end (no d) = subst (Placed s i) (sym (stands-end s (start s i) (omega arith))) (at-end (start s i) first (λ h. omega (arith, rest)) (omega arith))
 
--- Every token that the contract of `text::token` speaks of.
+-- Every token that the contract of `text::token` or `text::symbol` speaks of.
 pub token-placed : (s : List ℕ) (i : ℕ) (t : Tok) → t ≡ token-at s i → Placed s i t
 token-placed s i t e = subst (Placed s i) (sym e) (found s i)
 

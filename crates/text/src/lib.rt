@@ -113,6 +113,42 @@ fn piece(s: &[u8], tab: &[u8; PLACES], f: usize, first: u8) -> Tok
     }
 }
 
+// The first token from place at on, where it is likely to be a symbol: its bytes are told by their classes alone.
+pub fn symbol(s: &[u8], tab: &[u8; PLACES], at: usize) -> Tok
+    requires { ⌜ now tab ≡ TABLE ⌝ }
+    ensures { λ r. ⌜ r ≡ token-at (now (s .entry)) at ⌝ }
+{
+    let mut f = at;
+    'seek: while f < s.len() {
+        let k = class_of(tab, s[f]);
+        if k != 0 {
+            if k == 9 || 11 < k {
+                let mut i = f + 1;
+                while i < s.len() {
+                    let c = class_of(tab, s[i]);
+                    if c < 12 {
+                        if c <= 4 {
+                            break;
+                        }
+                        if c < 6 || 9 < c {
+                            break 'seek;
+                        }
+                    }
+                    i += 1;
+                }
+                return Tok {
+                    kind: SYMBOL,
+                    from: f,
+                    to: i,
+                };
+            }
+            break;
+        }
+        f += 1;
+    }
+    token(s, tab, f)
+}
+
 // The first token from place at on; of kind END at the end of the text.
 pub fn token(s: &[u8], tab: &[u8; PLACES], at: usize) -> Tok
     requires { ⌜ now tab ≡ TABLE ⌝ }

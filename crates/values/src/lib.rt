@@ -1,17 +1,14 @@
 // What get-value prints: the names with their days.
 ghost use mathlib.Core.Path.{_≡_};
-ghost use Prim.Native.Nat.{_+_, _<_, _≤_};
+ghost use Prim.Native.Nat.{ℕ, _+_, _<_, _≤_};
 ghost use lib.ListN.{length, getD};
-ghost use Rattle.meaning.specs.Bounds.{STEPS, ASKED, ROOM, DONE};
-ghost use Rattle.meaning.specs.Promise.{First};
+ghost use Rattle.meaning.specs.Bounds.{STEPS, ASKED, ROOM};
+ghost use Rattle.meaning.specs.Tables.{at};
 ghost use Rattle.text.specs.Lexicon.{bytes};
-ghost use Rattle.text.specs.Table.{TABLE};
-ghost use Rattle.names.specs.Names.{Shelved, Indexed, AllDifferent};
+ghost use Rattle.names.specs.Names.{Shelved};
 ghost use Rattle.write.specs.Written.{over};
-ghost use Rattle.script_meaning.specs.Record.{KnownIn, step-in};
-ghost use Rattle.script_meaning.specs.Effect.{asked, values, pair};
-ghost use Rattle.script_meaning.specs.Commands.{name-needs};
-ghost use Rattle.values.specs.Pair.{gap};
+ghost use Rattle.script_meaning.specs.Effect.{pair};
+ghost use Rattle.values.specs.Pair.{gap, row-values};
 
 // Writes a space where it is later than the first pair, and nothing before the first; gives back the place past what was written.
 fn put_gap(out: &mut [u8], to: usize, later: bool) -> usize
@@ -47,46 +44,36 @@ fn put_pair(s: &[u8], a: usize, b: usize, day: u32, out: &mut [u8], to: usize) -
     write::word(out, e, b")")
 }
 
-// Writes the names from place at on with their days, from place to of out on, and gives back the place past what was written.
+// Writes the names of the first k steps of the column with their days, from place to of out on, and gives back the place past what was written.
 pub fn put_values(
-    s: &[u8],
-    tab: &[u8; text::PLACES],
-    at: usize,
+    k: usize,
+    column: &[u16],
     n: usize,
     names: &[u8],
     lens: &[u8],
-    hashes: &[u16],
-    heads: &[u16],
-    nexts: &[u16],
     days: &[u32],
     out: &mut [u8],
     to: usize,
 ) -> usize
-    requires { ⌜ now tab ≡ TABLE ⌝ }
-    requires { ⌜ at ≤ length (now s) ⌝ }
     requires { ⌜ Shelved n (now names) (now lens) ⌝ }
-    requires { ⌜ Indexed n (now names) (now lens) (now hashes) (now heads) (now nexts) ⌝ }
-    requires { ⌜ AllDifferent n (now names) (now lens) ⌝ }
-    requires { ⌜ First (name-needs (KnownIn n (now names) (now lens)) (asked (now s) at)) DONE ⌝ }
-    requires { ⌜ length (asked (now s) at) ≤ ASKED ⌝ }
+    requires { ⌜ k ≤ ASKED ⌝ }
+    requires { ⌜ k ≤ length (now column) ⌝ }
+    requires { ⌜ ((i : ℕ) → i < k → at (now column) i < n) ⌝ }
     requires { ⌜ STEPS ≤ length (now days) ⌝ }
     requires { ⌜ to + ROOM ≤ length (now out) ⌝ }
-    ensures { λ r. ⌜ now (out .exit) ≡ over (now (out .entry)) to (values (step-in n (now (names .entry)) (now (lens .entry))) (now (days .entry)) (asked (now (s .entry)) at)) ⌝ }
-    ensures { λ r. ⌜ r ≡ to + length (values (step-in n (now (names .entry)) (now (lens .entry))) (now (days .entry)) (asked (now (s .entry)) at)) ⌝ }
+    ensures { λ r. ⌜ now (out .exit) ≡ over (now (out .entry)) to (row-values (now (names .entry)) (now (lens .entry)) (now (days .entry)) (now (column .entry)) k) ⌝ }
+    ensures { λ r. ⌜ r ≡ to + length (row-values (now (names .entry)) (now (lens .entry)) (now (days .entry)) (now (column .entry)) k) ⌝ }
 {
     let mut e = write::word(out, to, b"(");
-    let mut i = at;
-    loop {
-        let t = text::token(s, tab, i);
-        if t.kind != text::SYMBOL {
-            return write::word(out, e, b")\n");
-        }
-        let a = t.from;
-        let b = t.to;
-        let k = names::find(names, lens, hashes, heads, nexts, n, s, a, b);
-        let day = day_at(days, k);
-        e = put_gap(out, e, at < i);
-        e = put_pair(s, a, b, day, out, e);
-        i = b;
+    let mut i = 0usize;
+    while i < k {
+        let step = lent::number_at(column, i);
+        let from = meaning::NAME_BYTES * step;
+        let past = from + lens[step] as usize;
+        let day = day_at(days, step);
+        e = put_gap(out, e, 0 < i);
+        e = put_pair(names, from, past, day, out, e);
+        i += 1;
     }
+    write::word(out, e, b")\n")
 }

@@ -11,15 +11,9 @@ use native.Mathlib.Omega.{arith}
 use borrow.Author.Needs.{needs}
 use Rattle.asserts.proofs.add_one.Statement.{statement}
 use Rattle.asserts.proofs.add_one.Tie as tie
-use Rattle.asserts.proofs.add_one.Reads as reads
-use Rattle.asserts.proofs.add_one.Lts as lts
-use Rattle.chains.proofs.insert.Reads as insert-reads
-use Rattle.inner_add.proofs.fit.Reads as fit-reads
-use Rattle.inner_add.proofs.one_more.Reads as one-more-reads
-use Rattle.lent.proofs.next_free.Reads as next-free-reads
 
-cast-next-free : tie.Need-cast-next-free
-cast-next-free c = search needs
+cast-place-for : tie.Need-cast-place-for
+cast-place-for c = search needs
 
 -- Places of the code, seen from later ones.
 abbrev fit-before-slice-known9 : tie.After-slice-known9 → tie.After-fit
@@ -31,19 +25,19 @@ fit-before-slice-known11 c = fit-before-slice-known9 (c .before .before .before 
 abbrev start-before-struct-known2 : tie.After-struct-known2 → tie.Start
 start-before-struct-known2 c = fit-before-slice-known9 (c .before .before) .before .before .before .before .before .before .before .before .before .before .before .before .before .before .before .before
 
-next-free-requires : tie.Need-next-free-requires
-next-free-requires c κs =
+place-for-requires : tie.Need-place-for-requires
+place-for-requires c κs =
     let start = c .before .before .before .before .before .before .before .before in
-    (start .pre .0 .room .levels-room, start .pre .0 .sound .rules-counted)
+    (start .pre .0 .room .levels-room, (omega (arith, start .pre .1 .1 .1 .0), (start .pre .0 .sound .rules-counted, start .pre .1 .1 .1 .1 .1)))
 
 fit-requires : tie.Need-fit-requires
 fit-requires c κs =
-    let at-next-free = c .before .before .before .before .before .before in
-    let start = at-next-free .before .before .before .before .before .before .before .before .before in
+    let at-place-for = c .before .before .before .before .before .before in
+    let start = at-place-for .before .before .before .before .before .before .before .before .before in
     let args = start .args in
     rw (toZ-ofZ w32 (args .c) (start .fits .c))
     (ready (args .counts) (args .e) (args .xs .now) (args .ys .now) (args .cs .now) (args .days .now) (args .levels .now)
-    (args .heads .now) (args .nexts .now) (args .x) (args .y) (args .c) (start .pre) (at-next-free .next-free .result) (at-next-free .next-free .ensures))
+    (args .heads .now) (args .nexts .now) (args .x) (args .y) (args .c) (args .packed) (start .pre) (at-place-for .place-for .result) (at-place-for .place-for .ensures))
 
 add-levels : tie.Need-add-levels
 add-levels c =
@@ -57,14 +51,14 @@ cast-levels c =
 
 slice-write-levels : tie.Need-slice-write-levels
 slice-write-levels c =
-    let next-free = fit-before-slice-known9 (c .before .before) .before .before .before .before .before .before .before .next-free in
+    let place-for = fit-before-slice-known9 (c .before .before) .before .before .before .before .before .before .before .place-for in
     let start = start-before-struct-known2 c in
     let args = start .args in
     omega (
       arith,
       start .pre .0 .room .levels-room,
       number-in (args .counts) (args .e) (args .xs .now) (args .ys .now) (args .cs .now) (args .days .now) (args .levels .now)
-          (args .heads .now) (args .nexts .now) (args .x) (args .y) (args .c) (start .pre) (next-free .result) (next-free .ensures),
+          (args .heads .now) (args .nexts .now) (args .x) (args .y) (args .c) (args .packed) (start .pre) (place-for .result) (place-for .ensures),
     )
 
 cast-insert : tie.Need-cast-insert
@@ -75,18 +69,19 @@ insert-requires c κs =
     let then1 = c .before .before .before .before .before in
     let at-fit = then1 .before .before .before .before .before .before .before .before in
     let fit = at-fit .fit in
-    let at-next-free = at-fit .before .before .before .before .before .before .before in
-    let next-free = at-next-free .next-free in
-    let start = at-next-free .before .before .before .before .before .before .before .before .before in
+    let at-place-for = at-fit .before .before .before .before .before .before .before in
+    let place-for = at-place-for .place-for in
+    let start = at-place-for .before .before .before .before .before .before .before .before .before in
     let args = start .args in
-    let t : Tells (args .e) (linked (args .nexts .now)) (next-free .result) (rule (args .x) (args .y) (args .c)) (columns (args .xs .now) (args .ys .now) (args .cs .now)) (args .days .now) (args .counts .last) (fit .result .fits) (fit .result .moved) (columns _ _ _) _ (fit .result .last)
+    let t : Tells (args .e) (linked (args .nexts .now)) (place-for .result) (rule (args .x) (args .y) (args .c)) (columns (args .xs .now) (args .ys .now) (args .cs .now)) (args .days .now) (args .counts .last) (fit .result .fits) (fit .result .moved) (columns _ _ _) _ (fit .result .last)
     = rw (toZ-ofZ w32 (args .c) (start .fits .c)) at (fit .ensures) in
     new-amendable (args .counts) (args .e) (args .xs .now) (args .ys .now) (args .cs .now) (args .days .now) (args .levels .now) (args .heads .now) (args .nexts .now)
-    (args .x) (args .y) (args .c) (start .pre) (next-free .result) (next-free .ensures) (fit .result .fits) (fit .result .moved) (fit .result .last) _ _ _ _ t (then1 .if1 .taken)
+    (args .x) (args .y) (args .c) (args .packed) (start .pre) (place-for .result) (place-for .ensures) (fit .result .fits) (fit .result .moved) (fit .result .last) _ _ _ _ t (then1 .if1 .taken)
 
 one-more-requires : tie.Need-one-more-requires
 one-more-requires c κs =
-    let start = start-before-struct-known2 (c .before .before .before .before .before .before .before .before .before) in
+    let at-struct-known2 = c .before .before .before .before .before .before .before .before .before in
+    let start = start-before-struct-known2 at-struct-known2 in
     start .pre .1 .1 .1 .0
 
 same-length : tie.Need-same-length
@@ -129,15 +124,15 @@ returns c =
     let then1 = at-insert .before .before .before .before .before .before in
     let at-fit = then1 .before .before .before .before .before .before .before .before in
     let fit = at-fit .fit in
-    let at-next-free = at-fit .before .before .before .before .before .before .before in
-    let next-free = at-next-free .next-free in
-    let start = at-next-free .before .before .before .before .before .before .before .before .before in
+    let at-place-for = at-fit .before .before .before .before .before .before .before in
+    let place-for = at-place-for .place-for in
+    let start = at-place-for .before .before .before .before .before .before .before .before .before in
     let one-more = c .one-more in
     let args = start .args in
-    let t : Tells (args .e) (linked (args .nexts .now)) (next-free .result) (rule (args .x) (args .y) (args .c)) (columns (args .xs .now) (args .ys .now) (args .cs .now)) (args .days .now) (args .counts .last) (fit .result .fits) (fit .result .moved) (columns _ _ _) _ (fit .result .last)
+    let t : Tells (args .e) (linked (args .nexts .now)) (place-for .result) (rule (args .x) (args .y) (args .c)) (columns (args .xs .now) (args .ys .now) (args .cs .now)) (args .days .now) (args .counts .last) (fit .result .fits) (fit .result .moved) (columns _ _ _) _ (fit .result .last)
     = rw (toZ-ofZ w32 (args .c) (start .fits .c)) at (fit .ensures) in
     one-held (args .counts) (args .e) (args .xs .now) (args .ys .now) (args .cs .now) (args .days .now) (args .levels .now) (args .heads .now) (args .nexts .now)
-    (args .x) (args .y) (args .c) (start .pre) (next-free .result) (next-free .ensures) (fit .result .fits) (fit .result .moved) (fit .result .last) _ _ _ _ t (then1 .if1 .taken)
+    (args .x) (args .y) (args .c) (args .packed) (start .pre) (place-for .result) (place-for .ensures) (fit .result .fits) (fit .result .moved) (fit .result .last) _ _ _ _ t (then1 .if1 .taken)
     (one-more .result) (one-more .ensures) _ _ (insert .kept .1 .1 .0) (insert .kept .1 .1 .1 .0) (insert .ensures)
 
 same-length-8 : tie.Need-same-length-8
@@ -173,21 +168,21 @@ returns-2 : tie.Need-returns-2
 returns-2 c =
     let at-fit = c .before .before .before .before .before .before .before .before in
     let fit = at-fit .fit in
-    let at-next-free = at-fit .before .before .before .before .before .before .before in
-    let next-free = at-next-free .next-free in
-    let start = at-next-free .before .before .before .before .before .before .before .before .before in
+    let at-place-for = at-fit .before .before .before .before .before .before .before in
+    let place-for = at-place-for .place-for in
+    let start = at-place-for .before .before .before .before .before .before .before .before .before in
     let args = start .args in
-    let t : Tells (args .e) (linked (args .nexts .now)) (next-free .result) (rule (args .x) (args .y) (args .c)) (columns (args .xs .now) (args .ys .now) (args .cs .now)) (args .days .now) (args .counts .last) (fit .result .fits) (fit .result .moved) (columns _ _ _) _ (fit .result .last)
+    let t : Tells (args .e) (linked (args .nexts .now)) (place-for .result) (rule (args .x) (args .y) (args .c)) (columns (args .xs .now) (args .ys .now) (args .cs .now)) (args .days .now) (args .counts .last) (fit .result .fits) (fit .result .moved) (columns _ _ _) _ (fit .result .last)
     = rw (toZ-ofZ w32 (args .c) (start .fits .c)) at (fit .ensures) in
     one-clash (args .counts) (args .e) (args .xs .now) (args .ys .now) (args .cs .now) (args .days .now) (args .levels .now) (args .heads .now) (args .nexts .now)
-    (args .x) (args .y) (args .c) (start .pre) (next-free .result) (next-free .ensures) (fit .result .fits) (fit .result .moved) (fit .result .last) _ _ _ _ t (c .if1 .left)
+    (args .x) (args .y) (args .c) (args .packed) (start .pre) (place-for .result) (place-for .ensures) (fit .result .fits) (fit .result .moved) (fit .result .last) _ _ _ _ t (c .if1 .left)
 
 pub add-one-spec : {M : Type 1} → statement M
 add-one-spec =
     tie.close
     (tie.spec
-    cast-next-free
-    next-free-requires
+    cast-place-for
+    place-for-requires
     fit-requires
     add-levels
     cast-levels

@@ -3,10 +3,12 @@ use Prim.Native.Nat.{ℕ}
 use native.Mathlib.Omega.{arith}
 use mathlib.Core.Path.{refl, subst}
 use lib.ListN.{length-replicate}
+use lib.IntN.{pos}
 use borrow.Author.Needs.{needs}
+use Rattle.meaning.specs.Bounds.{RULES}
 use Rattle.text.specs.Table.{TABLE}
 use Rattle.script_meaning.specs.Record.{Lent}
-use Rattle.script_run.proofs.Fresh.{zeros}
+use Rattle.script_run.proofs.Fresh.{zeros, long}
 use Rattle.program.specs.Handing.{Ends}
 use Rattle.program.proofs.Fresh.{hand-blank, hand-kept}
 use Rattle.program.proofs.play.Statement.{statement}
@@ -60,9 +62,18 @@ slice-aggregate-answer-13 c = search needs
 slice-aggregate-answer-14 : tie.Need-slice-aggregate-answer-14
 slice-aggregate-answer-14 c = search needs
 
+slice-aggregate-answer-15 : tie.Need-slice-aggregate-answer-15
+slice-aggregate-answer-15 c = search needs
+
+slice-aggregate-answer-16 : tie.Need-slice-aggregate-answer-16
+slice-aggregate-answer-16 c = search needs
+
+slice-aggregate-answer-17 : tie.Need-slice-aggregate-answer-17
+slice-aggregate-answer-17 c = search needs
+
 -- Places of the code, seen from later ones.
 abbrev no-notes-before-out : tie.After-out → tie.After-no-notes
-no-notes-before-out c = c .before .before .before .before .before .before .before .before .before .before .before .before .before .before .before
+no-notes-before-out c = c .before .before .before .before .before .before .before .before .before .before .before .before .before .before .before .before .before .before
 
 answer-requires : tie.Need-answer-requires
 unfolding TABLE
@@ -70,11 +81,13 @@ answer-requires c κs =
     let at-no-notes = no-notes-before-out c in
     let no-notes = at-no-notes .no-notes in
     let steps-alone = at-no-notes .before .steps-alone in
-    (refl, (hand-kept (zeros 20480) (steps-alone .result) (no-notes .result) (steps-alone .ensures) (no-notes .ensures), omega (arith, length-replicate {A = ℕ} 20480 0)))
+    let row = length-replicate {A = ℕ} RULES 0 in
+    let amounts = length-replicate RULES (pos 0) in
+    (refl, (long RULES, (omega arith, (omega (arith, row, amounts), (hand-kept (zeros 20480) (steps-alone .result) (no-notes .result) (steps-alone .ensures) (no-notes .ensures), omega (arith, length-replicate {A = ℕ} 20480 0))))))
 
 returns : tie.Need-returns
 returns c =
-    let at-answer = c .before .before .before .before .before .before .before .before .before .before .before .before .before .before in
+    let at-answer = c .before .before .before .before .before .before .before .before .before .before .before .before .before .before .before .before .before in
     let answer = at-answer .answer in
     let at-no-notes = no-notes-before-out (at-answer .before) in
     let no-notes = at-no-notes .no-notes in
@@ -102,5 +115,8 @@ play-spec =
     slice-aggregate-answer-12
     slice-aggregate-answer-13
     slice-aggregate-answer-14
+    slice-aggregate-answer-15
+    slice-aggregate-answer-16
+    slice-aggregate-answer-17
     answer-requires
     returns)

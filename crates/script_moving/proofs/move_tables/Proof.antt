@@ -1,7 +1,6 @@
 -- `script_moving::move_tables` meets its contract: the parts in a row leave sound tables one after the other, and together they move the tables as the command asks.
 use Prim.Native.Nat.{ℕ}
 use mathlib.Core.Path.{sym, _∙_, ap, subst}
-use mathlib.Core.List.{map}
 use lib.ListN.{length}
 use borrow.Author.Tests.{ltb-true}
 use Rattle.meaning.specs.declared.Counts.{Counts}
@@ -9,13 +8,12 @@ use Rattle.meaning.specs.Tables.{Tables}
 use Rattle.lent.specs.Lent.{columns}
 use Rattle.lent.specs.Idle.{idle, unwatched}
 use Rattle.lent.specs.Promises.{Border}
-use Rattle.atoms.specs.Atoms.{rules-at}
 use Rattle.levels.specs.Levels.{Popped, with-marks}
 use Rattle.levels.proofs.Laws.{with-marks-border, kept-popped}
-use Rattle.script_meaning.specs.Record.{step-in}
-use Rattle.script_meaning.specs.Effect.{AddsAll, resolved}
-use Rattle.script_moving.specs.Moving.{pops}
-use Rattle.script_moving.proofs.Laws.{rules-added, days-stay, order-stays, pushed-same}
+use Rattle.script_meaning.specs.Effect.{AddsAll}
+use Rattle.asserts.specs.Rows.{rows-from}
+use Rattle.script_moving.specs.Moving.{adds, pops}
+use Rattle.script_moving.proofs.Laws.{rows-added, days-stay, order-stays, pushed-same}
 use native.Mathlib.Omega.{arith}
 use borrow.Author.Needs.{needs}
 use Rattle.script_moving.proofs.move_tables.Statement.{statement}
@@ -34,55 +32,69 @@ add-rules-before-slice-known18 c = pop-before-slice-known18 c .before .before .b
 add-rules-requires : tie.Need-add-rules-requires
 add-rules-requires c κs =
     let at-work-of = c .before .before .before .before .before .before .before in
-    let pre = at-work-of .before .before .before .before .before .before .before .before .before .before .before .before .before .before .pre in
-    let asked = pre .1 .1 .1 .1 in
-    let movable = asked .0 in
-    let place = at-work-of .work-of .ensures .0 in
-    (pre .0, (rw place (movable .term-in), (pre .1 .0, (pre .1 .1 .0, (pre .1 .1 .1 .0, (asked .1 .1 .1 .1 .1 .0, (rw place (movable .rules-fine), (rw place (movable .places), (asked .1 .0, (asked .1 .1 .0, asked .1 .1 .1 .1 .1 .1))))))))))
+    let start = at-work-of .before .before .before .before .before .before .before .before .before .before in
+    let pre = start .pre in
+    let movable = pre .0 in
+    let many = at-work-of .work-of .ensures .0 in (
+      rw many (movable .rows-there .0),
+      (
+        rw many (movable .rows-there .1 .0),
+        (
+          rw many (movable .rows-there .1 .1),
+          (
+            rw many (movable .rows-fine),
+            (
+              rw many (movable .places),
+              (pre .1 .0, (pre .1 .1 .0, (pre .1 .1 .1 .1 .1, λ is. pre .1 .1 .1 .1 .0 (ltb-true 0 (length (start .args .kept .now)) is) .all-held))),
+            ),
+          ),
+        ),
+      ),
+    )
 
 push-requires : tie.Need-push-requires
 push-requires c κs =
     let at-add-rules = c .before .before .before .before .before .before .before .before .before .before .before .before .before .before .before .before in
-    let add-rules = at-add-rules .add-rules in
     let at-work-of = at-add-rules .before .before .before .before .before .before .before .before in
-    let work-of = at-work-of .work-of in
-    let start = at-work-of .before .before .before .before .before .before .before .before .before .before .before .before .before .before in
+    let start = at-work-of .before .before .before .before .before .before .before .before .before .before in
     let args = start .args in
-    let asked = start .pre .1 .1 .1 .1 in
-    let last = add-rules .last .1 .1 .1 .1 .1 .1 .1 .1 .1 .1 in
+    let pre = start .pre in
+    let rows = columns (args .row-xs .now) (args .row-ys .now) (args .row-cs .now) in
+    let last = at-add-rules .add-rules .last .1 .1 .1 .1 .1 in
     let before = unwatched (args .counts) (args .xs .now) (args .ys .now) (args .cs .now) (args .days .now) (args .levels .now) in
-    let added = unwatched (add-rules .result .counts) (last .0) (last .1 .0) (last .1 .1 .0) (last .1 .1 .1 .0) (last .1 .1 .1 .1 .0) in
-    let held = rules-added (args .c) (args .broken) (args .s .now) (args .n) (args .names .now) (args .lens .now) (work-of .result .term) before added (add-rules .result .clash) (work-of .ensures .0) (asked .0) (asked .1 .0) (add-rules .ensures .0) in
-    (held .border .sound .counts-in .steps-in, (held .border .room .days-room, omega (arith, held .grown .same-open, asked .0 .marks-fit, work-of .ensures .1 .0)))
+    let added = unwatched (at-add-rules .add-rules .result .counts) (last .0) (last .1 .0) (last .1 .1 .0) (last .1 .1 .1 .0) (last .1 .1 .1 .1 .0) in
+    let adding = subst (λ (i : ℕ). AddsAll (rows-from rows 0 i) before (at-add-rules .add-rules .result .clash) added) (at-work-of .work-of .ensures .0) (at-add-rules .add-rules .ensures .0) in
+    let held = rows-added (args .e) rows (adds (args .c) (args .broken)) before added (at-add-rules .add-rules .result .clash) (pre .0 .rows-fine) (pre .0 .places) (pre .1 .0) (pre .1 .1 .1 .1 .1) adding in
+    (held .border .sound .counts-in .steps-in, (held .border .room .days-room, omega (arith, held .grown .same-open, pre .0 .marks-fit, at-work-of .work-of .ensures .1 .0)))
 
 pop-requires : tie.Need-pop-requires
 pop-requires c κs =
     let at-push = c .before .before .before .before .before .before .before .before .before .before in
     let at-add-rules = at-push .before .before .before .before .before .before .before .before .before .before .before .before .before .before .before .before .before in
-    let add-rules = at-add-rules .add-rules in
     let at-work-of = at-add-rules .before .before .before .before .before .before .before .before in
-    let work-of = at-work-of .work-of in
-    let start = at-work-of .before .before .before .before .before .before .before .before .before .before .before .before .before .before in
+    let start = at-work-of .before .before .before .before .before .before .before .before .before .before in
     let args = start .args in
-    let asked = start .pre .1 .1 .1 .1 in
-    let last = add-rules .last .1 .1 .1 .1 .1 .1 .1 .1 .1 .1 in
+    let pre = start .pre in
+    let rows = columns (args .row-xs .now) (args .row-ys .now) (args .row-cs .now) in
+    let last = at-add-rules .add-rules .last .1 .1 .1 .1 .1 in
     let before = unwatched (args .counts) (args .xs .now) (args .ys .now) (args .cs .now) (args .days .now) (args .levels .now) in
-    let added = unwatched (add-rules .result .counts) (last .0) (last .1 .0) (last .1 .1 .0) (last .1 .1 .1 .0) (last .1 .1 .1 .1 .0) in
-    let held = rules-added (args .c) (args .broken) (args .s .now) (args .n) (args .names .now) (args .lens .now) (work-of .result .term) before added (add-rules .result .clash) (work-of .ensures .0) (asked .0) (asked .1 .0) (add-rules .ensures .0) in
+    let added = unwatched (at-add-rules .add-rules .result .counts) (last .0) (last .1 .0) (last .1 .1 .0) (last .1 .1 .1 .0) (last .1 .1 .1 .1 .0) in
+    let adding = subst (λ (i : ℕ). AddsAll (rows-from rows 0 i) before (at-add-rules .add-rules .result .clash) added) (at-work-of .work-of .ensures .0) (at-add-rules .add-rules .ensures .0) in
+    let held = rows-added (args .e) rows (adds (args .c) (args .broken)) before added (at-add-rules .add-rules .result .clash) (pre .0 .rows-fine) (pre .0 .places) (pre .1 .0) (pre .1 .1 .1 .1 .1) adding in
     let push = at-push .push in
-    let same = pushed-same (work-of .result .push) added (push .result) (push .ensures .0) in
-    let ordered = order-stays (args .c) (args .broken) (args .s .now) (args .n) (args .names .now) (args .lens .now) (work-of .result .term) before added (add-rules .result .clash) (args .kept .now) (work-of .ensures .0) (asked .0) (asked .1 .0) (add-rules .ensures .0) (asked .1 .1 .1 .1 .0) in
-    let kept = push .ensures .1 (columns (last .0) (last .1 .0) (last .1 .1 .0)) idle (last .1 .1 .1 .1 .0) (held .border .sound) (days-stay before added (args .kept .now) (held .grown) (asked .1 .1 .1 .0)) in
-    let border = with-marks-border (work-of .result .push) (held .border) (omega (arith, held .grown .same-open, asked .0 .marks-fit, work-of .ensures .1 .0)) in
+    let same = pushed-same (at-work-of .work-of .result .push) added (push .result) (push .ensures .0) in
+    let kept = push .ensures .1 (columns (last .0) (last .1 .0) (last .1 .1 .0)) idle (last .1 .1 .1 .1 .0) (held .border .sound) (days-stay before added (args .kept .now) (held .grown) (pre .1 .1 .1 .0)) in
+    let ordered = order-stays (args .e) rows (adds (args .c) (args .broken)) before added (at-add-rules .add-rules .result .clash) (pre .0 .rows-fine) (pre .0 .places) (pre .1 .0) (pre .1 .1 .1 .1 .1) adding (args .kept .now) (pre .1 .1 .1 .1 .0) in
+    let border = with-marks-border (at-work-of .work-of .result .push) (held .border) (omega (arith, held .grown .same-open, pre .0 .marks-fit, at-work-of .work-of .ensures .1 .0)) in
     let marks-are = ap (λ (x : Counts). x .marks) (push .ensures .0) in (
       subst Border (sym same) border,
       (
-        omega (arith, marks-are, held .grown .same-open, asked .0 .marks-there, work-of .ensures .1 .1),
+        omega (arith, marks-are, held .grown .same-open, pre .0 .marks-there, at-work-of .work-of .ensures .1 .1),
         (
-          rw (push .ensures .0) (add-rules .ensures .1),
+          rw (push .ensures .0) (at-add-rules .add-rules .ensures .1),
           (
             rw (ap (λ (x : Counts). x .steps) (push .ensures .0)) kept,
-            λ is. rw (ap (λ (x : Counts). x .rules) (push .ensures .0)) (ordered (omega (arith, ltb-true 0 (length (push .last .1 .1 .0)) is, push .kept .1 .1 .0))),
+            λ is. rw (ap (λ (x : Counts). x .rules) (push .ensures .0)) (ordered (ltb-true 0 (length (args .kept .now)) is)),
           ),
         ),
       ),
@@ -91,41 +103,41 @@ pop-requires c κs =
 same-length : tie.Need-same-length
 same-length c =
     let add-rules = add-rules-before-slice-known18 c .add-rules in
-    add-rules .kept .1 .1 .1 .1 .1 .1 .1 .1 .1 .1 .0
+    add-rules .kept .1 .1 .1 .1 .1 .0
 
 same-length-2 : tie.Need-same-length-2
 same-length-2 c =
     let add-rules = add-rules-before-slice-known18 c .add-rules in
-    add-rules .kept .1 .1 .1 .1 .1 .1 .1 .1 .1 .1 .1 .0
+    add-rules .kept .1 .1 .1 .1 .1 .1 .0
 
 same-length-3 : tie.Need-same-length-3
 same-length-3 c =
     let add-rules = add-rules-before-slice-known18 c .add-rules in
-    add-rules .kept .1 .1 .1 .1 .1 .1 .1 .1 .1 .1 .1 .1 .0
+    add-rules .kept .1 .1 .1 .1 .1 .1 .1 .0
 
 same-length-4 : tie.Need-same-length-4
 same-length-4 c =
     let pop = pop-before-slice-known18 c .pop in
     let add-rules = add-rules-before-slice-known18 c .add-rules in
-    pop .kept .1 .1 .1 .1 .0 ∙ add-rules .kept .1 .1 .1 .1 .1 .1 .1 .1 .1 .1 .1 .1 .1 .0
+    pop .kept .1 .1 .1 .1 .0 ∙ add-rules .kept .1 .1 .1 .1 .1 .1 .1 .1 .0
 
 same-length-5 : tie.Need-same-length-5
 same-length-5 c =
     let pop = pop-before-slice-known18 c .pop in
     let add-rules = add-rules-before-slice-known18 c .add-rules in
-    pop .kept .1 .1 .1 .1 .1 .0 ∙ add-rules .kept .1 .1 .1 .1 .1 .1 .1 .1 .1 .1 .1 .1 .1 .1 .0
+    pop .kept .1 .1 .1 .1 .1 .0 ∙ add-rules .kept .1 .1 .1 .1 .1 .1 .1 .1 .1 .0
 
 same-length-6 : tie.Need-same-length-6
 same-length-6 c =
     let pop = pop-before-slice-known18 c .pop in
     let add-rules = add-rules-before-slice-known18 c .add-rules in
-    pop .kept .1 .1 .1 .1 .1 .1 .0 ∙ add-rules .kept .1 .1 .1 .1 .1 .1 .1 .1 .1 .1 .1 .1 .1 .1 .1 .0
+    pop .kept .1 .1 .1 .1 .1 .1 .0 ∙ add-rules .kept .1 .1 .1 .1 .1 .1 .1 .1 .1 .1 .0
 
 same-length-7 : tie.Need-same-length-7
 same-length-7 c =
     let pop = pop-before-slice-known18 c .pop in
     let add-rules = add-rules-before-slice-known18 c .add-rules in
-    pop .kept .1 .1 .1 .1 .1 .1 .1 .0 ∙ add-rules .kept .1 .1 .1 .1 .1 .1 .1 .1 .1 .1 .1 .1 .1 .1 .1 .1 .0
+    pop .kept .1 .1 .1 .1 .1 .1 .1 .0 ∙ add-rules .kept .1 .1 .1 .1 .1 .1 .1 .1 .1 .1 .1 .0
 
 same-length-8 : tie.Need-same-length-8
 same-length-8 c =
@@ -137,35 +149,34 @@ returns c =
     let at-pop = c .before .before .before .before .before .before .before .before in
     let at-push = at-pop .before .before .before .before .before .before .before .before .before .before .before in
     let at-add-rules = at-push .before .before .before .before .before .before .before .before .before .before .before .before .before .before .before .before .before in
-    let add-rules = at-add-rules .add-rules in
     let at-work-of = at-add-rules .before .before .before .before .before .before .before .before in
-    let work-of = at-work-of .work-of in
-    let start = at-work-of .before .before .before .before .before .before .before .before .before .before .before .before .before .before in
+    let start = at-work-of .before .before .before .before .before .before .before .before .before .before in
     let args = start .args in
-    let asked = start .pre .1 .1 .1 .1 in
-    let last = add-rules .last .1 .1 .1 .1 .1 .1 .1 .1 .1 .1 in
+    let pre = start .pre in
+    let rows = columns (args .row-xs .now) (args .row-ys .now) (args .row-cs .now) in
+    let last = at-add-rules .add-rules .last .1 .1 .1 .1 .1 in
     let before = unwatched (args .counts) (args .xs .now) (args .ys .now) (args .cs .now) (args .days .now) (args .levels .now) in
-    let added = unwatched (add-rules .result .counts) (last .0) (last .1 .0) (last .1 .1 .0) (last .1 .1 .1 .0) (last .1 .1 .1 .1 .0) in
-    let held = rules-added (args .c) (args .broken) (args .s .now) (args .n) (args .names .now) (args .lens .now) (work-of .result .term) before added (add-rules .result .clash) (work-of .ensures .0) (asked .0) (asked .1 .0) (add-rules .ensures .0) in
+    let added = unwatched (at-add-rules .add-rules .result .counts) (last .0) (last .1 .0) (last .1 .1 .0) (last .1 .1 .1 .0) (last .1 .1 .1 .1 .0) in
+    let adding = subst (λ (i : ℕ). AddsAll (rows-from rows 0 i) before (at-add-rules .add-rules .result .clash) added) (at-work-of .work-of .ensures .0) (at-add-rules .add-rules .ensures .0) in
+    let held = rows-added (args .e) rows (adds (args .c) (args .broken)) before added (at-add-rules .add-rules .result .clash) (pre .0 .rows-fine) (pre .0 .places) (pre .1 .0) (pre .1 .1 .1 .1 .1) adding in
     let push = at-push .push in
+    let same = pushed-same (at-work-of .work-of .result .push) added (push .result) (push .ensures .0) in
+    let kept = push .ensures .1 (columns (last .0) (last .1 .0) (last .1 .1 .0)) idle (last .1 .1 .1 .1 .0) (held .border .sound) (days-stay before added (args .kept .now) (held .grown) (pre .1 .1 .1 .0)) in
     let pop = at-pop .pop in
-    let same = pushed-same (work-of .result .push) added (push .result) (push .ensures .0) in
-    let kept = push .ensures .1 (columns (last .0) (last .1 .0) (last .1 .1 .0)) idle (last .1 .1 .1 .1 .0) (held .border .sound) (days-stay before added (args .kept .now) (held .grown) (asked .1 .1 .1 .0)) in
     let set = unwatched (push .result) (last .0) (last .1 .0) (last .1 .1 .0) (last .1 .1 .1 .0) (last .1 .1 .1 .1 .0) in
     let after = unwatched (pop .result) (last .0) (last .1 .0) (last .1 .1 .0) (pop .last .1 .1 .1 .1 .0) (pop .last .1 .1 .1 .1 .1 .0) in
-    let adds = subst (λ (i : ℕ). AddsAll (map (resolved (step-in (args .n) (args .names .now) (args .lens .now))) (rules-at (args .s .now) i)) before (add-rules .result .clash) added) (work-of .ensures .0) (add-rules .ensures .0) in
-    let dropped = subst (λ (u : Tables). Popped (work-of .result .pop) u after) same (pop .ensures .0) in (
+    let dropped = subst (λ (u : Tables). Popped (at-work-of .work-of .result .pop) u after) same (pop .ensures .0) in (
       (
         added,
         (
-          adds,
-          subst (λ (j : ℕ). Popped (pops (args .c)) (with-marks j added) after) (work-of .ensures .1 .0)
-              (subst (λ (j : ℕ). Popped j (with-marks (work-of .result .push) added) after) (work-of .ensures .1 .1) dropped),
+          adding,
+          subst (λ (j : ℕ). Popped (pops (args .c)) (with-marks j added) after) (at-work-of .work-of .ensures .1 .0)
+              (subst (λ (j : ℕ). Popped j (with-marks (at-work-of .work-of .result .push) added) after) (at-work-of .work-of .ensures .1 .1) dropped),
         ),
       ),
       (
         pop .ensures .1,
-        kept-popped (work-of .result .pop) {t = set} {u = after} (pop .ensures .0) (rw (ap (λ (x : Counts). x .steps) (push .ensures .0)) kept),
+        kept-popped (at-work-of .work-of .result .pop) {t = set} {u = after} (pop .ensures .0) (rw (ap (λ (x : Counts). x .steps) (push .ensures .0)) kept),
       ),
     )
 

@@ -1,4 +1,4 @@
--- `script_moving::work_of` meets its contract: in each arm the command is known, at which the three definitions compute.
+-- `script_moving::work_of` meets its contract: in each arm the kind is known, at which the three definitions compute.
 use mathlib.Core.Path.{refl}
 use borrow.Author.Tests.{eq-eqb, ne-eqb}
 use borrow.Author.Needs.{needs}
@@ -32,15 +32,6 @@ enum-told-4 c = search needs
 enum-told-5 : tie.Need-enum-told-5
 enum-told-5 c = search needs
 
-enum-told-6 : tie.Need-enum-told-6
-enum-told-6 c = search needs
-
-enum-told-7 : tie.Need-enum-told-7
-enum-told-7 c = search needs
-
-enum-told-8 : tie.Need-enum-told-8
-enum-told-8 c = search needs
-
 returns-2 : tie.Need-returns-2
 returns-2 c = rw (c .before .before .c .given .1, ne-eqb _ _ (c .if1 .left)) (refl, (refl, refl))
 
@@ -65,15 +56,6 @@ returns-8 c = search needs
 returns-9 : tie.Need-returns-9
 returns-9 c = search needs
 
-returns-10 : tie.Need-returns-10
-returns-10 c = search needs
-
-returns-11 : tie.Need-returns-11
-returns-11 c = search needs
-
-returns-12 : tie.Need-returns-12
-returns-12 c = search needs
-
 pub work-of-spec : {M : Type 1} → statement M
 work-of-spec =
     tie.close
@@ -87,9 +69,6 @@ work-of-spec =
     enum-told-3
     enum-told-4
     enum-told-5
-    enum-told-6
-    enum-told-7
-    enum-told-8
     returns-2
     returns-3
     returns-4
@@ -97,7 +76,4 @@ work-of-spec =
     returns-6
     returns-7
     returns-8
-    returns-9
-    returns-10
-    returns-11
-    returns-12)
+    returns-9)

@@ -1,12 +1,15 @@
 -- `script_telling::declare` meets its contract: the arm of a declare-fun gives what `names::declare` gives, and every other arm leaves the tables as they are.
+use Prim.Native.Nat.{ℕ}
 use mathlib.Core.Path.{refl}
 use mathlib.Core.List.{List}
-use Prim.Native.Nat.{ℕ}
-use native.Mathlib.Omega.{arith}
 use Rattle.script_telling.specs.Telling.{Same}
+use native.Mathlib.Omega.{arith}
 use borrow.Author.Needs.{needs}
 use Rattle.script_telling.proofs.declare.Statement.{statement}
 use Rattle.script_telling.proofs.declare.Tie as tie
+use Rattle.script_telling.proofs.declare.Reads as reads
+use Rattle.script_telling.proofs.declare.Lts as lts
+use Rattle.names.proofs.declare.Reads as declare-reads
 
 untouched : {names lens hashes heads nexts : List ℕ} → Same names lens hashes heads nexts names lens hashes heads nexts
 untouched = record {
@@ -22,8 +25,9 @@ enum-known-c c = search needs
 
 declare-requires : tie.Need-declare-requires
 declare-requires c κs =
-    let pre = c .before .before .before .before .before .before .before .before .before .before .before .before .before .before .pre in
-    let given = pre .1 .1 _ _ (c .before .before .before .before .before .before .c .given .1) in
+    let at-c = c .before .before .before .before .before .before in
+    let pre = at-c .before .before .before .before .before .before .before .before .pre in
+    let given = pre .1 .1 _ _ (at-c .c .given .1) in
     (omega (arith, given .1 .1 .1), (pre .0, (pre .1 .0, (given .0, (given .1 .0, given .1 .1 .0)))))
 
 enum-told : tie.Need-enum-told
@@ -47,15 +51,6 @@ enum-told-6 c = search needs
 enum-told-7 : tie.Need-enum-told-7
 enum-told-7 c = search needs
 
-enum-told-8 : tie.Need-enum-told-8
-enum-told-8 c = search needs
-
-enum-told-9 : tie.Need-enum-told-9
-enum-told-9 c = search needs
-
-enum-told-10 : tie.Need-enum-told-10
-enum-told-10 c = search needs
-
 same-length : tie.Need-same-length
 same-length c = search needs
 
@@ -72,7 +67,10 @@ same-length-5 : tie.Need-same-length-5
 same-length-5 c = search needs
 
 returns : tie.Need-returns
-returns c = rw (c .before .before .before .before .before .before .before .before .before .before .before .before .before .before .before .before .before .c .given .1) (c .before .before .before .before .before .before .before .before .before .before .declare .ensures)
+returns c =
+    let at-declare = c .before .before .before .before .before .before .before .before .before .before in
+    let c-there = at-declare .before .before .before .before .before .before .before .c in
+    rw (c-there .given .1) (at-declare .declare .ensures)
 
 returns-2 : tie.Need-returns-2
 returns-2 c = rw (c .enum-told .given .1) untouched
@@ -95,15 +93,6 @@ returns-7 c = rw (c .enum-told6 .given .1) untouched
 returns-8 : tie.Need-returns-8
 returns-8 c = rw (c .enum-told7 .given .1) untouched
 
-returns-9 : tie.Need-returns-9
-returns-9 c = rw (c .enum-told8 .given .1) untouched
-
-returns-10 : tie.Need-returns-10
-returns-10 c = rw (c .enum-told9 .given .1) untouched
-
-returns-11 : tie.Need-returns-11
-returns-11 c = rw (c .enum-told10 .given .1) untouched
-
 pub declare-spec : {M : Type 1} → statement M
 declare-spec =
     tie.close
@@ -117,9 +106,6 @@ declare-spec =
     enum-told-5
     enum-told-6
     enum-told-7
-    enum-told-8
-    enum-told-9
-    enum-told-10
     same-length
     same-length-2
     same-length-3
@@ -132,7 +118,4 @@ declare-spec =
     returns-5
     returns-6
     returns-7
-    returns-8
-    returns-9
-    returns-10
-    returns-11)
+    returns-8)

@@ -1,9 +1,17 @@
 -- `script_telling::notes_after` meets its contract: in each arm the command is known, at which `noted` computes, and the record is made by the function that it names.
 use mathlib.Core.Path.{refl}
 use borrow.Author.Tests.{lt-ltb, le-ltb}
+use native.Mathlib.Omega.{arith}
 use borrow.Author.Needs.{needs}
 use Rattle.script_telling.proofs.notes_after.Statement.{statement}
 use Rattle.script_telling.proofs.notes_after.Tie as tie
+use Rattle.script_telling.proofs.notes_after.Reads as reads
+use Rattle.script_telling.proofs.notes_after.Lts as lts
+use Rattle.script_meaning.proofs.at_level.Reads as at-level-reads
+use Rattle.script_meaning.proofs.forgotten.Reads as forgotten-reads
+use Rattle.script_meaning.proofs.logic_set.Reads as logic-set-reads
+use Rattle.script_meaning.proofs.one_named.Reads as one-named-reads
+use Rattle.script_meaning.proofs.sat_told.Reads as sat-told-reads
 
 enum-told : tie.Need-enum-told
 enum-told c = search needs
@@ -68,15 +76,6 @@ enum-told-8 c = search needs
 forgotten-requires-4 : tie.Need-forgotten-requires-4
 forgotten-requires-4 c κs = search needs
 
-enum-told-9 : tie.Need-enum-told-9
-enum-told-9 c = search needs
-
-enum-told-10 : tie.Need-enum-told-10
-enum-told-10 c = search needs
-
-enum-told-11 : tie.Need-enum-told-11
-enum-told-11 c = search needs
-
 returns-3 : tie.Need-returns-3
 returns-3 c = rw (c .logic-set .ensures, c .before .enum-told .given .1) refl
 
@@ -100,15 +99,6 @@ returns-9 c = search needs
 
 returns-10 : tie.Need-returns-10
 returns-10 c = rw (c .forgotten4 .ensures, c .before .enum-told8 .given .1) refl
-
-returns-11 : tie.Need-returns-11
-returns-11 c = search needs
-
-returns-12 : tie.Need-returns-12
-returns-12 c = search needs
-
-returns-13 : tie.Need-returns-13
-returns-13 c = search needs
 
 pub notes-after-spec : {M : Type 1} → statement M
 notes-after-spec =
@@ -135,9 +125,6 @@ notes-after-spec =
     enum-told-7
     enum-told-8
     forgotten-requires-4
-    enum-told-9
-    enum-told-10
-    enum-told-11
     returns-3
     returns-4
     returns-5
@@ -145,7 +132,4 @@ notes-after-spec =
     returns-7
     returns-8
     returns-9
-    returns-10
-    returns-11
-    returns-12
-    returns-13)
+    returns-10)

@@ -1,11 +1,15 @@
 -- `script_telling::print` meets its contract: in each arm the command is known, at which `printed` computes, and where it is empty nothing is written.
 use mathlib.Core.Path.{refl, sym}
-use native.Mathlib.Omega.{arith}
 use borrow.Author.Tests.{eq-eqb, ne-eqb}
 use Rattle.write.proofs.Laws.{over-none}
+use native.Mathlib.Omega.{arith}
 use borrow.Author.Needs.{needs}
 use Rattle.script_telling.proofs.print.Statement.{statement}
 use Rattle.script_telling.proofs.print.Tie as tie
+use Rattle.script_telling.proofs.print.Reads as reads
+use Rattle.script_telling.proofs.print.Lts as lts
+use Rattle.values.proofs.put_values.Reads as put-values-reads
+use Rattle.write.proofs.word.Reads as word-reads
 
 enum-told : tie.Need-enum-told
 enum-told c = search needs
@@ -23,7 +27,11 @@ same-length : tie.Need-same-length
 same-length c = search needs
 
 returns : tie.Need-returns
-returns c = rw (c .before .before .before .before .before .before .enum-told .given .1, eq-eqb _ _ (c .before .before .before .before .before .if1 .taken)) (c .before .before .word .ensures .0, omega (arith, c .before .before .word .ensures .1))
+returns c =
+    let at-word = c .before .before in
+    let then1 = at-word .before .before .before in
+    let enum-told = then1 .before .enum-told in
+    rw (enum-told .given .1, eq-eqb _ _ (then1 .if1 .taken)) (at-word .word .ensures .0, omega (arith, at-word .word .ensures .1))
 
 slice-aggregate-word-2 : tie.Need-slice-aggregate-word-2
 slice-aggregate-word-2 c = search needs
@@ -39,24 +47,16 @@ enum-known-c c = search needs
 
 put-values-requires : tie.Need-put-values-requires
 put-values-requires c κs =
-    let pre = c .before .before .before .before .before .before .before .before .before .before .before .before .pre in
+    let pre = c .before .before .before .before .before .before .before .before .before .pre in
     let known = c .before .before .c .given .1 in
-    (pre .0, (pre .1 .1 .1 .1 .0 _ known, (pre .1 .0, (pre .1 .1 .0, (pre .1 .1 .1 .0, (pre .1 .1 .1 .1 .1 .0 _ known, (pre .1 .1 .1 .1 .1 .1 .0 _ known, (pre .1 .1 .1 .1 .1 .1 .1 .0, pre .1 .1 .1 .1 .1 .1 .1 .1))))))))
+    let few = pre .1 .0 _ known in
+    (pre .0, (few .0, (few .1, (pre .1 .1 .0 _ known, (pre .1 .1 .1 .0, pre .1 .1 .1 .1)))))
 
 sub-result-3 : tie.Need-sub-result-3
 sub-result-3 c = search needs
 
 enum-told-2 : tie.Need-enum-told-2
 enum-told-2 c = search needs
-
-slice-aggregate-word-3 : tie.Need-slice-aggregate-word-3
-slice-aggregate-word-3 c = search needs
-
-word-requires-3 : tie.Need-word-requires-3
-word-requires-3 c κs = search needs
-
-sub-result-4 : tie.Need-sub-result-4
-sub-result-4 c = search needs
 
 enum-told-3 : tie.Need-enum-told-3
 enum-told-3 c = search needs
@@ -73,32 +73,27 @@ enum-told-6 c = search needs
 enum-told-7 : tie.Need-enum-told-7
 enum-told-7 c = search needs
 
-enum-told-8 : tie.Need-enum-told-8
-enum-told-8 c = search needs
-
-enum-told-9 : tie.Need-enum-told-9
-enum-told-9 c = search needs
-
-enum-told-10 : tie.Need-enum-told-10
-enum-told-10 c = search needs
-
 same-length-2 : tie.Need-same-length-2
 same-length-2 c = search needs
 
 returns-2 : tie.Need-returns-2
-returns-2 c = rw (c .before .before .before .before .before .before .enum-told .given .1, ne-eqb _ _ (c .before .before .before .before .before .if1 .left)) (c .before .before .word2 .ensures .0, omega (arith, c .before .before .word2 .ensures .1))
+returns-2 c =
+    let at-word2 = c .before .before in
+    let else1 = at-word2 .before .before .before in
+    let enum-told = else1 .before .enum-told in
+    rw (enum-told .given .1, ne-eqb _ _ (else1 .if1 .left)) (at-word2 .word2 .ensures .0, omega (arith, at-word2 .word2 .ensures .1))
 
 same-length-3 : tie.Need-same-length-3
 same-length-3 c = search needs
 
 returns-3 : tie.Need-returns-3
-returns-3 c = rw (c .before .before .before .before .before .c .given .1) (c .before .before .put-values .ensures .0, omega (arith, c .before .before .put-values .ensures .1))
-
-same-length-4 : tie.Need-same-length-4
-same-length-4 c = search needs
+returns-3 c =
+    let at-put-values = c .before .before in
+    let c-there = at-put-values .before .before .before .c in
+    rw (c-there .given .1) (at-put-values .put-values .ensures .0, omega (arith, at-put-values .put-values .ensures .1))
 
 returns-4 : tie.Need-returns-4
-returns-4 c = rw (c .before .before .before .before .before .enum-told2 .given .1) (c .before .before .word3 .ensures .0, omega (arith, c .before .before .word3 .ensures .1))
+returns-4 c = rw (c .enum-told2 .given .1) (sym (over-none _ _), refl)
 
 returns-5 : tie.Need-returns-5
 returns-5 c = rw (c .enum-told3 .given .1) (sym (over-none _ _), refl)
@@ -114,15 +109,6 @@ returns-8 c = rw (c .enum-told6 .given .1) (sym (over-none _ _), refl)
 
 returns-9 : tie.Need-returns-9
 returns-9 c = rw (c .enum-told7 .given .1) (sym (over-none _ _), refl)
-
-returns-10 : tie.Need-returns-10
-returns-10 c = rw (c .enum-told8 .given .1) (sym (over-none _ _), refl)
-
-returns-11 : tie.Need-returns-11
-returns-11 c = rw (c .enum-told9 .given .1) (sym (over-none _ _), refl)
-
-returns-12 : tie.Need-returns-12
-returns-12 c = rw (c .enum-told10 .given .1) (sym (over-none _ _), refl)
 
 pub print-spec : {M : Type 1} → statement M
 print-spec =
@@ -141,28 +127,18 @@ print-spec =
     put-values-requires
     sub-result-3
     enum-told-2
-    slice-aggregate-word-3
-    word-requires-3
-    sub-result-4
     enum-told-3
     enum-told-4
     enum-told-5
     enum-told-6
     enum-told-7
-    enum-told-8
-    enum-told-9
-    enum-told-10
     same-length-2
     returns-2
     same-length-3
     returns-3
-    same-length-4
     returns-4
     returns-5
     returns-6
     returns-7
     returns-8
-    returns-9
-    returns-10
-    returns-11
-    returns-12)
+    returns-9)

@@ -3,7 +3,7 @@ use Prim.Native.Nat.{ℕ, _<_}
 use mathlib.Core.Path.{_≡_, sym, subst}
 use native.Mathlib.Omega.{arith}
 use Rattle.text.specs.Lexicon.{grown}
-use Rattle.text.proofs.Reading.{grown-is, grown-small, symbol-stays}
+use Rattle.text.proofs.Reading.{grown-is, grown-small, of-letter, symbol-stays}
 use borrow.Author.Needs.{needs}
 use Rattle.text.proofs.grow.Statement.{statement}
 use Rattle.text.proofs.grow.Tie as tie
@@ -11,7 +11,7 @@ use Rattle.text.proofs.grow.Tie as tie
 returns : tie.Need-returns
 returns c =
     let start = c .before .before in
-    let is = symbol-stays (start .args .k) (start .pre .1 .1) (c .before .if1 .taken) in
+    let is = symbol-stays (start .args .k) (start .pre .1 .1) (of-letter 5 (start .args .k) (omega arith) (c .before .if1 .taken)) in
     (subst (λ (p : ℕ). 10 ≡ grown p (start .args .k)) (sym (c .if2 .taken)) (sym is), omega arith)
 
 mul-result : tie.Need-mul-result

@@ -1,3 +1,0 @@
--- What the contracts of the atoms cite.
-pub mod Atoms
-pub mod Reading

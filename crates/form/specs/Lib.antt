@@ -1,2 +1,0 @@
--- What the contracts of the command reader cite.
-pub mod Form

@@ -1,0 +1,26 @@
+-- What the proofs of the readers share.
+pub mod Steps
+pub mod Every
+pub mod Walking
+pub mod Progress
+pub mod Balanced
+pub mod Alone
+pub mod Laws
+pub mod Rowing
+pub mod Terms
+pub mod Signs
+pub mod Turns
+pub mod Noting
+pub mod Seeking
+pub mod Naming
+pub mod Amounts
+pub mod Commanding
+pub mod Commands
+pub mod Comparing
+pub mod Declaring
+pub mod Made
+pub mod Asking
+pub mod Begun
+pub mod Opening
+pub mod Spelling
+pub mod Understood
