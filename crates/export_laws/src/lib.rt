@@ -1,1 +1,2 @@
 // No code: laws for proofs by hand, which stand in proofs/.
+#![tactic(auto)]

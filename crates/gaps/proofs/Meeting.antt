@@ -105,7 +105,7 @@ mark_beside_possible t a =
 pub back_beside_possible : (t : Tables) (a : Gaps) → Square a → Outcome (back_beside (beside t a)) (beside t a)
 back_beside_possible t a square =
     with_outcome (back_meaning t) t t a (Room t) (needs NOMARK (1 ≤ t.counts.marks) ∷ []) (λ u b. Remade u a b)
-    (λ k f. f) (λ k f. f) (λ p sound g u x e. remade_after Call.goes_Back t u g a square p sound x) (back_possible t)
+    (λ k f. f) (λ k f. f) (λ p sound g u x e. remade_after Call.goes_back t u g a square p sound x) (back_possible t)
 
 pub withdraw_beside_possible : (i : ℕ) (t : Tables) (a : Gaps) → Square a → Outcome (withdraw_beside i (beside t a)) (beside t a)
 withdraw_beside_possible i t a square =

@@ -1,6 +1,7 @@
 // Whether a rule fits the rules held, and Add and Trial on tables that are known to have room and to be sound. A rule that the days break asks a gain of its second step, just what
 // the days lack; the gain is spread, and where it reaches the rule's first step the rule is refused, for a reason that crate shortest finds; else the days with their gains are the
 // earliest plan.
+#![tactic(auto)]
 ghost use Rattle.std.specs.Prelude.{◌≡◌, ◌<◌, ◌≤◌, length};
 ghost use Rattle.meaning.specs.Bounds.{STEPS, RULES};
 ghost use Rattle.meaning.specs.Promise.{First};

@@ -288,13 +288,13 @@ through P (Call.adds r l l') t u g x s = by_outcome (add_meaning r b) b a g x (P
 
     done : g.number ≡ DONE → P u
     done e =
-        let h = done_met DONE g.number (add_meaning r b).asks (goal.overflow-add-rises r b) x.first_unmet e in
+        let h = done_met DONE g.number (add_meaning r b).asks (goal.add_rises r b) x.first_unmet e in
         s.at_add r (record { sound = h.1.0; room = h.0.0 }) h.1.1.0 h.1.1.1.0 h.1.1.1.1.0 (x.when_done e).rule_held (x.when_done e).planned
 through P Call.marks t u g x s = by_outcome (mark_meaning t) t u g x (P u) done (λ e. absurd (x.on_conflict e).0) (stays P t u s.at_rest)
   where
     done : g.number ≡ DONE → P u
     done e = let h = done_met DONE g.number (mark_meaning t).asks (goal.mark_rises t) x.first_unmet e in s.at_mark (record { sound = h.1.0; room = h.0 }) h.1.1.0 (x.when_done e).marked
-through P Call.goes_Back t u g x s = by_outcome (back_meaning t) t u g x (P u) done (λ e. absurd (x.on_conflict e).0) (stays P t u s.at_rest)
+through P Call.goes_back t u g x s = by_outcome (back_meaning t) t u g x (P u) done (λ e. absurd (x.on_conflict e).0) (stays P t u s.at_rest)
   where
     done : g.number ≡ DONE → P u
     done e =
@@ -530,7 +530,7 @@ quiet_or_withdraws (Call.opens n) = inl (λ i named. named)
 quiet_or_withdraws (Call.watches r) = inl (λ i named. named)
 quiet_or_withdraws (Call.adds r l l') = inl (λ i named. named)
 quiet_or_withdraws Call.marks = inl (λ i named. named)
-quiet_or_withdraws Call.goes_Back = inl (λ i named. named)
+quiet_or_withdraws Call.goes_back = inl (λ i named. named)
 quiet_or_withdraws (Call.tries r l l' m m') = inl (λ i named. named)
 quiet_or_withdraws (Call.asks_consequences l l' m m') = inl (λ i named. named)
 quiet_or_withdraws (Call.checks_ring r l l') = inl (λ i named. named)
@@ -648,7 +648,7 @@ none_gone s u Gone sound sound-u none b =
 -- An accepted Mark at sound tables s, then any calls that leave that mark open, then the accepted Back that drops it.
 module _
     (s : Tables) (k : Kept s) (g : Given) (marked : Tables) (x : Made Call.marks s g marked) (done : g.number ≡ DONE) (t : Tables) (ks : KeepsMark s.counts.marks marked t)
-    (last : t.counts.marks ≡ s.counts.marks + 1) (h : Given) (u : Tables) (y : Made Call.goes_Back t h u) (back : h.number ≡ DONE)
+    (last : t.counts.marks ≡ s.counts.marks + 1) (h : Given) (u : Tables) (y : Made Call.goes_back t h u) (back : h.number ≡ DONE)
   where
     -- The numbers that were withdrawn between.
     abbrev Lost : ℕ → Type 0
@@ -703,4 +703,4 @@ module _
     -- Where no number held at the mark was withdrawn, rules, steps, marks, days and the last day are those of s.
     pub back_restores : ((i : ℕ) → held_in s i → Lost i → ⊥) → Restored s u × (u.watched ≡ t.watched) × (u.counts.watched ≡ t.counts.watched)
     back_restores none =
-        (none_gone s u Lost k.sound (call_keeps Call.goes_Back t u h y w.kept).sound none back_restores_but.0, back_restores_but.1, back_restores_but.2)
+        (none_gone s u Lost k.sound (call_keeps Call.goes_back t u h y w.kept).sound none back_restores_but.0, back_restores_but.1, back_restores_but.2)

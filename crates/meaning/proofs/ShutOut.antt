@@ -694,7 +694,7 @@ consequences_from_days = record {
   wrong_has = λ s.
       spoiled_has DONE (from s) (right_consequences s)
       (λ x. x.answer.number ≡ DONE → (j : ℕ) → j < s.tables.counts.watched → Kept s j → In j (take x.answer.one x.after.one))
-      (λ e h j below keeps. subst (In j) (sym (over_take (all s).0 s.one)) ((all s).1.All-there j below keeps)) (λ other h. absurd (other h));
+      (λ e h j below keeps. subst (In j) (sym (over_take (all s).0 s.one)) ((all s).1.all_there j below keeps)) (λ other h. absurd (other h));
   all_else = λ s. spoiled_but DONE (from s) (right_consequences s) FirstDiffers (λ e. (refl, refl, refl, refl));
 }
   where

@@ -736,7 +736,7 @@ back_holds t m w k days X h go = (whatever, record { answer = all.answer; tables
     all : Allowed (back_meaning t) t DONE
     all = can.back_met t w.kept.room w.kept.sound some-mark (at days) earliest
 
-    whatever : (g : Given) (u : Tables) → Made Call.goes_Back t g u → Done 0 0 g × (u.counts.rules ≡ k) × Days u days × X u
+    whatever : (g : Given) (u : Tables) → Made Call.goes_back t g u → Done 0 0 g × (u.counts.rules ≡ k) × Days u days × X u
     whatever g u x = (
       given_eq g (record { number = DONE; one = 0; two = 0 }) done (x.when_done done).no_values.0 (x.when_done done).no_values.1,
       ap (λ z. z.counts.rules) is ∙ count,
@@ -755,7 +755,7 @@ back_holds t m w k days X h go = (whatever, record { answer = all.answer; tables
 
         shows : Shows u (next_shown m (Row.back k days))
         shows = subst (λ z. Shows z (next_shown m (Row.back k days))) (sym is) (record {
-          kept = subst Kept is (call_keeps Call.goes_Back t u g x w.kept);
+          kept = subst Kept is (call_keeps Call.goes_back t u g x w.kept);
           steps = w.steps ∙ sym as_long;
           marks = ap (λ z. z - 1) w.marks;
           watched = w.watched;

@@ -66,7 +66,7 @@ Says (Row.refuse r ring sum) t X =
     × ((l' : List ℕ) × Possible (Call.adds r l l') t)
 Says Row.mark t X = ((g : Given) (u : Tables) → Made Call.marks t g u → Done 0 0 g × X u) × Possible Call.marks t
 Says (Row.back k days) t X =
-    ((g : Given) (u : Tables) → Made Call.goes_Back t g u → Done 0 0 g × (u.counts.rules ≡ k) × Days u days × X u) × Possible Call.goes_Back t
+    ((g : Given) (u : Tables) → Made Call.goes_back t g u → Done 0 0 g × (u.counts.rules ≡ k) × Days u days × X u) × Possible Call.goes_back t
 Says (Row.withdraw i days) t X = ((g : Given) (u : Tables) → Made (Call.withdraws i) t g u → Done 0 0 g × Days u days × X u) × Possible (Call.withdraws i) t
 Says (Row.absent i) t X = ((g : Given) (u : Tables) → Made (Call.withdraws i) t g u → (g ≡ bare ABSENT) × X u) × Possible (Call.withdraws i) t
 Says (Row.watch r) t X = ((g : Given) (u : Tables) → Made (Call.watches r) t g u → Done 0 0 g × X u) × Possible (Call.watches r) t

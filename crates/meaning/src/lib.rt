@@ -1,4 +1,6 @@
 // The types that every call's contract shares, and the bounds as the code has them. What they mean stands in specs/.
+#![tactic(auto)]
+
 ghost use Rattle.std.specs.Prelude.{◌≡◌};
 ghost use Rattle.meaning.specs.Bounds.{DONE, CONFLICT};
 ghost use Rattle.meaning.specs.Tables.{steps_alone, rules_now, marks_now, watched_now, last_now};

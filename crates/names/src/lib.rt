@@ -1,4 +1,5 @@
 // The declared names of a script: finding one by its hash, declaring one, making the index afresh, and whether all are different.
+#![tactic(auto)]
 ghost use Rattle.std.specs.Prelude.{◌≡◌, ◌+◌, ◌-◌, ◌<◌, ◌≤◌, length};
 ghost use Rattle.meaning.specs.Bounds.{STEPS, NAME_BYTES};
 ghost use Rattle.lent.specs.Decides.{Decides};

@@ -35,7 +35,7 @@ quietly (Call.watches r) t u g x q = by_number g (Quietly t u) (λ e. inr (r, (x
 quietly (Call.adds r l m) t u g x q =
     by_number g (Quietly t u) (λ e. absurd (q e)) (λ e. inl (x.on_conflict e).0.tables_stay) (λ d c. inl (ap (λ z. z.tables) (x.when_refused d c).1))
 quietly Call.marks t u g x q = by_number g (Quietly t u) (λ e. absurd (q e)) (λ e. absurd (x.on_conflict e).0) (λ d c. inl (x.when_refused d c).1)
-quietly Call.goes_Back t u g x q = by_number g (Quietly t u) (λ e. absurd (q e)) (λ e. absurd (x.on_conflict e).0) (λ d c. inl (x.when_refused d c).1)
+quietly Call.goes_back t u g x q = by_number g (Quietly t u) (λ e. absurd (q e)) (λ e. absurd (x.on_conflict e).0) (λ d c. inl (x.when_refused d c).1)
 quietly (Call.withdraws i) t u g x q = by_number g (Quietly t u) (λ e. absurd (q e)) (λ e. absurd (x.on_conflict e).0) (λ d c. inl (x.when_refused d c).1)
 quietly (Call.tries r l m n o) t u g x q =
     by_number g (Quietly t u) (λ e. inl (x.when_done e).tables_stay) (λ e. inl (x.on_conflict e).0.tables_stay) (λ d c. inl (ap (λ z. z.tables) (x.when_refused d c).1))

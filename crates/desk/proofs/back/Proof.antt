@@ -64,7 +64,7 @@ gaps-afresh-requires : tie.Need-gaps-afresh-requires
 gaps-afresh-requires c κs done =
     let start = c.before.before.before.before.before.before.before.before.before.before.before.before.before.before.before.before.before.before.before.before.before.before.before.before.before.before.before.before.before in
     let at-verdict = c.before.before.before.before.before.before.before.before.before.before.before.before.before.before.before.before.before.verdict in
-    idle_border (still_border Call.goes_Back (lent_at start) _ _ c.before.before.before.before.before.before.before.before.before.back.ensures (entered _ _ _ _ _ _ at-verdict.ensures (omega (arith, c.before.before.before.before.before.before.before.before.before.before.before.before.before.before.if1.false))))
+    idle_border (still_border Call.goes_back (lent_at start) _ _ c.before.before.before.before.before.before.before.before.before.back.ensures (entered _ _ _ _ _ _ at-verdict.ensures (omega (arith, c.before.before.before.before.before.before.before.before.before.before.before.before.before.before.if1.false))))
 
 same-length-3 : tie.Need-same-length-3
 same-length-3 c = search rules
