@@ -1,6 +1,7 @@
 // Reading the lent tables, and the exact test of one rule. An amount c is read as c + BIAS, which is never below 0, so that
 // every sum and every comparison of days and amounts is one of u64.
 #![tactic(auto)]
+
 ghost use Rattle.std.specs.Prelude.{◌≡◌, ◌≤◌, ◌<◌, length, get_or, pos};
 ghost use Rattle.meaning.specs.Rules.{InAmount, InBounds, largest};
 ghost use Rattle.meaning.specs.Bounds.{RULES, MARKS};

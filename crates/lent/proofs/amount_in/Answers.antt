@@ -1,0 +1,11 @@
+-- `lent::amount_in` meets its contract: the element is an i32, so nothing is lost on its way to `amount_fits`.
+use lib.ListN.{get_or}
+use lib.IntN.{pos}
+use mir.Syntax.{w32}
+use mir.ValLaws.{to_z-of_z}
+use borrow.Author.Rules.{rules}
+use Rattle.lent.proofs.amount_in.Goals as goal
+
+pub returns : goal.returns
+returns c = rw (to_z-of_z w32 (get_or c.args.list.now c.args.i (pos 0)) (record { sfits = c.amount_fits-arg-1.given })) at
+    c.amount_fits.ensures
