@@ -10,7 +10,7 @@ use script_meaning::Notes;
 // The script's record as C lends it: how many names are declared; whether the logic is set, 1 or 0; the contradictory level counted from 1, 0 where there is
 // none; whether the last check-sat printed sat and only get-value and unsupported commands came since, 1 or 0. Its fields lie in this order.
 #[repr(C)]
-#[derive(Drop)]
+#[derive(Clone, Copy)]
 pub struct Record {
     pub names: u32,
     pub logic: u32,

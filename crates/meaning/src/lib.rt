@@ -73,7 +73,7 @@ pub const YARD: u32 = 15;
 
 // How many of each thing the tables hold, and the last day of the plan. The caller lends it; a call brings it up to date. C callers lend it too, so its fields lie in this order.
 #[repr(C)]
-#[derive(Drop)]
+#[derive(Clone, Copy)]
 pub struct Counts {
     pub steps: u32,
     pub rules: u32,

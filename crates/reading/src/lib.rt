@@ -26,7 +26,7 @@ pub const WRONG: u8 = 2;
 pub const SIZE: u8 = 3;
 
 // A command by value: the ends of the name that it declares, how many rules or names it has, how many levels it opens or closes.
-#[derive(Drop)]
+#[derive(Clone, Copy)]
 pub enum Kind {
     SetLogic,
     Declare(usize, usize),

@@ -12,7 +12,7 @@ pub const STEPS: u32 = meaning::STEPS as u32;
 
 // The script's record: how many names are declared, whether the logic is set, the contradictory level counted from 1 (0 where there is none), and whether
 // the last check-sat printed sat and only get-value and unsupported commands came since.
-#[derive(Drop)]
+#[derive(Clone, Copy)]
 pub struct Notes {
     pub names: u32,
     pub logic: bool,
