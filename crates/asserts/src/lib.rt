@@ -1,5 +1,6 @@
 // Adding the rules of an asserted term, from left to right, up to the first conflict.
 #![tactic(auto)]
+
 ghost use Rattle.std.specs.Prelude.{◌≡◌, true, ℕ, ◌+◌, ◌≤◌, ◌<◌, length};
 ghost use Rattle.meaning.specs.Bounds.{RULES};
 ghost use Rattle.meaning.specs.Rules.{InBounds, rule};

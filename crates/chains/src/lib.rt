@@ -1,6 +1,7 @@
 // The rules of each first step, as chains of links: heads and nexts are lent, a link is a rule number plus 1, and 0 ends a chain. In nexts the place
 // of a rule that is on no chain has OFF, so that nexts says by itself which rules are held.
 #![tactic(auto)]
+
 ghost use Rattle.std.specs.Prelude.{◌≡◌, ◌<◌, ◌≤◌, length};
 ghost use Rattle.meaning.specs.Rules.{plus};
 ghost use Rattle.meaning.specs.Tables.{at};

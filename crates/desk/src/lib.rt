@@ -1,6 +1,7 @@
 // The eleven public calls. Each takes whatever it is lent, has no condition on it, and keeps the promise that its contract states: it tests the
 // room, then whether the tables are sound and the gap table is right, and then does its work.
 #![tactic(auto)]
+
 ghost use Rattle.std.specs.Prelude.{◌≤◌, ◌≡◌, length};
 ghost use Rattle.meaning.specs.Bounds.{STEPS, RULES, DONE};
 ghost use Rattle.meaning.specs.Promise.{First};

@@ -1,5 +1,6 @@
 // The script's record as C lends it, with the start and the command of a script over it.
 #![tactic(auto)]
+
 ghost use Rattle.std.specs.Prelude.{◌≡◌, List, ℕ, cond};
 ghost use Rattle.meaning.specs.Promise.{Obeys, bare, gave};
 ghost use Rattle.export_record.specs.Records.{FlagsFit, notes_of, Handed, Brought, lent_by_c, start_by_c, command_by_c};

@@ -1,5 +1,6 @@
 // What others link: the whole script, and every call, exported. Each call is over records that C lends, gives its number back, and its values through references.
 #![tactic(auto)]
+
 ghost use Rattle.std.specs.Prelude.{List, ℕ};
 ghost use Rattle.meaning.specs.Promise.{Obeys, bare, gave};
 ghost use Rattle.gaps.specs.Promises.{OpensTo, WatchesTo, AddsTo, MarksTo, GoesBackTo, WithdrawsTo, TriesTo, SplitsTo, ChecksRingTo, TellsLastDayTo, TellsGapTo};

@@ -1,5 +1,6 @@
 // The gap table of one yard as the code has it, and what Gap gives back. What they mean, and what each call does with the gap table, stands in specs/.
 #![tactic(auto)]
+
 ghost use Rattle.gaps.specs.Promises.{gap_reply};
 ghost use Rattle.std.specs.Prelude.{◌≡◌};
 

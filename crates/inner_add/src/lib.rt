@@ -2,6 +2,7 @@
 // the days lack; the gain is spread, and where it reaches the rule's first step the rule is refused, for a reason that crate shortest finds; else the days with their gains are the
 // earliest plan.
 #![tactic(auto)]
+
 ghost use Rattle.std.specs.Prelude.{◌≡◌, ◌<◌, ◌≤◌, length};
 ghost use Rattle.meaning.specs.Bounds.{STEPS, RULES};
 ghost use Rattle.meaning.specs.Promise.{First};

@@ -3,6 +3,7 @@
 // that stay, and all days are brought back by the latest day. What a spread gives is the earliest plan from the asked days on, so what is left is the
 // earliest plan. Where no rule goes, or only one that has days to spare, the days are the earliest plan as they are.
 #![tactic(auto)]
+
 ghost use Rattle.std.specs.Prelude.{ℕ, ◌^◌, ◌≤◌, ◌<◌, length, ◌≡◌, false};
 ghost use Rattle.meaning.specs.Bounds.{RULES, MARKS};
 ghost use Rattle.meaning.specs.Rules.{Earliest, largest};

@@ -3,6 +3,7 @@
 // every arrangement exactly when the gain that is asked for at its first step carries its second step as far as its amount says, and in none
 // exactly when its negation holds in every arrangement.
 #![tactic(auto)]
+
 ghost use Rattle.std.specs.Prelude.{◌≡◌, ℕ, ◌^◌, ◌<◌, ◌≤◌, length};
 ghost use Rattle.meaning.specs.Bounds.{WATCHED};
 ghost use Rattle.meaning.specs.Rules.{negation};

@@ -1,6 +1,7 @@
 // The calls on tables that are known to have room and to be sound. They are not for callers outside: the public calls check their tables and
 // then call these.
 #![tactic(auto)]
+
 ghost use Rattle.std.specs.Prelude.{◌≡◌, ◌≤◌, length, []};
 ghost use Rattle.meaning.specs.Bounds.{RULES};
 ghost use Rattle.inner_watch.specs.Cleared.{Cleared, Freed};

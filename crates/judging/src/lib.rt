@@ -1,5 +1,6 @@
 // Whether a command that was read may be carried out: MODE; then the fault of its names and amounts; then FULL, for `pop` NOMARK.
 #![tactic(auto)]
+
 ghost use Rattle.std.specs.Prelude.{◌≡◌, ◌≤◌, true, false};
 ghost use Rattle.meaning.specs.declared.Counts.{Counts};
 ghost use Rattle.meaning.specs.Bounds.{RULES, MARKS, MODE};

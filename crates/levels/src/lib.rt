@@ -1,6 +1,7 @@
 // Levels of a script: setting and dropping several marks at once. Where the days of an open mark are kept a pop copies them, else it plans afresh.
 // A table of kept days has ROWS rows, which the marks use in turn: mark k has row k % ROWS, and a later mark takes it over.
 #![tactic(auto)]
+
 ghost use Rattle.std.specs.Prelude.{◌≡◌, true, false, ◌+◌, ◌-◌, ◌*◌, ◌≤◌, ◌<◌, length};
 ghost use Rattle.meaning.specs.Bounds.{STEPS, RULES, MARKS};
 ghost use Rattle.meaning.specs.Rules.{Earliest, largest};

@@ -1,5 +1,6 @@
 // The declared names of a script: finding one by its hash, declaring one, making the index afresh, and whether all are different.
 #![tactic(auto)]
+
 ghost use Rattle.std.specs.Prelude.{◌≡◌, ◌+◌, ◌-◌, ◌<◌, ◌≤◌, length};
 ghost use Rattle.meaning.specs.Bounds.{STEPS, NAME_BYTES};
 ghost use Rattle.lent.specs.Decides.{Decides};

@@ -1,6 +1,7 @@
 // The program as one function: it reads a script from standard input, whole, plays it, writes its answers and gives a status. The bytes for the answers are written out
 // whenever fewer than ROOM of them are left, and at the end; so the answers may be as long as they like.
 #![tactic(auto)]
+
 ghost use Rattle.std.specs.Prelude.{◌≡◌, ◌≤◌, ◌<◌, length};
 ghost use Rattle.meaning.specs.Bounds.{RULES, ROOM, TEXT};
 ghost use Rattle.text.specs.Table.{TABLE};

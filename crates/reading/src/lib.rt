@@ -1,6 +1,7 @@
 // A text read once, from its opening bracket on: the command that it begins with, or what stops the reading. Each name is looked up where it is met, and each amount
 // judged; a term's rules, or the steps of the names asked for, are put into rows.
 #![tactic(auto)]
+
 ghost use Rattle.std.specs.Prelude.{◌≡◌, true, false, cond, List, [], ◌∷◌, ℕ, ◌+◌, ◌≤◌, ◌<◌, length, ℤ, pos, ◌-ℤ◌};
 ghost use Rattle.meaning.specs.Bounds.{STEPS, ASKED, DEPTH, NAME};
 ghost use Rattle.meaning.specs.Rules.{rule};

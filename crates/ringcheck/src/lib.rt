@@ -1,5 +1,6 @@
 // Whether a list of numbers is a negative ring that starts with a rule under its would-be number and goes on over held rules.
 #![tactic(auto)]
+
 ghost use Rattle.std.specs.Prelude.{ℕ, ◌≤◌, ◌<◌, ◌≡◌, length, drop};
 ghost use Rattle.meaning.specs.Bounds.{STEPS, RULES};
 ghost use Rattle.meaning.specs.Rules.{All, Different, Refutes};

@@ -1,6 +1,7 @@
 // The two public calls of scripts. Each takes whatever it is lent, has no condition on it, and keeps the promise that its contract states: it tests the room,
 // then whether the tables and the record are sound, and then does its work.
 #![tactic(auto)]
+
 ghost use Rattle.std.specs.Prelude.{◌≡◌, List, ℕ, ◌≤◌, ◌<◌, length};
 ghost use Rattle.meaning.specs.declared.Counts.{Counts};
 ghost use Rattle.meaning.specs.Bounds.{STEPS, RULES};

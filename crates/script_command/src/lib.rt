@@ -1,5 +1,6 @@
 // One script command on tables and a record that are known to be sound: it is read, judged, and where nothing stands against it printed, done and noted.
 #![tactic(auto)]
+
 ghost use Rattle.std.specs.Prelude.{◌≡◌, ℕ, ◌+◌, ◌≤◌, length};
 ghost use Rattle.meaning.specs.Bounds.{RULES, ROOM, DONE};
 ghost use Rattle.meaning.specs.Promise.{First};

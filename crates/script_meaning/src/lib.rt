@@ -1,5 +1,6 @@
 // The types that every script call's contract shares. What they mean stands in specs/.
 #![tactic(auto)]
+
 ghost use Rattle.std.specs.Prelude.{◌≡◌, ◌≤◌};
 ghost use Rattle.meaning.specs.Bounds.{STEPS};
 ghost use Rattle.script_meaning.specs.Record.{no_notes};

@@ -1,6 +1,7 @@
 // What a command does to the tables: the rules of its rows are added, its marks set and those that it drops dropped. The parts are called in a row, each with
 // nothing to do where it is not its turn: no row is added, 0 marks are set or dropped.
 #![tactic(auto)]
+
 ghost use Rattle.std.specs.Prelude.{◌≡◌};
 ghost use Rattle.meaning.specs.Tables.{rule_at};
 ghost use Rattle.lent.specs.Lent.{columns, held_by};

@@ -1,5 +1,6 @@
 // A whole script: its commands one after the other, and the bytes that they print. Soundness is kept from command to command, so no command pays for a check.
 #![tactic(auto)]
+
 ghost use Rattle.std.specs.Prelude.{◌≡◌, ℕ, ◌+◌, ◌≤◌, ◌<◌, length, Bool, true, false};
 ghost use Rattle.meaning.specs.Bounds.{RULES, ROOM, DONE};
 ghost use Rattle.text.specs.Table.{TABLE};

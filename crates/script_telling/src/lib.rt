@@ -1,5 +1,6 @@
 // What a command tells beside the tables: the bytes that it prints, the name that it declares, the record after it, and whether it ends the script.
 #![tactic(auto)]
+
 ghost use Rattle.std.specs.Prelude.{◌≡◌, ℕ, ◌+◌, ◌-◌, ◌≤◌, ◌<◌, length};
 ghost use Rattle.meaning.specs.Bounds.{STEPS, MARKS, ASKED, NAME_BYTES, ROOM};
 ghost use Rattle.meaning.specs.Tables.{at};

@@ -6,6 +6,7 @@
 // made from the first to the last, a layer on the way is kept, the rules above it are found, then, from the same start, those below it.
 // A step that lies deep below y is of no use to a way of g rules where too few of them are left: so the steps have depths, and a layer is made only as far down as it counts.
 #![tactic(auto)]
+
 ghost use Rattle.std.specs.Prelude.{◌≡◌, true, ℕ, ◌+◌, ◌*◌, ◌<◌, ◌≤◌, length};
 ghost use Rattle.meaning.specs.Bounds.{STEPS, RULES};
 ghost use Rattle.meaning.specs.Tables.{at};

@@ -2,6 +2,7 @@
 // grounded: it has day 0, or a rule with nothing to spare leads to it from a grounded step. So steps are entered in a work-list, those
 // of day 0 first, and the rules of each are followed once: a broken rule, or a step left out at the end, says no.
 #![tactic(auto)]
+
 ghost use Rattle.std.specs.Prelude.{◌⊎◌, ◌≤◌, ◌<◌, length};
 ghost use Rattle.meaning.specs.declared.Counts.{Counts};
 ghost use Rattle.meaning.specs.Bounds.{STEPS, RULES};

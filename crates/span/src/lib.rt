@@ -1,5 +1,6 @@
 // Where the command ends that a text begins with.
 #![tactic(auto)]
+
 ghost use Rattle.std.specs.Prelude.{◌≡◌};
 ghost use Rattle.text.specs.Table.{TABLE};
 ghost use Rattle.span.specs.Span.{span};

@@ -3,6 +3,7 @@
 // settles the open step of largest gain and relaxes its rules; the open steps with a gain wait in a list (crate waiting).
 // Which rules are held is read from their chains, by the code and by the contracts: those that nexts has on a chain.
 #![tactic(auto)]
+
 ghost use Rattle.std.specs.Prelude.{◌≡◌, ◌+◌, ◌<◌, ◌≤◌, length};
 ghost use Rattle.meaning.specs.Bounds.{STEPS};
 ghost use Rattle.meaning.specs.Tables.{at};

@@ -2,6 +2,7 @@
 // A call that a signal interrupted before it moved a byte is made again. Where a call fails, standard error says why. What the system reads and writes no contract
 // can say; the numbers here are those that it answered.
 #![tactic(auto)]
+
 ghost use Rattle.std.specs.Prelude.{◌≡◌, ◌≤◌, length, take};
 
 // How often in a row an interrupted call is made again. A proved loop ends, and no run comes to this number.

@@ -1,5 +1,6 @@
 // Tokens of a script, found from a place in its bytes; words compared; numerals read.
 #![tactic(auto)]
+
 ghost use Rattle.std.specs.Prelude.{◌≡◌, ◌-◌, ◌<◌, ◌≤◌, length, get_or};
 ghost use Rattle.text.specs.Lexicon.{class, grown, kind, piece_at, token_at, bytes, same_bytes, cut, number, line_end, start};
 ghost use Rattle.text.specs.Table.{TABLE};

@@ -1,5 +1,6 @@
 // What get-value prints: the names with their days.
 #![tactic(auto)]
+
 ghost use Rattle.std.specs.Prelude.{◌≡◌, ℕ, ◌+◌, ◌<◌, ◌≤◌, length, get_or};
 ghost use Rattle.meaning.specs.Bounds.{STEPS, ASKED, ROOM};
 ghost use Rattle.meaning.specs.Tables.{at};

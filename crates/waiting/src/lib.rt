@@ -2,6 +2,7 @@
 // leader, which is one of its steps with the largest gain; and the place of each step is known. So a step enters or rises by one comparison, and a step
 // of largest gain is found among the leaders; when it leaves, its group is looked through for a new one.
 #![tactic(auto)]
+
 ghost use Rattle.std.specs.Prelude.{◌≡◌, ◌+◌, ◌/◌, ◌<◌, length};
 ghost use Rattle.meaning.specs.Tables.{at};
 ghost use Rattle.waiting.specs.Waiting.{Room, Searchable, LargestIn, Leadable, Promoted, LedBut, Led, New, Entered, Regroupable, Regrouped, Taken};

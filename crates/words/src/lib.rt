@@ -1,5 +1,6 @@
 // Which words are reserved, and which are operators.
 #![tactic(auto)]
+
 ghost use Rattle.std.specs.Prelude.{◌≡◌, ◌≤◌, length};
 ghost use Rattle.text.specs.Lexicon.{bytes, either};
 ghost use Rattle.words.specs.ByLength.{WORDS_TO_3, WORDS_TO_5, WORDS_OF_6, WORDS_TO_9, WORDS_TO_13, WORDS_FROM_14};

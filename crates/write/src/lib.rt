@@ -1,5 +1,6 @@
 // Writing into lent bytes: words and numbers.
 #![tactic(auto)]
+
 ghost use Rattle.std.specs.Prelude.{◌≡◌, ◌+◌, ◌≤◌, length};
 ghost use Rattle.write.specs.Written.{over, decimal};
 

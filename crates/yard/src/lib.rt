@@ -1,5 +1,6 @@
 // The gap table made afresh, brought up to date and tested.
 #![tactic(auto)]
+
 ghost use Rattle.std.specs.Prelude.{◌≡◌, ℕ, ◌+◌, ◌<◌, ◌≤◌, [], length, get_or, pos};
 ghost use Rattle.meaning.specs.Bounds.{YARD_STEPS};
 ghost use Rattle.meaning.specs.Rules.{InAmount};

@@ -1,0 +1,24 @@
+-- `asserts::add_rules`: what adding the rows left comes to, adding all of them comes to; each turn takes the first row that is left.
+-- The measure is the number of rows left.
+use mathlib.Core.Path.{◌≡◌, refl, ◌∙◌}
+use mathlib.Core.Bool.{true}
+use mir.Syntax.{w32}
+use mir.ValLaws.{to_z-of_z}
+use Prim.Native.Nat.{◌-◌}
+use lib.ListN.{get_or}
+use lib.IntN.{pos}
+use Rattle.lent.specs.Lent.{columns, held_by, AllHeld}
+use Rattle.lent.specs.Idle.{unwatched}
+use Rattle.chains.specs.Chains.{LentChains}
+use Rattle.asserts.proofs.Going.{AsLong, Left, left_start, left_none, next_good, next_place, left_clash, left_held}
+use borrow.Author.Rules.{rules}
+use native.Mathlib.Omega.{arith}
+use Rattle.asserts.proofs.add_rules.Given as goal
+
+abbrev pub invariant-loop-i : goal.invariant-loop-i
+invariant-loop-i l = AsLong l.initial.xs l.initial.ys l.initial.cs l.initial.days l.initial.levels l.initial.heads l.initial.nexts l.xs l.ys l.cs l.days l.levels l.heads l.nexts
+    × (Left l.e (columns l.row_xs l.row_ys l.row_cs) l.k (unwatched l.initial.held l.initial.xs l.initial.ys l.initial.cs l.initial.days l.initial.levels) l.i (unwatched l.held l.xs l.ys l.cs l.days l.levels)
+    × (LentChains l.held.steps (held_by l.levels) l.xs l.heads l.nexts × (l.packed ≡ true → AllHeld l.held.rules l.levels)))
+
+abbrev pub decreases-loop-i : goal.decreases-loop-i
+decreases-loop-i l = l.k - l.i

@@ -1,0 +1,51 @@
+-- `desk::back`: the first test decides the refusals that all calls share; the rest is `back` on sound tables, with the chains that the test left.
+use Prim.Native.Nat.{ℕ}
+use mathlib.Core.Path.{refl}
+use lib.ListN.{length-replicate}
+use Rattle.meaning.specs.Bounds.{STEPS, RULES}
+use Rattle.desk.proofs.Entering.{entered, right_entered, refused_alone}
+use Rattle.meaning.specs.Tables.{Tables}
+use Rattle.meaning.specs.Calls.{back_meaning}
+use Rattle.meaning.specs.Runs.{Call}
+use Rattle.lent.specs.Lent.{tables}
+use Rattle.lent.proofs.Watching.{idle_border}
+use Rattle.gaps.proofs.Lifting.{lift_remaking}
+use Rattle.desk.proofs.Gapping.{still_border, remade_watching}
+use native.Mathlib.Omega.{arith}
+use borrow.Author.Rules.{rules}
+use Rattle.desk.proofs.back.Reads as reads
+use Rattle.desk.proofs.back.Lts as lts
+use Rattle.desk.proofs.verdict.Reads as verdict-reads
+use Rattle.inner_back.proofs.back.Reads as back-reads
+use Rattle.meaning.proofs.refused.Reads as refused-reads
+use Rattle.desk.proofs.back.Goals as goal
+
+pub verdict-number-requires : goal.verdict-number-requires
+verdict-number-requires c = record {
+  in_bounds = omega (arith, length-replicate {A = ℕ} STEPS 0);
+  in_bounds_2 = omega (arith, length-replicate {A = ℕ} RULES 0);
+}
+
+pub returns-then-number-gt0 : goal.returns-then-number-gt0
+returns-then-number-gt0 c = rw c.refused.ensures (refused_alone _ _ _ _ _ _ c.verdict-number.ensures _ _ (omega (arith, c.if-number-gt0.true)) refl (λ f. f))
+
+pub back-reply-requires : goal.back-reply-requires
+back-reply-requires c = let verdict = c.verdict-number in record {
+  border = entered _ _ _ _ _ _ verdict.ensures (omega (arith, c.if-number-gt0.false));
+  lent_chains = verdict.ensures.chained (omega (arith, c.if-number-gt0.false));
+}
+
+pub gaps_afresh-requires : goal.gaps_afresh-requires
+gaps_afresh-requires c done =
+    let lent_at : Tables = tables c.args.counts c.args.xs.now c.args.ys.now c.args.cs.now c.args.days.now c.args.levels.now
+    c.args.wxs.now c.args.wys.now c.args.wcs.now in
+    let at-verdict = c.verdict-number in
+    idle_border (still_border Call.goes_back (lent_at) _ _ c.back-reply.ensures (entered _ _ _ _ _ _ at-verdict.ensures (omega (arith, c.if-number-gt0.false))))
+
+pub returns : goal.returns
+returns c =
+    let lent_at : Tables = tables c.args.counts c.args.xs.now c.args.ys.now c.args.cs.now c.args.days.now c.args.levels.now
+    c.args.wxs.now c.args.wys.now c.args.wcs.now in
+    let gaps-afresh = c.gaps_afresh in
+    lift_remaking (back_meaning (lent_at)) (lent_at) c.args.gaps.now (right_entered _ _ _ _ _ _ c.verdict-number.ensures (omega (arith, c.if-number-gt0.false))) (lent_at) _ _ (λ t. t) _ c.back-reply.ensures
+    (λ done. remade_watching _ _ _ _ _ _ c.args.wxs.now c.args.wys.now c.args.wcs.now _ _ (gaps-afresh.ensures.when_done done)) gaps-afresh.ensures.else_stays

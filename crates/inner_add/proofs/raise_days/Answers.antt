@@ -1,0 +1,62 @@
+-- `inner_add::raise_days`: what is raised and counted so far is a `Raised`, and the latest is the last of the days passed, one step more each turn.
+use Prim.Native.Nat.{◌+◌, ◌-◌, ◌^◌, ◌≤◌, ◌<◌}
+use mathlib.Core.Path.{◌≡◌, sym, ◌∙◌}
+use mathlib.Core.Logic.{inl, inr, ⊎_elim}
+use lib.ListN.{length, length-set}
+use Rattle.meaning.specs.Rules.{largest}
+use Rattle.meaning.specs.Tables.{at}
+use Rattle.meaning.proofs.LastDay.{largest_zeros, largest_set}
+use Rattle.inner_add.specs.Planning.{Raised}
+use Rattle.inner_add.proofs.Raising.{raised_none, raised_more, raised_same}
+use borrow.Author.Rules.{rules}
+use native.Mathlib.Omega.{arith}
+use Rattle.inner_add.proofs.raise_days.Reads as reads
+use Rattle.inner_add.proofs.raise_days.Lts as lts
+use Rattle.lent.proofs.day_at.Reads as day-at-reads
+use Rattle.inner_add.proofs.raise_days.Goals as goal
+use Rattle.inner_add.proofs.raise_days.Goals.{else-gain-gt0, else-latest-day, then-gain-gt0, then-latest-day}
+
+pub loop-v-init : goal.loop-v-init
+loop-v-init c = let days = c.args.days.now in
+    (omega arith, omega arith, raised_none days c.args.gains.now days, sym (largest_zeros 0 (at days) (λ v below. absurd (omega arith))))
+
+pub day_at-requires : goal.day_at-requires
+day_at-requires c = omega (arith, c.loop-v.invariant.2.past.same_length, c.requires.days_room)
+
+pub overflow_add-day : goal.overflow_add-day
+overflow_add-day c =
+    let fits : c.day_at.result + at c.args.gains.now c.loop-v.v < 2 ^ 32 = let loop = c.loop-v in
+    omega (arith, c.day_at.ensures, c.requires.fits loop.v (omega arith), loop.invariant.2.past.kept loop.v (omega arith)) in
+    omega (arith, fits)
+
+pub overflow_cast-day : goal.overflow_cast-day
+overflow_cast-day c =
+    let fits : c.day_at.result + at c.args.gains.now c.loop-v.v < 2 ^ 32 = let loop = c.loop-v in
+    omega (arith, c.day_at.ensures, c.requires.fits loop.v (omega arith), loop.invariant.2.past.kept loop.v (omega arith)) in
+    omega (arith, fits)
+
+pub bounds-days-v : goal.bounds-days-v
+bounds-days-v c = omega (arith, c.loop-v.invariant.2.past.same_length, c.requires.days_room)
+
+pub loop-v-preserved : goal.loop-v-preserved
+loop-v-preserved c = let day-at = c.day_at in
+    let loop = c.loop-v in
+    let days = c.args.days.now in
+    let gains = c.args.gains.now in
+    let list = loop.days in
+    let v = loop.v in
+    let count = loop.count in
+    let so_far = loop.invariant.2 in
+    let place : v < length days = omega (arith, c.requires.days_room) in
+    let inside : v < length list = omega (arith, so_far.past.same_length) in
+    let day : day-at.result ≡ at days v = day-at.ensures ∙ so_far.past.kept v (omega arith) in
+    let latest =
+    largest_set v list (day-at.result + at gains v) inside loop.invariant.3
+    (elim c.if-latest-day.branch [ then-latest-day w ↦ inl (omega (arith, w.if-latest-day.true), w.days-is) | else-latest-day w ↦ inr (omega (arith, w.if-latest-day.false), w.days-is) ]) in
+    elim c.if-gain-gt0.branch [ then-gain-gt0 w ↦ (omega arith, omega (arith, w.days-is), rw (day, w.days-is) (raised_more days gains days list v count place so_far (omega (arith, w.if-gain-gt0.true))), latest) | else-gain-gt0 w ↦ (omega arith, omega (arith, w.days-is), rw (day, w.days-is) (raised_same days gains days list v count place so_far (omega (arith, w.if-gain-gt0.false))), latest) ]
+
+pub returns : goal.returns
+returns c = let end : c.loop-v.v ≡ c.args.n = omega arith in record {
+  raised = rw end at c.loop-v.invariant.2;
+  last_value = rw end at c.loop-v.invariant.3;
+}

@@ -1,0 +1,43 @@
+-- `inner_back::plan_with` meets its contract: what each call needs, and the return, are laws of `Replanning`.
+use mathlib.Core.Path.{◌∙◌}
+use Rattle.inner_back.proofs.Replanning.{ground, askable, bringable, planned}
+use native.Mathlib.Omega.{arith}
+use Rattle.meaning.specs.Tables.{at}
+use Rattle.meaning.proofs.LastDay.{largest_over}
+use Rattle.inner_back.proofs.plan_with.Goals as goal
+
+pub ask-requires : goal.ask-requires
+ask-requires c = record {
+  days_room = c.requires.plannable.days_room;
+  gains_room = c.requires.plan_room.gains_room;
+  not_after = λ v v-in. omega (arith, largest_over c.args.n (at c.args.days.now) v v-in, c.requires.last_value.0);
+}
+
+pub spread-requires : goal.spread-requires
+spread-requires c = let chains = c.requires.lent_chains in
+    let room = c.requires.plan_room in
+    let ask = c.ask in record {
+      ground = ground c.requires.plannable chains.heads_room (λ i on. omega (arith, on.0, chains.nexts_room)) chains.chained;
+      askable = askable c.args.days.now c.requires.last_value.1 (omega (arith, ask.kept.1.1.1.0, room.gains_room)) room.by_room ask.ensures;
+    }
+
+pub bring-requires : goal.bring-requires
+bring-requires c = bringable c.requires.plannable c.ask.ensures c.spread.ensures c.requires.last_value.1
+    (omega (arith, c.spread.auto.gains, c.ask.kept.1.1.1.0, c.requires.plan_room.gains_room))
+
+pub shape_of-days : goal.shape_of-days
+shape_of-days c = c.bring.auto.days
+
+pub shape_of-gains : goal.shape_of-gains
+shape_of-gains c = let ask = c.ask in
+    c.spread.kept.1.1.1.1.1.1.1.1.0 ∙ ask.kept.1.1.1.0
+
+pub shape_of-by : goal.shape_of-by
+shape_of-by c = let spread = c.spread in
+    spread.kept.1.1.1.1.1.1.1.1.1.0
+
+pub returns : goal.returns
+returns c = record {
+  planned = planned c.requires.plannable c.ask.ensures c.spread.ensures c.bring.ensures.brought;
+  value = c.bring.ensures.value;
+}

@@ -1,0 +1,101 @@
+-- `inner_back::sift_all` meets its contract. The loop's invariant: the places passed are sifted, as `Sifting` says. The measure is the number of places that
+-- are not passed.
+use Prim.Native.Nat.{◌-◌, ◌≤◌, ◌<◌}
+use mathlib.Core.Path.{◌≡◌, refl, ◌∙◌, ap}
+use mathlib.Core.Logic.{⊎_elim}
+use lib.ListN.{length}
+use Rattle.meaning.specs.Bounds.{RULES}
+use Rattle.meaning.specs.Tables.{at, taken}
+use Rattle.meaning.proofs.Places.{taken_at_most, freed_length}
+use Rattle.inner_back.proofs.Sifting.{Sifting, sifting_none, not_yet, place_left, sifting_free, sifting_more, sifted_one, sifted_levels, sifted_left, sifted_chains}
+use borrow.Author.Rules.{rules}
+use native.Mathlib.Omega.{arith}
+use Rattle.inner_back.proofs.sift_all.Reads as reads
+use Rattle.inner_back.proofs.sift_all.Lts as lts
+use Rattle.chains.proofs.clear.Reads as clear_reads
+use Rattle.inner_back.proofs.sift.Reads as sift-reads
+use Rattle.inner_back.proofs.sift_all.Goals as goal
+
+pub clear-requires : goal.clear-requires
+clear-requires c = c.requires.lent_chains.heads_room
+
+pub loop-seen-init : goal.loop-seen-init
+loop-seen-init c = let args = c.args in
+    (sifting_none args.n args.k args.xs.now args.levels.now args.heads.now _ args.nexts.now c.requires.lent_chains c.clear.ensures, refl, refl)
+
+pub bounds-levels-i : goal.bounds-levels-i
+bounds-levels-i c =
+    let inside : c.loop-seen.i < RULES = place_left c.loop-seen.invariant.0 (omega (arith, c.loop-seen-test.true, c.requires.freeable.counted)) in
+    let levels_length : length c.loop-seen.levels ≡ length c.args.levels.now = ap length c.loop-seen.invariant.0.levels_are ∙ freed_length c.loop-seen.i c.args.k c.args.levels.now in
+    omega (arith, inside, c.requires.freeable.levels_room, levels_length)
+
+pub sift-left-requires : goal.sift-left-requires
+sift-left-requires c =
+    let inside : c.loop-seen.i < RULES = place_left c.loop-seen.invariant.0 (omega (arith, c.loop-seen-test.true, c.requires.freeable.counted)) in
+    let heads_room : c.args.n ≤ length c.loop-seen.heads = omega (arith, c.loop-seen.invariant.1, c.clear.auto.heads, c.requires.lent_chains.heads_room) in
+    let levels_length : length c.loop-seen.levels ≡ length c.args.levels.now = ap length c.loop-seen.invariant.0.levels_are ∙ freed_length c.loop-seen.i c.args.k c.args.levels.now in
+    let firsts = c.requires.freeable.firsts_in c.loop-seen.i (inside, omega (arith, c.if-levels-i-ne0.true, not_yet c.loop-seen.invariant.0 c.loop-seen.i (omega arith))) in record {
+      linkable = record {
+        first_place = omega (arith, inside, c.requires.freeable.firsts_room);
+        next_place = omega (arith, inside, c.loop-seen.invariant.2, c.requires.lent_chains.nexts_room);
+        head_place = omega (arith, firsts, heads_room);
+        link_fits = omega (arith, inside);
+      };
+      i_in_bounds = omega (arith, inside, c.requires.freeable.levels_room, levels_length);
+      k_bound = c.requires.freeable.marks_in;
+    }
+
+pub overflow_add-left : goal.overflow_add-left
+overflow_add-left c =
+    let inside : c.loop-seen.i < RULES = place_left c.loop-seen.invariant.0 (omega (arith, c.loop-seen-test.true, c.requires.freeable.counted)) in
+    let s = c.loop-seen.invariant.0 in
+    omega (arith, sifted_one c.sift-left.ensures, s.left_are, taken_at_most c.loop-seen.i c.loop-seen.levels, inside)
+
+pub overflow_add-i : goal.overflow_add-i
+overflow_add-i c =
+    let inside : c.loop-seen.i < RULES = place_left c.loop-seen.invariant.0 (omega (arith, c.loop-seen-test.true, c.requires.freeable.counted)) in
+    omega (arith, inside)
+
+pub loop-seen-smaller : goal.loop-seen-smaller
+loop-seen-smaller c =
+    let inside : c.loop-seen.i < RULES = place_left c.loop-seen.invariant.0 (omega (arith, c.loop-seen-test.true, c.requires.freeable.counted)) in
+    omega (arith, inside)
+
+pub loop-seen-preserved : goal.loop-seen-preserved
+loop-seen-preserved c =
+    let inside : c.loop-seen.i < RULES = place_left c.loop-seen.invariant.0 (omega (arith, c.loop-seen-test.true, c.requires.freeable.counted)) in
+    let loop = c.loop-seen in
+    ⊎_elim
+    (λ w.
+    let some : 0 < at loop.levels loop.i = omega (arith, w.0.taken) in
+    let sift = w.4 in
+    rw (w.11, w.12, w.13, w.14, w.15) (
+      sifting_more loop.invariant.0 (inside) some
+          (c.requires.freeable.firsts_in loop.i (inside, omega (arith, some, not_yet loop.invariant.0 loop.i (omega arith))))
+          (omega (arith, inside, loop.invariant.2, c.requires.lent_chains.nexts_room)) sift.ensures,
+      sift.kept.1.1.1.0 ∙ loop.invariant.1,
+      sift.kept.1.1.1.1.0 ∙ loop.invariant.2,
+    ))
+    (λ w. rw (w.1, w.2, w.3, w.4, w.5) (sifting_free loop.invariant.0 (inside) w.0.left, loop.invariant.1, loop.invariant.2))
+    c.if-levels-i-ne0.branch
+
+pub shape_of-levels : goal.shape_of-levels
+shape_of-levels c =
+    let levels_length : length c.loop-seen.levels ≡ length c.args.levels.now = ap length c.loop-seen.invariant.0.levels_are ∙ freed_length c.loop-seen.i c.args.k c.args.levels.now in
+    levels_length
+
+pub shape_of-heads : goal.shape_of-heads
+shape_of-heads c = c.loop-seen.invariant.1 ∙ c.clear.auto.heads
+
+pub shape_of-nexts : goal.shape_of-nexts
+shape_of-nexts c = c.loop-seen.invariant.2
+
+pub returns : goal.returns
+returns c =
+    let heads_room : c.args.n ≤ length c.loop-seen.heads = omega (arith, c.loop-seen.invariant.1, c.clear.auto.heads, c.requires.lent_chains.heads_room) in
+    let s = c.loop-seen.invariant.0 in
+    let all : taken RULES c.args.levels.now ≤ c.loop-seen.seen = omega (arith, c.loop-seen-test.false, c.requires.freeable.counted) in record {
+      levels_after = sifted_levels s all;
+      value = sifted_left s all;
+      lent_chains_2 = sifted_chains s all (heads_room) (omega (arith, c.loop-seen.invariant.2, c.requires.lent_chains.nexts_room));
+    }

@@ -1,0 +1,23 @@
+-- `inner_split::clear` meets its contract. The loop's invariant: no step passed has a gain. The measure is what is left of the steps.
+use Prim.Native.Nat.{◌≤◌, ◌-◌}
+use mathlib.Core.Path.{◌≡◌, refl}
+use lib.ListN.{length, length-set}
+use borrow.Author.Count.{below_none}
+use Rattle.chains.specs.Chains.{Empty}
+use Rattle.chains.proofs.Laws.{empty_more}
+use borrow.Author.Rules.{rules}
+use native.Mathlib.Omega.{arith}
+use Rattle.inner_split.proofs.clear.Goals as goal
+
+pub loop-v-init : goal.loop-v-init
+loop-v-init c = (refl, omega arith, below_none _)
+
+pub loop-v-preserved : goal.loop-v-preserved
+loop-v-preserved c = (
+  simp length-set c.loop-v.invariant.0,
+  omega arith,
+  empty_more c.loop-v.v c.loop-v.gains (omega arith) c.loop-v.invariant.2,
+)
+
+pub returns : goal.returns
+returns c v below = c.loop-v.invariant.2 v (omega (arith, c.loop-v-test.false))

@@ -1,0 +1,77 @@
+-- `inner_split::judge_all` meets its contract. The loop's invariant: verdicts have been passed on every watched rule of the steps passed. The measure is
+-- what is left of the steps.
+use Rattle.chains.specs.Chains.{linked}
+use Prim.Native.Nat.{◌-◌, ◌≤◌}
+use mathlib.Core.Path.{◌≡◌, refl, ◌∙◌}
+use lib.ListN.{length}
+use Rattle.inner_split.specs.Clauses.{InAll, InNone}
+use Rattle.inner_split.proofs.Judging.{DecidedBelow, below_judged}
+use native.Mathlib.Omega.{arith}
+use Rattle.inner_split.proofs.judge_all.Goals as goal
+
+pub loop-a-init : goal.loop-a-init
+loop-a-init c = (
+  refl,
+  refl,
+  refl,
+  refl,
+  omega arith,
+  λ j j-in step_in. absurd (omega arith),
+  λ j j-in step_in. absurd (omega arith),
+)
+
+pub judge-requires : goal.judge-requires
+judge-requires c = let loop-test = c.loop-a-test in
+    let loop = c.loop-a in record {
+      ground = c.requires.ground;
+      near = c.requires.near;
+      watching = c.requires.watching;
+      places = record {
+        gains_room = omega (arith, loop.invariant.0, c.requires.places.gains_room);
+        by_room = omega (arith, loop.invariant.1, c.requires.places.by_room);
+        always_room = omega (arith, loop.invariant.2, c.requires.places.always_room);
+        never_room = omega (arith, loop.invariant.3, c.requires.places.never_room);
+      };
+      a_lt_n = loop-test.true;
+    }
+
+pub overflow_step-a : goal.overflow_step-a
+overflow_step-a c = let loop-test = c.loop-a-test in
+    omega (arith, loop-test.taken, c.requires.ground.steps_in)
+
+pub loop-a-smaller : goal.loop-a-smaller
+loop-a-smaller c = let loop-test = c.loop-a-test in
+    omega (arith, loop-test.taken)
+
+pub loop-a-preserved : goal.loop-a-preserved
+loop-a-preserved c = let judge = c.judge in
+    let loop-test = c.loop-a-test in
+    let loop = c.loop-a in
+    let a = c.args in (
+      judge.auto.gains ∙ loop.invariant.0,
+      judge.auto.by ∙ loop.invariant.1,
+      judge.auto.always ∙ loop.invariant.2,
+      judge.auto.never ∙ loop.invariant.3,
+      omega (arith, loop-test.taken),
+      below_judged _ a.w a.wxs.now loop.a loop.always judge.new.always loop.invariant.5 judge.ensures.in_all,
+      below_judged _ a.w a.wys.now loop.a loop.never judge.new.never loop.invariant.6 judge.ensures.in_none,
+    )
+
+pub shape_of-gains : goal.shape_of-gains
+shape_of-gains c = c.loop-a.invariant.0
+
+pub shape_of-by : goal.shape_of-by
+shape_of-by c = c.loop-a.invariant.1
+
+pub shape_of-always : goal.shape_of-always
+shape_of-always c = c.loop-a.invariant.2
+
+pub shape_of-never : goal.shape_of-never
+shape_of-never c = c.loop-a.invariant.3
+
+pub returns : goal.returns
+returns c = let in_bounds = c.requires.watching.in_bounds in
+    record {
+      in_all = λ j j-in. c.loop-a.invariant.5 j j-in (omega (arith, c.loop-a-test.false, (in_bounds j j-in).steps_in.first_in));
+      in_none = λ j j-in. c.loop-a.invariant.6 j j-in (omega (arith, c.loop-a-test.false, (in_bounds j j-in).steps_in.second_in));
+    }

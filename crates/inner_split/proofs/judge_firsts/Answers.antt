@@ -1,0 +1,74 @@
+-- `inner_split::judge_firsts` meets its contract. The loop's invariant: verdicts have been passed on the watched rules of a from the link on. The measure is
+-- the link.
+use Rattle.chains.proofs.Laws.{next_in}
+use Prim.Native.Nat.{◌-◌, ◌<◌}
+use mathlib.Core.Path.{ap}
+use Rattle.meaning.specs.Tables.{at}
+use Rattle.spread.specs.Ground.{rules}
+use Rattle.inner_split.specs.Carries.{Carries}
+use Rattle.inner_split.proofs.Testing.{carries_within}
+use Rattle.inner_split.proofs.Judging.{verdict_same, Along, along_head, along_next, along_end}
+use borrow.Author.Rules.{rules}
+use native.Mathlib.Omega.{arith}
+use Rattle.inner_split.proofs.judge_firsts.Goals as goal
+
+pub day_at-far-requires : goal.day_at-far-requires
+day_at-far-requires c = (c.requires.judgeable.gained c.args.a c.requires.a_lt_n).day_place
+
+pub overflow_add-far : goal.overflow_add-far
+overflow_add-far c = let shared-slice-known3 = c.shared_slice_known-3-1 in
+    omega (arith, c.day_at-far.ensures, c.type_inv.days c.args.a)
+
+pub number_at-link-requires : goal.number_at-link-requires
+number_at-link-requires c = omega (arith, c.requires.chains_by.heads_room, c.requires.a_lt_n)
+
+pub loop-link-init : goal.loop-link-init
+loop-link-init c = let a = c.args in
+    along_head _ a.n a.w a.wxs.now a.heads.now a.nexts.now c.requires.chains_by.chained a.a a.always.now _ c.number_at-link.ensures c.requires.a_lt_n
+
+pub holds-requires : goal.holds-requires
+holds-requires c = let day-at = c.day_at-far in
+    let shared-slice-known3 = c.shared_slice_known-3-1 in
+    let pre = c.requires.judgeable in
+    let j-in : c.loop-link.link - 1 < c.args.w = c.loop-link.invariant.linked.held (c.loop-link.link - 1) (omega (arith, c.loop-link-test.true)) in record {
+      testable = record {
+        step_place = omega (arith, pre.watched_room.seconds_room);
+        amount_place = omega (arith, pre.watched_room.amounts_room);
+        gained = pre.gained (at c.args.wys.now (c.loop-link.link - 1)) (pre.in_steps (c.loop-link.link - 1) j-in).second_in;
+      };
+      far_bound = omega (arith, day-at.ensures, c.type_inv.days c.args.a);
+    }
+
+pub bounds-always-j : goal.bounds-always-j
+bounds-always-j c = omega (arith, c.loop-link-test.true, c.loop-link.invariant.long, c.loop-link.invariant.linked.held (c.loop-link.link - 1) (omega (arith, c.loop-link-test.true)), c.requires.w_in_bounds)
+
+pub number_at-link-requires-in-loop-link : goal.number_at-link-requires-in-loop-link
+number_at-link-requires-in-loop-link c = omega (arith, c.loop-link-test.true, c.loop-link.invariant.linked.held (c.loop-link.link - 1) (omega (arith, c.loop-link-test.true)), c.requires.chains_by.nexts_room)
+
+pub loop-link-smaller : goal.loop-link-smaller
+loop-link-smaller c = let loop = c.loop-link in
+    omega (
+      arith,
+      c.loop-link-test.true,
+      c.number_at-link-in-loop-link.ensures,
+      next_in c.args.n c.args.w c.args.wxs.now c.args.heads.now c.args.nexts.now c.requires.chains_by.chained (loop.link - 1) (loop.invariant.linked.held (loop.link - 1) (omega (arith, c.loop-link-test.true))),
+    )
+
+pub loop-link-preserved : goal.loop-link-preserved
+loop-link-preserved c = let loop = c.loop-link in
+    let day-at = c.day_at-far in
+    let a = c.args in
+    along_next _ a.n a.w a.wxs.now a.heads.now a.nexts.now c.requires.chains_by.chained a.a a.always.now loop.link _ c.holds.result loop.always
+    c.loop-link-test.true c.number_at-link-in-loop-link.ensures c.requires.w_in_bounds
+    (λ own.
+    verdict_same
+    (carries_within a.wxs.now a.wys.now a.wcs.now a.days.now a.gains.now _ (loop.link - 1) (omega (arith, day-at.ensures, ap (at a.days.now) own)))
+    c.holds.ensures)
+    loop.invariant
+
+pub shape_of-always : goal.shape_of-always
+shape_of-always c = c.loop-link.invariant.long
+
+pub returns : goal.returns
+returns c = let a = c.args in
+    along_end _ a.w a.wxs.now a.a _ a.always.now c.loop-link.always (omega (arith, c.loop-link-test.false)) c.loop-link.invariant

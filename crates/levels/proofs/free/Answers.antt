@@ -1,0 +1,25 @@
+-- `levels::free` meets its contract: of rules in order those above k are the newest, and dropping them leaves what freeing all above k does; other rules are freed as Back does.
+use Rattle.inner_back.proofs.Newest.{few, droppable, newest_freed}
+use Rattle.levels.proofs.Ordering.{in_order_low}
+use native.Mathlib.Omega.{arith}
+use borrow.Author.Rules.{rules}
+use Rattle.levels.proofs.free.Reads as reads
+use Rattle.levels.proofs.free.Lts as lts
+use Rattle.inner_back.proofs.cut.Reads as cut-reads
+use Rattle.inner_back.proofs.drop_newest.Reads as drop-newest-reads
+use Rattle.inner_back.proofs.free_above.Reads as free-above-reads
+use Rattle.levels.proofs.free.Goals as goal
+
+pub cut-left-requires : goal.cut-left-requires
+cut-left-requires c = record {
+  m_in_bounds = omega (arith, few c.requires.freeable, c.requires.freeable.levels_room);
+  k_bound = c.requires.freeable.marks_in;
+}
+
+pub drop_newest-requires : goal.drop_newest-requires
+drop_newest-requires c = let order = c.requires.in_order c.if-in_order.true in
+    (c.cut-left.ensures.within, droppable c.requires.freeable order.all_held order.no_other c.requires.lent_chains)
+
+pub returns-then-in_order : goal.returns-then-in_order
+returns-then-in_order c = let order = c.requires.in_order c.if-in_order.true in
+    newest_freed (few c.requires.freeable) order.all_held order.no_other c.cut-left.ensures (in_order_low order c.cut-left.ensures) c.drop_newest.ensures.freed_from c.drop_newest.ensures.lent_chains_2

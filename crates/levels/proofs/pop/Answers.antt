@@ -1,0 +1,62 @@
+-- `levels::pop` meets its contract: no mark dropped leaves all as it is; else the places above the marks left are freed, and the rest has the days of the oldest mark dropped.
+use Prim.Native.Nat.{◌-◌, ◌<◌}
+use borrow.Author.Tests.{ltb-false}
+use Rattle.meaning.specs.Bounds.{RULES}
+use Rattle.meaning.proofs.Places.{taken_at_most}
+use Rattle.lent.specs.Idle.{unwatched}
+use Rattle.chains.proofs.Laws.{lent_own}
+use Rattle.inner_back.proofs.Dropping.{freeable, plannable_left, earliest_left, planned_left}
+use Rattle.levels.proofs.Laws.{popped_none}
+use Rattle.levels.proofs.Popping.{kept_left, popped_by}
+use native.Mathlib.Omega.{arith}
+use borrow.Author.Rules.{rules}
+use Rattle.levels.proofs.pop.Reads as reads
+use Rattle.levels.proofs.pop.Lts as lts
+use Rattle.levels.proofs.days_at.Reads as days-at-reads
+use Rattle.levels.proofs.free.Reads as free-reads
+use Rattle.meaning.proofs.last_now.Reads as last-now-reads
+use Rattle.meaning.proofs.marks_now.Reads as marks-now-reads
+use Rattle.meaning.proofs.rules_now.Reads as rules-now-reads
+use Rattle.levels.proofs.pop.Goals as goal
+
+pub returns-then-n-eq0 : goal.returns-then-n-eq0
+returns-then-n-eq0 c = record {
+  popped = popped_none _ c.if-n-eq0.true c.requires.border.sound;
+  lent_chains_2 = c.requires.lent_chains;
+}
+
+pub free-left-requires : goal.free-left-requires
+free-left-requires c = record {
+  freeable = freeable c.requires.border _ (omega arith);
+  lent_chains = c.requires.lent_chains;
+  in_order = c.requires.in_order;
+}
+
+pub days_at-last-requires : goal.days_at-last-requires
+days_at-last-requires c = let free = c.free-left in
+    let t = unwatched c.args.counts c.args.xs.now c.args.ys.now c.args.cs.now c.args.days.now c.args.levels.now in
+    let k-in : c.args.counts.marks - c.args.n < c.args.counts.marks = omega (arith, c.if-n-eq0.left, c.requires.n_le_marks) in
+    let chains = free.ensures.lent_chains_2 in record {
+      plannable = plannable_left c.requires.border _ free.ensures.levels_after chains;
+      earliest = λ all. earliest_left c.requires.border _ free.ensures.levels_after chains (omega (arith, ltb-false free.result c.args.counts.rules all, free.ensures.value));
+      lent_chains = lent_own _ _ _ _ _ chains;
+      last_value = c.requires.border.sound.last_largest;
+      k_bound = omega (arith, k-in, c.requires.border.sound.counts_in.marks_in);
+      kept_for = kept_left t _ free.ensures.levels_after chains (c.requires.kept_days.kept_earliest _ k-in);
+    }
+
+pub overflow_cast-left : goal.overflow_cast-left
+overflow_cast-left c = let free = c.free-left in
+    omega (arith, free.ensures.1.0, taken_at_most RULES free.last.1.1.1.1.0)
+
+pub overflow_cast-k-2 : goal.overflow_cast-k-2
+overflow_cast-k-2 c = let start = start-before-free-arg3 (free-before-days-at-arg3 c).before in
+    omega (arith, start.pre.0.sound.counts_in.marks_in)
+
+pub returns : goal.returns
+returns c = let days-at = c.days_at-last in
+    let free = c.free-left in
+    let t = unwatched c.args.counts c.args.xs.now c.args.ys.now c.args.cs.now c.args.days.now c.args.levels.now in
+    let chains = free.ensures.lent_chains_2 in
+    rw (c.last_now.ensures, c.marks_now.ensures, c.rules_now.ensures)
+    (popped_by c.args.n t free.ensures.levels_after free.ensures.value days-at.ensures.value (planned_left c.requires.border _ free.ensures.levels_after chains days-at.ensures.planned), chains)

@@ -1,0 +1,232 @@
+-- `script_command::carry` meets its contract: where reading stopped or something stands against the command nothing changed but the rows, and else it was performed.
+use mathlib.Core.Path.{◌≡◌, refl, sym, ◌∙◌, ap, subst}
+use Rattle.meaning.specs.Bounds.{DONE}
+use Rattle.meaning.specs.Promise.{First}
+use Rattle.lent.specs.Lent.{columns}
+use Rattle.reading.specs.Reading.{reading}
+use Rattle.reading.specs.Heard.{place_of}
+use Rattle.script_meaning.specs.Commands.{command_needs}
+use Rattle.script_meaning.proofs.Keeping.{Fine, shelved_of}
+use Rattle.script_command.specs.Carrying.{in_hand}
+use Rattle.script_command.proofs.Granting.{Roomy, ready_of, heeded_of}
+use Rattle.script_command.proofs.Closing.{unread_carries, unread_maintained, command_read, refused_carries, refused_maintained, performed_carries}
+use native.Mathlib.Omega.{arith}
+use borrow.Author.Rules.{rules}
+use Rattle.script_command.proofs.carry.Goals as goal
+
+pub read_command-h-requires : goal.read_command-h-requires
+read_command-h-requires c = let args = c.args in
+    let pre = c.requires in
+    let before = in_hand args.counts args.xs.now args.ys.now args.cs.now args.days.now args.levels.now args.notes args.names.now args.lens.now args.out.now in
+    let m = pre.1.1.1.1.0 in
+    let fine : Fine before = record { room = m.room; sound = m.sound } in record {
+      tab_value = pre.0;
+      shelved = shelved_of fine;
+      indexed = m.indexed;
+      all_different = m.sound.names_different;
+      none_reserved = λ k h. (m.sound.names_in_form k h).not_reserved;
+      in_bounds = omega (arith, pre.1.0);
+      xs_in_bounds = pre.1.1.0;
+      xs_in_bounds_2 = pre.1.1.1.0;
+    }
+
+pub unread-requires : goal.unread-requires
+unread-requires c = let start = start-before-read-command-arg8 (read-command-before-struct-known2 c).before in record {
+  tab_value = start.pre.0;
+  to_in_bounds = start.pre.1.1.1.1.1.0;
+}
+
+pub shape_of-row_xs-then-h-ne-GOT : goal.shape_of-row_xs-then-h-ne-GOT
+shape_of-row_xs-then-h-ne-GOT c = let read-command = c.read_command-h in
+    read-command.kept.1.1.1.1.1.1.1.1.0
+
+pub shape_of-row_ys-then-h-ne-GOT : goal.shape_of-row_ys-then-h-ne-GOT
+shape_of-row_ys-then-h-ne-GOT c = let read-command = c.read_command-h in
+    read-command.kept.1.1.1.1.1.1.1.1.1.0
+
+pub shape_of-row_cs-then-h-ne-GOT : goal.shape_of-row_cs-then-h-ne-GOT
+shape_of-row_cs-then-h-ne-GOT c = let read-command = c.read_command-h in
+    read-command.kept.1.1.1.1.1.1.1.1.1.1.0
+
+pub shape_of-out-then-h-ne-GOT : goal.shape_of-out-then-h-ne-GOT
+shape_of-out-then-h-ne-GOT c = c.unread.auto.out
+
+pub returns-then-h-ne-GOT : goal.returns-then-h-ne-GOT
+returns-then-h-ne-GOT c = let unread = c.unread in
+    let args = c.args in
+    let pre = c.requires in
+    let before = in_hand args.counts args.xs.now args.ys.now args.cs.now args.days.now args.levels.now args.notes args.names.now args.lens.now args.out.now in
+    let m = pre.1.1.1.1.0 in
+    let fine : Fine before = record { room = m.room; sound = m.sound } in
+    let told = unread.ensures c.if-h-ne-GOT.true c.read_command-h.ensures.why_is in
+    let wrote = unread.new.out in record {
+      carries = unread_carries args.s.now args.to before unread.result wrote told;
+      maintained_2 = unread_maintained args.s.now args.to before unread.result wrote told args.e args.heads.now args.nexts.now args.kept.now args.hashes.now args.name-heads.now args.name-nexts.now m;
+    }
+
+pub judge-number-requires : goal.judge-number-requires
+judge-number-requires c = let start = start-before-read-command-arg8 (read-command-before-struct-known2 c).before in
+    let m = start.pre.1.1.1.1.0 in record {
+      rules_bound = m.sound.tables_sound.counts_in.rules_in;
+      marks_bound = m.sound.tables_sound.counts_in.marks_in;
+    }
+
+pub shape_of-row_xs-then-number-gt0 : goal.shape_of-row_xs-then-number-gt0
+shape_of-row_xs-then-number-gt0 c = let read-command = c.read_command-h in
+    read-command.kept.1.1.1.1.1.1.1.1.0
+
+pub shape_of-row_ys-then-number-gt0 : goal.shape_of-row_ys-then-number-gt0
+shape_of-row_ys-then-number-gt0 c = let read-command = c.read_command-h in
+    read-command.kept.1.1.1.1.1.1.1.1.1.0
+
+pub shape_of-row_cs-then-number-gt0 : goal.shape_of-row_cs-then-number-gt0
+shape_of-row_cs-then-number-gt0 c = let read-command = c.read_command-h in
+    read-command.kept.1.1.1.1.1.1.1.1.1.1.0
+
+pub returns-then-number-gt0 : goal.returns-then-number-gt0
+returns-then-number-gt0 c = let judge = c.judge-number in
+    let args = c.args in
+    let pre = c.requires in
+    let before = in_hand args.counts args.xs.now args.ys.now args.cs.now args.days.now args.levels.now args.notes args.names.now args.lens.now args.out.now in
+    let m = pre.1.1.1.1.0 in
+    let fine : Fine before = record { room = m.room; sound = m.sound } in
+    let heard = c.read_command-h.ensures in
+    let found = command_read (reading args.s.now) (sym heard.why_is ∙ c.if-h-ne-GOT.false) in
+    let d = found.0 in
+    let i = found.1.0 in
+    let is = found.1.1 in
+    let tells = heard.tells d i is in
+    let judged = judge.ensures d before tells.kind_is refl refl tells.fault_first in
+    let refused = c.refused.ensures in record {
+      carries = refused_carries args.s.now args.to before d i is c.refused.result judge.result (λ done. omega (arith, done, c.if-number-gt0.true)) judged refused;
+      maintained_2 = refused_maintained args.s.now args.to before d i is c.refused.result refused.1.0 refused.1.1.0 args.e args.heads.now args.nexts.now args.kept.now args.hashes.now args.name-heads.now args.name-nexts.now m;
+    }
+
+pub perform-requires : goal.perform-requires
+perform-requires c = let judge = c.judge-number in
+    let args = c.args in
+    let pre = c.requires in
+    let before = in_hand args.counts args.xs.now args.ys.now args.cs.now args.days.now args.levels.now args.notes args.names.now args.lens.now args.out.now in
+    let m = pre.1.1.1.1.0 in
+    let fine : Fine before = record { room = m.room; sound = m.sound } in
+    let heard = c.read_command-h.ensures in
+    let found = command_read (reading args.s.now) (sym heard.why_is ∙ c.if-h-ne-GOT.left) in
+    let d = found.0 in
+    let i = found.1.0 in
+    let is = found.1.1 in
+    let tells = heard.tells d i is in
+    let judged = judge.ensures d before tells.kind_is refl refl tells.fault_first in
+    let last = c.read_command-h.last.1.1.1.1.1.1.1.1 in
+    let rows = columns last.0 last.1.0 last.1.1.0 in
+    let room : Roomy rows = record {
+      firsts_room = omega (arith, pre.1.0, c.read_command-h.kept.1.1.1.1.1.1.1.1.0);
+      seconds_room = omega (arith, pre.1.0, pre.1.1.0, c.read_command-h.kept.1.1.1.1.1.1.1.1.1.0);
+      amounts_room = omega (arith, pre.1.0, pre.1.1.1.0, c.read_command-h.kept.1.1.1.1.1.1.1.1.1.1.0);
+    } in
+    let none : judge.result ≡ DONE = omega (arith, c.if-number-gt0.left) in
+    let met = subst (First (command_needs d before)) none judged in record {
+      ready = ready_of before fine args.e pre.1.1.1.1.1.1 args.s.now rows room d i is c.read_command-h.result.kind c.read_command-h.result.fault tells met;
+      maintained = m;
+      to_in_bounds = pre.1.1.1.1.1.0;
+      names_le_e = pre.1.1.1.1.1.1;
+    }
+
+pub shape_of-row_xs : goal.shape_of-row_xs
+shape_of-row_xs c = let read-command = c.read_command-h in
+    read-command.kept.1.1.1.1.1.1.1.1.0
+
+pub shape_of-row_ys : goal.shape_of-row_ys
+shape_of-row_ys c = let read-command = c.read_command-h in
+    read-command.kept.1.1.1.1.1.1.1.1.1.0
+
+pub shape_of-row_cs : goal.shape_of-row_cs
+shape_of-row_cs c = let read-command = c.read_command-h in
+    read-command.kept.1.1.1.1.1.1.1.1.1.1.0
+
+pub shape_of-xs : goal.shape_of-xs
+shape_of-xs c = let perform = c.perform in
+    perform.kept.1.1.1.1.1.1.1.1.0
+
+pub shape_of-ys : goal.shape_of-ys
+shape_of-ys c = let perform = c.perform in
+    perform.kept.1.1.1.1.1.1.1.1.1.0
+
+pub shape_of-cs : goal.shape_of-cs
+shape_of-cs c = let perform = c.perform in
+    perform.kept.1.1.1.1.1.1.1.1.1.1.0
+
+pub shape_of-days : goal.shape_of-days
+shape_of-days c = let perform = c.perform in
+    perform.kept.1.1.1.1.1.1.1.1.1.1.1.0
+
+pub shape_of-levels : goal.shape_of-levels
+shape_of-levels c = let perform = c.perform in
+    perform.kept.1.1.1.1.1.1.1.1.1.1.1.1.0
+
+pub shape_of-heads : goal.shape_of-heads
+shape_of-heads c = let perform = c.perform in
+    perform.kept.1.1.1.1.1.1.1.1.1.1.1.1.1.0
+
+pub shape_of-nexts : goal.shape_of-nexts
+shape_of-nexts c = let perform = c.perform in
+    perform.kept.1.1.1.1.1.1.1.1.1.1.1.1.1.1.0
+
+pub shape_of-kept : goal.shape_of-kept
+shape_of-kept c = let perform = c.perform in
+    perform.kept.1.1.1.1.1.1.1.1.1.1.1.1.1.1.1.0
+
+pub shape_of-names : goal.shape_of-names
+shape_of-names c = let perform = c.perform in
+    perform.kept.1.1.1.1.1.1.1.1.1.1.1.1.1.1.1.1.0
+
+pub shape_of-lens : goal.shape_of-lens
+shape_of-lens c = let perform = c.perform in
+    perform.kept.1.1.1.1.1.1.1.1.1.1.1.1.1.1.1.1.1.0
+
+pub shape_of-hashes : goal.shape_of-hashes
+shape_of-hashes c = let perform = c.perform in
+    perform.kept.1.1.1.1.1.1.1.1.1.1.1.1.1.1.1.1.1.1.0
+
+pub shape_of-name_heads : goal.shape_of-name_heads
+shape_of-name_heads c = let perform = c.perform in
+    perform.kept.1.1.1.1.1.1.1.1.1.1.1.1.1.1.1.1.1.1.1.0
+
+pub shape_of-name_nexts : goal.shape_of-name_nexts
+shape_of-name_nexts c = let perform = c.perform in
+    perform.kept.1.1.1.1.1.1.1.1.1.1.1.1.1.1.1.1.1.1.1.1.0
+
+pub shape_of-out : goal.shape_of-out
+shape_of-out c = let perform = c.perform in
+    perform.kept.1.1.1.1.1.1.1.1.1.1.1.1.1.1.1.1.1.1.1.1.1.0
+
+pub returns : goal.returns
+returns c = let judge = c.judge-number in
+    let if1 = c.if-h-ne-GOT in
+    let args = c.args in
+    let pre = c.requires in
+    let before = in_hand args.counts args.xs.now args.ys.now args.cs.now args.days.now args.levels.now args.notes args.names.now args.lens.now args.out.now in
+    let m = pre.1.1.1.1.0 in
+    let fine : Fine before = record { room = m.room; sound = m.sound } in
+    let heard = c.read_command-h.ensures in
+    let found = command_read (reading args.s.now) (sym heard.why_is ∙ if1.left) in
+    let d = found.0 in
+    let i = found.1.0 in
+    let is = found.1.1 in
+    let tells = heard.tells d i is in
+    let judged = judge.ensures d before tells.kind_is refl refl tells.fault_first in
+    let last = c.read_command-h.last.1.1.1.1.1.1.1.1 in
+    let rows = columns last.0 last.1.0 last.1.1.0 in
+    let room : Roomy rows = record {
+      firsts_room = omega (arith, pre.1.0, c.read_command-h.kept.1.1.1.1.1.1.1.1.0);
+      seconds_room = omega (arith, pre.1.0, pre.1.1.0, c.read_command-h.kept.1.1.1.1.1.1.1.1.1.0);
+      amounts_room = omega (arith, pre.1.0, pre.1.1.1.0, c.read_command-h.kept.1.1.1.1.1.1.1.1.1.1.0);
+    } in
+    let none : judge.result ≡ DONE = omega (arith, c.if-number-gt0.left) in
+    let met = subst (First (command_needs d before)) none judged in
+    let performed = c.perform.ensures in
+    let heeded = heeded_of before fine args.e pre.1.1.1.1.1.1 args.s.now rows room d i is c.read_command-h.result.kind c.read_command-h.result.fault tells met in
+    let done = performed.1 d i heeded met in
+    let past = heard.place_is ∙ ap place_of is in record {
+      carries = performed_carries args.s.now args.to before d i is c.perform.result c.read_command-h.result.kind c.read_command-h.result.at _ tells.kind_is past met performed.0 done.0;
+      maintained_2 = done.1;
+    }

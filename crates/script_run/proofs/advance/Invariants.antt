@@ -1,0 +1,37 @@
+-- `script_run::advance` meets its contract: a part is under way at each command. The measure is what is left of the text.
+use Prim.Native.Nat.{◌-◌}
+use mathlib.Core.Path.{◌≡◌, refl, ◌∙◌}
+use lib.ListN.{length}
+use borrow.Author.Tests.{not-true, not-false}
+use Rattle.script_command.specs.Carrying.{in_hand, Maintained}
+use Rattle.script_run.proofs.Reaching.{Underway, underway_first, underway_on, underway_ends}
+use borrow.Author.Rules.{rules}
+use native.Mathlib.Omega.{arith}
+use Rattle.script_run.proofs.advance.Reads as reads
+use Rattle.script_run.proofs.advance.Lts as lts
+use Rattle.script_run.proofs.one.Reads as one-reads
+use Rattle.script_run.proofs.advance.Given as goal
+
+abbrev pub invariant-loop-now_held : goal.invariant-loop-now_held
+invariant-loop-now_held l = ((length l.row_xs ≡ length l.initial.row_xs)
+    × ((length l.row_ys ≡ length l.initial.row_ys)
+    × ((length l.row_cs ≡ length l.initial.row_cs)
+    × ((length l.xs ≡ length l.initial.xs)
+    × ((length l.ys ≡ length l.initial.ys)
+    × ((length l.cs ≡ length l.initial.cs)
+    × ((length l.days ≡ length l.initial.days)
+    × ((length l.levels ≡ length l.initial.levels)
+    × ((length l.heads ≡ length l.initial.heads)
+    × ((length l.nexts ≡ length l.initial.nexts)
+    × ((length l.kept ≡ length l.initial.kept)
+    × ((length l.names ≡ length l.initial.names)
+    × ((length l.lens ≡ length l.initial.lens)
+    × ((length l.hashes ≡ length l.initial.hashes)
+    × ((length l.name_heads ≡ length l.initial.name_heads)
+    × ((length l.name_nexts ≡ length l.initial.name_nexts)
+    × (length l.out ≡ length l.initial.out)))))))))))))))))
+    × (Underway l.s l.start (in_hand l.initial.held l.initial.xs l.initial.ys l.initial.cs l.initial.days l.initial.levels l.initial.noted l.initial.names l.initial.lens l.initial.out) l.at l.to (in_hand l.held l.xs l.ys l.cs l.days l.levels l.noted l.names l.lens l.out)
+    × Maintained l.noted.names (in_hand l.held l.xs l.ys l.cs l.days l.levels l.noted l.names l.lens l.out) l.heads l.nexts l.kept l.hashes l.name_heads l.name_nexts)
+
+abbrev pub decreases-loop-now_held : goal.decreases-loop-now_held
+decreases-loop-now_held l = length l.s - l.at

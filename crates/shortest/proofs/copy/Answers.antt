@@ -1,0 +1,25 @@
+-- `shortest::copy` meets its contract. The loop's invariant: the cells passed are copied, so what is read is still what was there. The measure is what is left of the steps.
+use Prim.Native.Nat.{◌≤◌, ◌-◌}
+use mathlib.Core.Path.{◌≡◌, refl}
+use lib.ListN.{length, length-set}
+use Rattle.shortest.specs.Clauses.{Copied}
+use Rattle.shortest.proofs.Cells.{copied_none, copied_more}
+use borrow.Author.Rules.{rules}
+use native.Mathlib.Omega.{arith}
+use Rattle.shortest.proofs.copy.Goals as goal
+
+pub loop-v-init : goal.loop-v-init
+loop-v-init c = (refl, omega arith, copied_none _ _ _)
+
+pub loop-v-preserved : goal.loop-v-preserved
+loop-v-preserved c = let loop = c.loop-v in
+    let a = c.args in (
+      simp length-set loop.invariant.0,
+      omega arith,
+      copied_more a.n loop.v a.a a.b a.cells.now loop.cells (omega arith) c.requires.apart (omega arith) loop.invariant.2,
+    )
+
+pub returns : goal.returns
+returns c = let loop = c.loop-v in
+    let all : loop.v ≡ c.args.n = omega (arith, loop.invariant.1, c.loop-v-test.false) in
+    rw all at loop.invariant.2

@@ -1,0 +1,12 @@
+-- `shortest::copy` meets its contract. The loop's invariant: the cells passed are copied, so what is read is still what was there. The measure is what is left of the steps.
+use Prim.Native.Nat.{◌≤◌, ◌-◌}
+use mathlib.Core.Path.{◌≡◌, refl}
+use lib.ListN.{length, length-set}
+use Rattle.shortest.specs.Clauses.{Copied}
+use Rattle.shortest.proofs.Cells.{copied_none, copied_more}
+use borrow.Author.Rules.{rules}
+use native.Mathlib.Omega.{arith}
+use Rattle.shortest.proofs.copy.Given as goal
+
+abbrev pub invariant-loop-v : goal.invariant-loop-v
+invariant-loop-v l = (length l.cells ≡ length l.initial.cells) × (l.v ≤ l.n) × Copied l.v l.a l.b l.initial.cells l.cells

@@ -1,0 +1,54 @@
+-- `spread::hops` meets its contract. The loop's invariant: the walk back from x has come to v in k hops. The measure is how many steps there are
+-- besides those passed.
+use Rattle.chains.specs.Chains.{linked}
+use Prim.Native.Nat.{◌-◌}
+use Rattle.spread.proofs.Ringing.{Hop, hop, WalkedBack, back_none, back_more, back_few, back_done}
+use native.Mathlib.Omega.{arith}
+use Rattle.spread.proofs.hops.Goals as goal
+
+pub loop-v-init : goal.loop-v-init
+loop-v-init c = let a = c.args in
+    back_none a.n (linked a.nexts.now) a.m a.xs.now a.ys.now a.cs.now a.days.now a.gains.now a.by.now a.x a.y c.requires
+
+pub number_at-requires : goal.number_at-requires
+number_at-requires c = omega (arith, c.loop-v.invariant.step_in, c.requires.by_room)
+
+pub overflow_sub-number_at : goal.overflow_sub-number_at
+overflow_sub-number_at c =
+    let here : let a = c.args in
+    Hop a.n (linked a.nexts.now) a.m a.xs.now a.ys.now a.cs.now a.days.now a.gains.now a.by.now a.x a.y c.requires c.loop-v.v = let a = c.args in
+    hop a.n (linked a.nexts.now) a.m a.xs.now a.ys.now a.cs.now a.days.now a.gains.now a.by.now a.x a.y c.requires c.loop-v.v c.loop-v.invariant.step_in c.loop-v.invariant.has
+    c.loop-v-test.true in
+    omega (arith, c.number_at.ensures, (here).named)
+
+pub number_at-v-requires : goal.number_at-v-requires
+number_at-v-requires c =
+    let here : let a = c.args in
+    Hop a.n (linked a.nexts.now) a.m a.xs.now a.ys.now a.cs.now a.days.now a.gains.now a.by.now a.x a.y c.requires c.loop-v.v = let a = c.args in
+    hop a.n (linked a.nexts.now) a.m a.xs.now a.ys.now a.cs.now a.days.now a.gains.now a.by.now a.x a.y c.requires c.loop-v.v c.loop-v.invariant.step_in c.loop-v.invariant.has
+    c.loop-v-test.true in
+    omega (arith, c.number_at.ensures, c.requires.first_place _ (here).came.held)
+
+pub overflow_add-k : goal.overflow_add-k
+overflow_add-k c = let a = c.args in
+    omega (
+      arith,
+      back_few a.n (linked a.nexts.now) a.m a.xs.now a.ys.now a.cs.now a.days.now a.gains.now a.by.now a.x a.y c.requires c.loop-v.v c.loop-v.k c.loop-v.invariant,
+      c.fits.n,
+    )
+
+pub loop-v-smaller : goal.loop-v-smaller
+loop-v-smaller c = let a = c.args in
+    omega (
+      arith,
+      back_few a.n (linked a.nexts.now) a.m a.xs.now a.ys.now a.cs.now a.days.now a.gains.now a.by.now a.x a.y c.requires c.loop-v.v c.loop-v.k c.loop-v.invariant,
+    )
+
+pub loop-v-preserved : goal.loop-v-preserved
+loop-v-preserved c = let a = c.args in
+    rw (c.number_at-v.ensures, c.number_at.ensures)
+    (back_more a.n (linked a.nexts.now) a.m a.xs.now a.ys.now a.cs.now a.days.now a.gains.now a.by.now a.x a.y c.requires c.loop-v.v c.loop-v.k c.loop-v.invariant c.loop-v-test.true)
+
+pub returns : goal.returns
+returns c = let a = c.args in
+    back_done a.n (linked a.nexts.now) a.m a.xs.now a.ys.now a.cs.now a.days.now a.gains.now a.by.now a.x a.y c.requires c.loop-v.v c.loop-v.k c.loop-v.invariant c.loop-v-test.false

@@ -1,0 +1,84 @@
+-- `spread::spread_in` meets its contract: one step is given its gain, and then all turns made.
+use Rattle.chains.specs.Chains.{linked}
+use Prim.Native.Nat.{ℕ, ◌+◌, ◌^◌, ◌<◌}
+use native.Mathlib.Decide.{ℕ_discrete}
+use mathlib.Core.Path.{◌≡◌, ◌∙◌, ap}
+use Rattle.meaning.specs.Tables.{at}
+use Rattle.waiting.specs.Waiting.{Put}
+use Rattle.spread.specs.Clauses.{alone}
+use Rattle.spread.specs.Ground.{rules}
+use Rattle.spread.proofs.Collecting.{alone_is}
+use Rattle.spread.proofs.Ends.{no_turn_yet, collected_ready, from_before}
+use native.Mathlib.Omega.{arith}
+use borrow.Author.Rules.{rules}
+use Rattle.spread.proofs.spread_in.Goals as goal
+
+-- The one gain is small, and so is none.
+small : (n y gain : ℕ) (g g' : ℕ → ℕ) → gain < 2 ^ 62 → ((v : ℕ) → v < n → g v ≡ 0) → Put y gain g g' → (v : ℕ) → v < n → g' v < 2 ^ 62
+small n y gain g g' fits none put v v-in = tell (ℕ_discrete v y)
+  where
+    tell : Dec (v ≡ y) → g' v < 2 ^ 62
+    tell (yes e) = omega (arith, ap g' e, put.there)
+    tell (no e) = omega (arith, put.others v e, none v v-in)
+
+pub begin-k-requires : goal.begin-k-requires
+begin-k-requires c = record {
+  askable_alone = c.requires.askable_alone;
+  room = c.requires.room;
+}
+
+pub settle_all-requires : goal.settle_all-requires
+settle_all-requires c = let a = c.args in
+    let asked = c.requires.askable_alone in
+    let room = c.requires.room in
+    let begin = c.begin-k in
+    let begun = begin.ensures.begun in record {
+      ground = c.requires.ground;
+      steps_room = record {
+        room = record {
+          few = room.few;
+          gains_room = omega (arith, begin.kept.1.1.1.0, room.gains_room);
+          list_room = omega (arith, begin.kept.1.1.1.1.1.0, room.list_room);
+          places_room = omega (arith, begin.kept.1.1.1.1.1.1.0, room.places_room);
+          leaders_room = omega (arith, begin.kept.1.1.1.1.1.1.1.0, room.leaders_room);
+        };
+        by_room = omega (arith, begin.kept.1.1.1.1.0, asked.by_room);
+      };
+      ready = collected_ready a.n (at begin.last.1.1.1.0) (at begin.last.1.1.1.1.0) (at begin.last.1.1.1.1.1.0) begin.result
+          (small a.n a.y a.gain (at a.gains.now) (at begin.last.1.1.1.0) asked.small asked.none_yet begun.asked) begun.collected;
+      led = begin.ensures.led;
+    }
+
+pub shape_of-gains : goal.shape_of-gains
+shape_of-gains c = let begin = c.begin-k in
+    c.settle_all.kept.1.1.1.1.1.1.1.1.0 ∙ begin.kept.1.1.1.0
+
+pub shape_of-by : goal.shape_of-by
+shape_of-by c = let begin = c.begin-k in
+    c.settle_all.kept.1.1.1.1.1.1.1.1.1.0 ∙ begin.kept.1.1.1.1.0
+
+pub shape_of-list : goal.shape_of-list
+shape_of-list c = let begin = c.begin-k in
+    c.settle_all.kept.1.1.1.1.1.1.1.1.1.1.0 ∙ begin.kept.1.1.1.1.1.0
+
+pub shape_of-places : goal.shape_of-places
+shape_of-places c = let begin = c.begin-k in
+    c.settle_all.kept.1.1.1.1.1.1.1.1.1.1.1.0 ∙ begin.kept.1.1.1.1.1.1.0
+
+pub shape_of-leaders : goal.shape_of-leaders
+shape_of-leaders c = let begin = c.begin-k in
+    c.settle_all.kept.1.1.1.1.1.1.1.1.1.1.1.1.0 ∙ begin.kept.1.1.1.1.1.1.1.0
+
+pub returns : goal.returns
+returns c = let a = c.args in
+    let asked = c.requires.askable_alone in
+    let begin = c.begin-k in
+    let begun = begin.ensures.begun in
+    let low : ℕ → ℕ = λ v. at a.days.now v + alone a.y a.gain v in
+    from_before a.n (linked a.nexts.now) a.xs.now a.ys.now a.cs.now a.days.now a.goal low a.gains.now begin.last.1.1.1.0 _ _ a.y a.gain asked.step_in
+    begun.asked
+    (c.settle_all.ensures low
+    (no_turn_yet a.n (rules a.xs.now a.ys.now a.cs.now) (linked a.nexts.now) (at a.days.now) low (at begin.last.1.1.1.0)
+    (at begin.last.1.1.1.1.0) (at begin.last.1.1.1.1.1.0) begin.result
+    (λ v v-in. omega (arith, alone_is a.n a.y a.gain (at a.gains.now) (at begin.last.1.1.1.0) asked.none_yet begun.asked v v-in))
+    begun.collected))

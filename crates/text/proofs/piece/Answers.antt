@@ -1,0 +1,61 @@
+-- `text::piece` meets its contract. The loop's invariant: the piece read so far, with what follows, is the whole piece from its first place on, in kind and in extent. The measure is
+-- what is left of the text.
+use mathlib.Core.Path.{◌≡◌, refl}
+use mathlib.Core.Logic.{⊎_elim}
+use Prim.Native.Nat.{◌+◌, ◌-◌, ◌<◌}
+use lib.ListN.{length, drop, get_or}
+use Rattle.text.specs.Lexicon.{whole, extent}
+use Rattle.text.proofs.Classes.{class_small}
+use Rattle.text.proofs.Runs.{piece_end, piece_stop, piece_on, piece_more, piece_made}
+use borrow.Author.Rules.{rules}
+use native.Mathlib.Omega.{arith}
+use Rattle.text.proofs.piece.Goals as goal
+use Rattle.text.proofs.piece.Goals.{else-i-test, then-i-test}
+
+pub grow-p-requires : goal.grow-p-requires
+grow-p-requires c = record {
+  tab_value = c.requires.tab_value;
+  p_bound = omega arith;
+  k_bound = omega (arith, c.requires.first_value, class_small (get_or c.args.s.now c.args.f 0));
+}
+
+pub loop-i-init : goal.loop-i-init
+loop-i-init c = let s = c.args.s.now in
+    let f = c.args.f in
+    let starts = c.requires.f_in_bounds in
+    let is = c.requires.first_value in
+    let goes_on = c.requires.lt_first in
+    (c.grow-p.ensures.1, piece_more s f 0 c.args.first c.grow-p.result _ starts is goes_on c.grow-p.ensures.0 refl, omega (arith, (piece_on s f 0 starts (omega (arith, is, goes_on))).1))
+
+pub class_of-k-requires : goal.class_of-k-requires
+class_of-k-requires c = c.requires.tab_value
+
+pub grow-p-requires-in-loop-i : goal.grow-p-requires-in-loop-i
+grow-p-requires-in-loop-i c = record {
+  tab_value = c.requires.tab_value;
+  p_bound = c.loop-i.invariant.0;
+  k_bound = omega (arith, c.class_of-k.ensures, class_small (get_or c.args.s.now c.loop-i.i 0));
+}
+
+pub loop-i-preserved : goal.loop-i-preserved
+loop-i-preserved c = let s = c.args.s.now in
+    let i = c.loop-i.i in
+    let p = c.loop-i.p in
+    let inside = c.loop-i-test.true in (
+      c.grow-p-in-loop-i.ensures.1,
+      piece_more s i p c.class_of-k.result c.grow-p-in-loop-i.result _ inside c.class_of-k.ensures c.if-k-le4.false c.grow-p-in-loop-i.ensures.0 c.loop-i.invariant.1,
+      omega (arith, c.loop-i.invariant.2, (piece_on s i p inside (omega (arith, c.class_of-k.ensures, c.if-k-le4.false))).1),
+    )
+
+pub kind_of-requires : goal.kind_of-requires
+kind_of-requires c = record {
+  tab_value = c.requires.tab_value;
+  p_bound = c.loop-i.invariant.0;
+}
+
+pub returns : goal.returns
+returns c = let s = c.args.s.now in
+    let i = c.loop-i.i in
+    let p = c.loop-i.p in
+    piece_made s i p c.args.f c.kind_of.result c.kind_of.ensures c.loop-i.invariant.1 c.loop-i.invariant.2
+    (elim c.loop-i-test.branch [ then-i-test w ↦ piece_end s i p w.loop-i-test.false | else-i-test w ↦ piece_stop s i p w.0.taken (omega (arith, w.2.ensures, w.3.taken)) ])

@@ -1,0 +1,18 @@
+-- `text::piece` meets its contract. The loop's invariant: the piece read so far, with what follows, is the whole piece from its first place on, in kind and in extent. The measure is
+-- what is left of the text.
+use mathlib.Core.Path.{◌≡◌, refl}
+use mathlib.Core.Logic.{⊎_elim}
+use Prim.Native.Nat.{◌+◌, ◌-◌, ◌<◌}
+use lib.ListN.{length, drop, get_or}
+use Rattle.text.specs.Lexicon.{whole, extent}
+use Rattle.text.proofs.Classes.{class_small}
+use Rattle.text.proofs.Runs.{piece_end, piece_stop, piece_on, piece_more, piece_made}
+use borrow.Author.Rules.{rules}
+use native.Mathlib.Omega.{arith}
+use Rattle.text.proofs.piece.Given as goal
+
+abbrev pub invariant-loop-i : goal.invariant-loop-i
+invariant-loop-i l = (l.p < 16) × (whole l.p (drop l.i l.s) ≡ whole 0 (drop l.f l.s)) × (l.i + extent (drop l.i l.s) ≡ l.f + extent (drop l.f l.s))
+
+abbrev pub decreases-loop-i : goal.decreases-loop-i
+decreases-loop-i l = length l.s - l.i

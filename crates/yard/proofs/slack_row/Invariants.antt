@@ -1,0 +1,16 @@
+-- `yard::slack_row` meets its contract. The loop's invariant: the cells passed are the slacks of the least amounts, where that of the step itself is 0 days. The measure is what is left of the row.
+use Prim.Native.Nat.{ℕ, ◌+◌, ◌-◌, ◌≤◌, ◌<◌}
+use mathlib.Core.Path.{◌≡◌, subst}
+use lib.ListN.{length, set, length-set}
+use Rattle.meaning.specs.Bounds.{YARD_STEPS}
+use Rattle.meaning.specs.Tables.{at}
+use Rattle.lent.specs.Lent.{BIAS}
+use Rattle.yard.specs.Tables.{Made, SlackOf}
+use Rattle.yard.proofs.Making.{made_none, made_more}
+use Rattle.yard.proofs.Lifting.{row_lifts, row_slack}
+use borrow.Author.Rules.{rules}
+use native.Mathlib.Omega.{arith}
+use Rattle.yard.proofs.slack_row.Given as goal
+
+abbrev pub invariant-loop-y : goal.invariant-loop-y
+invariant-loop-y l = (l.y ≤ YARD_STEPS) × Made 0 (λ k z. SlackOf (at l.old k) l.dx (at l.days k) z) l.y l.initial.new l.new

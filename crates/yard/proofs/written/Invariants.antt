@@ -1,0 +1,17 @@
+-- `yard::written` meets its contract. The loop's invariant: the rows passed are those of their slacks, and the others are as before. The measure is what is left of the n rows.
+use Prim.Native.Nat.{ℕ, ◌-◌, ◌≤◌}
+use mathlib.Core.Path.{◌≡◌, ◌∙◌, ap}
+use mathlib.Core.List.{[]}
+use lib.ListN.{get_or}
+use lib.IntN.{pos}
+use Rattle.meaning.specs.Tables.{at}
+use Rattle.yard.specs.Cells.{limit}
+use Rattle.yard.specs.Squares.{way}
+use Rattle.yard.specs.Tables.{Made}
+use Rattle.yard.proofs.Making.{made_none, made_more, made_same}
+use borrow.Author.Rules.{rules}
+use native.Mathlib.Omega.{arith}
+use Rattle.yard.proofs.written.Given as goal
+
+abbrev pub invariant-loop-x : goal.invariant-loop-x
+invariant-loop-x l = (l.x ≤ l.n) × Made [] (λ i row. Made (pos 0) (λ y z. z ≡ limit (way l.square i y) (at l.days i) (at l.days y)) l.n (get_or l.initial.new i []) row) l.x l.initial.new l.new
