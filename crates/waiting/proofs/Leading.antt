@@ -1,12 +1,12 @@
 -- A step joins the leaders of its group: when it enters the list, and when its gain has risen.
-use Prim.Native.Nat.{ℕ, suc, ◌+◌, ◌*◌, ◌/◌, ◌%◌, ◌≤◌, ◌<◌}
+use Prim.Native.Nat.{ℕ, suc, ◌+◌, ◌*◌, ◌/◌, ◌≤◌, ◌<◌}
 use native.Mathlib.Omega.{arith}
 use native.Mathlib.Decide.{ℕ_discrete}
 use native.Mathlib.Numerals.{add-one}
 use mathlib.Core.Path.{◌≡◌, refl, sym, ◌∙◌, ap, subst}
 use mathlib.Core.Logic.{◌⊎◌, inl, inr}
 use mathlib.Core.List.{List}
-use lib.ListN.{length, set}
+use lib.ListN.{length}
 use Rattle.meaning.specs.Tables.{at}
 use Rattle.waiting.specs.Waiting.{Put, InGroup, Grouped, Led, LedBut, Promoted, New, Entered, GROUP}
 use Rattle.waiting.proofs.Places.{put_set, put_here}

@@ -5,7 +5,6 @@ use Rattle.meaning.specs.Tables.{at}
 use Rattle.waiting.proofs.Places.{put_set}
 use Rattle.waiting.proofs.Leading.{joined_first, joined_promoted, entered, leader_in}
 use native.Mathlib.Omega.{arith}
-use borrow.Author.Rules.{rules}
 use Rattle.waiting.proofs.enter.Goals as goal
 
 pub returns-then-k-eq0 : goal.returns-then-k-eq0

@@ -1,12 +1,11 @@
 -- `waiting::largest` meets its contract. The loop's invariant: `best` is a place of largest gain among those passed, and `top` is that gain.
 -- The measure is what is left of the places.
-use Prim.Native.Nat.{ℕ, ◌+◌, ◌-◌, ◌≤◌, ◌<◌}
+use Prim.Native.Nat.{ℕ, ◌+◌, ◌≤◌, ◌<◌}
 use mathlib.Core.Path.{◌≡◌, sym, ◌∙◌, ap, subst}
 use native.Mathlib.Decide.{ℕ_discrete}
-use mathlib.Core.Logic.{◌⊎◌, inl, inr, ⊎_elim}
+use mathlib.Core.Logic.{◌⊎◌, inl, inr}
 use Rattle.meaning.specs.Tables.{at}
 use Rattle.waiting.specs.Waiting.{LargestIn}
-use borrow.Author.Rules.{rules}
 use native.Mathlib.Omega.{arith}
 use Rattle.waiting.proofs.largest.Goals as goal
 use Rattle.waiting.proofs.largest.Goals.{else-top-gain, then-top-gain}

@@ -1,14 +1,11 @@
 -- `waiting::rise` meets its contract: a step that stands in the list leads its group where its gain is larger than the leader's; one that does not is in no group.
 use Prim.Native.Nat.{◌/◌}
 use mathlib.Core.Path.{sym, ◌∙◌, ap}
-use mathlib.Core.Logic.{⊎_elim}
-use borrow.Author.Tests.{eqb-true, eqb-false}
 use Rattle.meaning.specs.Tables.{at}
 use Rattle.waiting.proofs.Leading.{joined_promoted, led_risen, led_absent, not_there, leader_in}
 use native.Mathlib.Omega.{arith}
-use borrow.Author.Rules.{rules}
 use Rattle.waiting.proofs.rise.Goals as goal
-use Rattle.waiting.proofs.rise.Goals.{else-else-j-k, then-else-j-k}
+use Rattle.waiting.proofs.rise.Goals.{else-j-k-via-else-j-k, else-j-k-via-then-j-k+else-number_at-y}
 
 pub lead-requires : goal.lead-requires
 lead-requires c = let a = c.args in
@@ -26,7 +23,7 @@ returns-then-number_at-y c = let if1 = c.if-j-k in
     let a = c.args in
     let j = c.number_at-j.result in
     led_risen a.n (at a.gains.now) (at a.list.now) (at a.places.now) (at a.leaders.now) (at c.lead.new.leaders) a.k j a.y if1.true
-    (sym c.number_at.ensures ∙ eqb-true c.number_at.result a.y c.if-number_at-y.true)
+    (sym c.number_at.ensures ∙ c.if-number_at-y.true)
     (joined_promoted (at a.gains.now) a.leaders.now c.lead.new.leaders a.k (j / 16) a.y
     (omega (arith, if1.true, c.requires.led_but.grouped.within, c.requires.room.leaders_room)) (omega (arith, if1.true)) c.lead.ensures)
     c.requires.led_but
@@ -36,5 +33,5 @@ returns-else-j-k c = let a = c.args in
     led_absent a.y a.n (at a.gains.now) (at a.list.now) (at a.places.now) (at a.leaders.now) a.k
     (not_there a.y a.n (at a.list.now) (at a.places.now) (at a.leaders.now) a.k c.requires.led_but.grouped
     (λ inside there.
-    elim c.else-j-k.branch [ then-else-j-k w ↦ eqb-false w.1.result a.y w.2.left (w.1.ensures ∙ ap (at a.list.now) c.number_at-j.ensures ∙ there) | else-else-j-k w ↦ omega (arith, w.else-j-k.false, c.number_at-j.ensures) ]))
+    elim c.else-j-k.branch [ else-j-k-via-then-j-k+else-number_at-y w ↦ w.if-number_at-y.false (w.number_at.ensures ∙ ap (at a.list.now) c.number_at-j.ensures ∙ there) | else-j-k-via-else-j-k w ↦ omega (arith, w.if-j-k.false, c.number_at-j.ensures) ]))
     c.requires.led_but

@@ -8,7 +8,6 @@ use Rattle.waiting.proofs.Places.{put_set}
 use Rattle.waiting.proofs.Leading.{leader_in}
 use Rattle.waiting.proofs.Leaving.{group_some, leader_place, taken_at, steps_set}
 use native.Mathlib.Omega.{arith}
-use borrow.Author.Rules.{rules}
 use Rattle.waiting.proofs.take.Goals as goal
 
 pub largest-b-requires : goal.largest-b-requires
