@@ -148,7 +148,7 @@ pub fn last_now(counts: Counts, last: u32) -> Counts
 }
 
 // What a call gives back: its number and two values, 0 where it has none, with the counts as they are after the call. On CONFLICT the first value is the ring's length.
-#[derive(Drop)]
+#[derive(Clone, Copy)]
 pub struct Reply {
     pub counts: Counts,
     pub number: u32,
