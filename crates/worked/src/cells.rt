@@ -153,7 +153,7 @@ pub fn same_counts(a: Counts, b: Counts) -> bool {
 }
 
 // What is as it is in another office: the tables, list one and list two.
-#[derive(Drop)]
+#[derive(Clone, Copy)]
 pub struct Same {
     pub tables: bool,
     pub one: bool,

@@ -18,7 +18,7 @@ const YARD: usize = meaning::YARD_STEPS;
 const UNWRITTEN: i64 = 7;
 
 // A reply's number and its two values. The second as it is written, which can be below 0: for Gap it is the limit.
-#[derive(Drop)]
+#[derive(Clone, Copy)]
 pub struct Given {
     pub number: u32,
     pub one: u32,
@@ -27,7 +27,7 @@ pub struct Given {
 }
 
 // The tables and lists, the counts, and the reply of the last call, with its second value as it is written.
-#[derive(Drop)]
+#[derive(Clone, Copy)]
 pub struct Office {
     pub counts: Counts,
     pub last: Reply,

@@ -89,7 +89,7 @@ pub const TELL: u32 = 36;
 pub const MOST: u32 = 5000;
 
 // What is read of a line so far.
-#[derive(Drop)]
+#[derive(Clone, Copy)]
 pub struct Line {
     // What is asked for.
     pub op: u32,
@@ -116,7 +116,7 @@ pub struct Line {
 }
 
 // What a line asks for at one turn.
-#[derive(Drop)]
+#[derive(Clone, Copy)]
 pub struct Ask {
     pub op: u32,
     pub list: u32,
