@@ -10,6 +10,7 @@ ghost use Rattle.program.specs.Handing.{status, Ends, Played, Answered, Runs};
 
 use meaning::Counts;
 use script_meaning::Notes;
+use std::io::{Stderr, Stdin, Stdout};
 
 // The statuses: the script came to its end or to exit; a refusal ended it; a stream failed.
 pub const ENDED: u32 = 0;
@@ -35,15 +36,17 @@ fn status_of(number: u32) -> u32
 }
 
 // Writes the first w bytes to standard output, and gives how many were taken.
-fn show(out: &[u8], w: usize) -> usize
+fn show(output: Stdout, error: Stderr, out: &[u8], w: usize) -> usize
     requires { w ≤ length out.now }
     ensures { result ≤ w }
 {
-    streams::put(&out[0..w])
+    streams::put(output, error, &out[0..w])
 }
 
 // The script part after part, from its start on, on tables and a record that are known to be sound: what a part wrote is written out before the next.
 fn answer(
+    output: Stdout,
+    error: Stderr,
     s: &[u8],
     tab: &[u8; text::PLACES],
     row_xs: &mut [u16],
@@ -82,7 +85,7 @@ fn answer(
             s, tab, at, row_xs, row_ys, row_cs, held, noted, xs, ys, cs, days, levels, heads,
             nexts, kept, names, lens, hashes, name_heads, name_nexts, out,
         );
-        let taken = show(out, part.written);
+        let taken = show(output, error, out, part.written);
         if taken < part.written {
             return FAILED;
         }
@@ -96,7 +99,7 @@ fn answer(
 }
 
 // The script on fresh tables: STEPS steps on day 0, no rule and an empty record.
-fn play(s: &[u8]) -> u32
+fn play(output: Stdout, error: Stderr, s: &[u8]) -> u32
     ensures { Played s.now result }
 {
     let tab = text::TABLE;
@@ -120,6 +123,8 @@ fn play(s: &[u8]) -> u32
     let mut row_ys = [0u16; meaning::RULES];
     let mut row_cs = [0i32; meaning::RULES];
     answer(
+        output,
+        error,
         s,
         &tab,
         &mut row_xs,
@@ -145,23 +150,23 @@ fn play(s: &[u8]) -> u32
 }
 
 // The script on fresh tables, which are made only where it has a byte.
-fn play_any(s: &[u8]) -> u32
+fn play_any(output: Stdout, error: Stderr, s: &[u8]) -> u32
     ensures { Played s.now result }
 {
     if s.len() == 0 {
         return ENDED;
     }
-    play(s)
+    play(output, error, s)
 }
 
 // A script that is too long: its only answer is the refusal.
-fn refuse(s: &[u8]) -> u32
+fn refuse(output: Stdout, error: Stderr, s: &[u8]) -> u32
     requires { TEXT < length s.now }
     ensures { Answered s.now result }
 {
     let mut out = [0u8; meaning::ROOM];
     let ran = script_run::run_script(s, &mut out);
-    let taken = show(&out, ran.written);
+    let taken = show(output, error, &out, ran.written);
     if taken < ran.written {
         return FAILED;
     }
@@ -169,28 +174,27 @@ fn refuse(s: &[u8]) -> u32
 }
 
 // The answers to a text that was read whole.
-fn answer_text(s: &[u8]) -> u32
+fn answer_text(output: Stdout, error: Stderr, s: &[u8]) -> u32
     ensures { Answered s.now result }
 {
     if s.len() <= meaning::TEXT {
-        return play_any(s);
+        return play_any(output, error, s);
     }
-    refuse(s)
+    refuse(output, error, s)
 }
 
 // Reads standard input into the bytes that are lent, plays the script and writes its answers to standard output. Where a read fails, nothing is carried out; where a write
 // fails, nothing more is. What was written is a first part of the answers, and all of them where the status is ENDED or REFUSED. With fewer than READ bytes lent it fails.
-#[unsafe(no_mangle)]
-pub extern "C" fn dates_main(text: &mut [u8]) -> u32
+pub fn dates_main(input: Stdin, output: Stdout, error: Stderr, text: &mut [u8]) -> u32
     ensures { Runs text.new result }
 {
     if text.len() < READ {
         return FAILED;
     }
-    let read = streams::fill(text, 0);
+    let read = streams::fill(input, error, text, 0);
     if read.failed {
         return FAILED;
     }
     let n = read.at;
-    answer_text(&text[0..n])
+    answer_text(output, error, &text[0..n])
 }
