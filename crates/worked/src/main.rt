@@ -16,6 +16,7 @@
 //   rule I | show days I | show levels I the rule in a place, held or free; a day; a cell of the levels
 //   show gaps X | show gaps X Y          a row of the gap table over the steps; one cell
 #![tactic(auto)]
+
 ghost use Rattle.std.specs.Prelude.{◌≤◌, length};
 
 mod calls;
