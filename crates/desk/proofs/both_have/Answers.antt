@@ -10,7 +10,7 @@ use Rattle.desk.proofs.has.Reads as has-reads
 use Rattle.desk.proofs.both_have.Goals as goal
 
 pub returns-then-not-has : goal.returns-then-not-has
-returns-then-not-has c = decides_no refl (λ h. c.has.ensures.not_so (not-true _ c.if-not-has.true) h.0)
+returns-then-not-has c = decides_no refl (λ h. c.has.ensures.not_so c.if-not-has.true h.0)
 
 pub returns : goal.returns
-returns c = decides_same (λ h. (c.has.ensures.so (not-false _ c.if-not-has.false), h)) (λ h. h.1) c.has-2.ensures
+returns c = decides_same (λ h. (c.has.ensures.so c.if-not-has.false, h)) (λ h. h.1) c.has-2.ensures

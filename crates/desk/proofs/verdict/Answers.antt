@@ -14,19 +14,19 @@ use Rattle.desk.proofs.verdict.Goals as goal
 
 pub returns-then-not-lists : goal.returns-then-not-lists
 returns-then-not-lists c = record {
-  first_unmet = inl (refl, λ h. true≢false (sym h.0 ∙ not-true _ c.if-not-lists.true));
+  first_unmet = inl (refl, λ h. true≢false (sym h.0 ∙ c.if-not-lists.true));
   chained = λ e. absurd (omega arith);
 }
 
 pub returns-then-not-has_room : goal.returns-then-not-has_room
 returns-then-not-has_room c = record {
-  first_unmet = inl (refl, λ h. (c.has_room.ensures c.args.counts).not_so (not-true _ c.if-not-has_room.true) h.1);
+  first_unmet = inl (refl, λ h. (c.has_room.ensures c.args.counts).not_so c.if-not-has_room.true h.1);
   chained = λ e. absurd (omega arith);
 }
 
 pub is_sound-requires : goal.is_sound-requires
 is_sound-requires c = record {
-  room = (c.has_room.ensures c.args.counts).so (not-false _ c.if-not-has_room.false);
+  room = (c.has_room.ensures c.args.counts).so c.if-not-has_room.false;
   heads_room = c.requires.in_bounds;
   nexts_room = c.requires.in_bounds_2;
 }
@@ -38,13 +38,13 @@ returns-then-not-is_sound c = let is-sound = c.is_sound in
     let if1 = c.if-not-lists in
     let start = start-before-slice-known2 (else2-before-slice-known4 c).before.before.before in
     record {
-      first_unmet = inr ((not-false _ if1.left, (has_room.ensures start.args.counts).so (not-false _ if2.left)), inl (refl, is-sound.ensures.decides.not_so (not-true _ c.if-not-is_sound.true)));
+      first_unmet = inr ((not-false _ if1.left, (has_room.ensures start.args.counts).so (not-false _ if2.left)), inl (refl, is-sound.ensures.decides.not_so c.if-not-is_sound.true));
       chained = λ e. absurd (omega arith);
     }
 
 pub is_right-requires : goal.is_right-requires
 is_right-requires c = let is-sound = c.is_sound in
-    idle_border (record { room = (c.has_room.ensures c.args.counts).so (not-false _ c.if-not-has_room.left); sound = is-sound.ensures.decides.so (not-false _ c.if-not-is_sound.false) })
+    idle_border (record { room = (c.has_room.ensures c.args.counts).so (not-false _ c.if-not-has_room.left); sound = is-sound.ensures.decides.so c.if-not-is_sound.false })
 
 pub returns-then-not-is_right : goal.returns-then-not-is_right
 returns-then-not-is_right c = let is-sound = c.is_sound in
@@ -52,7 +52,7 @@ returns-then-not-is_right c = let is-sound = c.is_sound in
       first_unmet =
           inr (
             (not-false _ c.if-not-lists.left, (c.has_room.ensures c.args.counts).so (not-false _ c.if-not-has_room.left)),
-            inr (is-sound.ensures.decides.so (not-false _ c.if-not-is_sound.false), inl (refl, c.is_right.ensures.not_so (not-true _ c.if-not-is_right.true))),
+            inr (is-sound.ensures.decides.so c.if-not-is_sound.false, inl (refl, c.is_right.ensures.not_so c.if-not-is_right.true)),
           );
       chained = λ e. absurd (omega arith);
     }
@@ -63,7 +63,7 @@ returns c = let is-sound = c.is_sound in
       first_unmet =
           inr (
             (not-false _ c.if-not-lists.left, (c.has_room.ensures c.args.counts).so (not-false _ c.if-not-has_room.left)),
-            inr (is-sound.ensures.decides.so (not-false _ c.if-not-is_sound.false), inr (c.is_right.ensures.so (not-false _ c.if-not-is_right.false), refl)),
+            inr (is-sound.ensures.decides.so c.if-not-is_sound.false, inr (c.is_right.ensures.so c.if-not-is_right.false, refl)),
           );
-      chained = λ e. is-sound.ensures.chained (not-false _ c.if-not-is_sound.false);
+      chained = λ e. is-sound.ensures.chained c.if-not-is_sound.false;
     }

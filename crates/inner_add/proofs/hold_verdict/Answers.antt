@@ -6,7 +6,7 @@ use mathlib.Core.Logic.{inl, inr}
 use mir.Syntax.{w32}
 use mir.ValLaws.{to_z-of_z}
 use Rattle.meaning.specs.Bounds.{RULES, FULL}
-use Rattle.meaning.specs.Promise.{rules as needing}
+use Rattle.meaning.specs.Promise.{needs as needing}
 use Rattle.meaning.specs.Rules.{rule}
 use Rattle.inner_watch.proofs.Verdict.{rule_steps, rule_amount, rule_refused}
 use native.Mathlib.Omega.{arith}

@@ -30,7 +30,7 @@ returns-then-not-plan c = let args = c.args in
     record {
       planned = λ e. absurd (false≢true e);
       count_moved = λ e. absurd (false≢true e);
-      unfit = λ e. p.unfit (not-true _ c.if-not-plan.true);
+      unfit = λ e. p.unfit c.if-not-plan.true;
       list_stays = λ e. refl;
     }
 
@@ -39,7 +39,7 @@ write_days-moved-requires c = let args = c.args in
     let p : RulePlanned args.n (linked args.nexts.now) args.m args.xs.now args.ys.now args.cs.now args.days.now _ _ args.x args.y args.c c.plan.result
     = rw (to_z-of_z w32 args.c c.ranges.c) at c.plan.ensures in
     raisable args.n (linked args.nexts.now) number args.m args.xs.now args.ys.now args.cs.now args.days.now args.heads.now args.nexts.now args.x args.y args.c c.requires.holdable
-    _ (p.earliest (not-false _ c.if-not-plan.false)) _
+    _ (p.earliest c.if-not-plan.false) _
     (omega (arith, c.plan.auto.gains, length-replicate {A = ℕ} STEPS 0, c.requires.holdable.base.ground.steps_in)) (omega (arith, c.requires.in_bounds, c.requires.holdable.base.ground.steps_in))
 
 pub returns : goal.returns
@@ -49,7 +49,7 @@ returns c = let args = c.args in
     record {
       planned = λ e.
           planned_list args.n (linked args.nexts.now) number args.m args.xs.now args.ys.now args.cs.now args.days.now args.heads.now args.nexts.now args.x args.y args.c c.requires.holdable
-          _ (p.earliest (not-false _ c.if-not-plan.false)) _ _ _ c.write_days-moved.ensures;
+          _ (p.earliest c.if-not-plan.false) _ _ _ c.write_days-moved.ensures;
       count_moved = λ e. c.write_days-moved.ensures.count;
       unfit = λ e. absurd (true≢false e);
       list_stays = λ e. absurd (true≢false e);

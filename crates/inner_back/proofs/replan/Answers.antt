@@ -5,7 +5,7 @@ use Rattle.inner_back.proofs.replan.Goals as goal
 
 pub returns-then-not-loose : goal.returns-then-not-loose
 returns-then-not-loose c = let args = c.args in record {
-  planned = record { earliest = c.requires.earliest (not-true args.loose c.if-not-loose.true); past = past_refl args.n args.days.now };
+  planned = record { earliest = c.requires.earliest c.if-not-loose.true; past = past_refl args.n args.days.now };
   value = c.requires.last_value;
 }
 

@@ -18,7 +18,7 @@ pub returns-then-steps-y : goal.returns-then-steps-y
 returns-then-steps-y c = inl (refl, λ h. omega (arith, h.second_in, c.if-steps-y.true))
 
 pub returns-then-not-amount_fits : goal.returns-then-not-amount_fits
-returns-then-not-amount_fits c = inr (record { first_in = omega (arith, c.if-steps-x.false); second_in = omega (arith, c.if-steps-y.false) }, inl (refl, (rw (to_z-of_z w32 c.args.c c.ranges.c) at c.amount_fits.ensures).not_so (not-true _ c.if-not-amount_fits.true)))
+returns-then-not-amount_fits c = inr (record { first_in = omega (arith, c.if-steps-x.false); second_in = omega (arith, c.if-steps-y.false) }, inl (refl, (rw (to_z-of_z w32 c.args.c c.ranges.c) at c.amount_fits.ensures).not_so c.if-not-amount_fits.true))
 
 pub returns : goal.returns
-returns c = inr (record { first_in = omega (arith, c.if-steps-x.false); second_in = omega (arith, c.if-steps-y.false) }, inr ((rw (to_z-of_z w32 c.args.c c.ranges.c) at c.amount_fits.ensures).so (not-false _ c.if-not-amount_fits.false), refl))
+returns c = inr (record { first_in = omega (arith, c.if-steps-x.false); second_in = omega (arith, c.if-steps-y.false) }, inr ((rw (to_z-of_z w32 c.args.c c.ranges.c) at c.amount_fits.ensures).so c.if-not-amount_fits.false, refl))

@@ -6,7 +6,7 @@ use mathlib.Core.Logic.{inl, inr}
 use mir.Syntax.{w32}
 use mir.ValLaws.{to_z-of_z}
 use Rattle.meaning.specs.Bounds.{WATCHED, FULL}
-use Rattle.meaning.specs.Promise.{rules as needing}
+use Rattle.meaning.specs.Promise.{needs as needing}
 use Rattle.meaning.proofs.Needs.{obeys_done, obeys_refused}
 use Rattle.meaning.specs.Rules.{rule}
 use Rattle.inner_watch.proofs.Equal.{tables_equal}

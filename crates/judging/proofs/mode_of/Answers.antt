@@ -16,13 +16,13 @@ pub returns-then-notes : goal.returns-then-notes
 returns-then-notes c = judges_mode Kind.SetLogic c.args.notes 9 c.enum_told-1.given.1 (inl (refl, λ h. true≢false (sym c.if-notes.true ∙ h)))
 
 pub returns-then-not-notes : goal.returns-then-not-notes
-returns-then-not-notes c = judges_mode (Kind.GetValue c.enum_told-in-GetValue-1.given.0.0) c.args.notes 9 c.enum_told-in-GetValue-1.given.1 (no_sat c.args.notes (λ h. true≢false (sym h ∙ not-true _ c.if-not-notes.true)))
+returns-then-not-notes c = judges_mode (Kind.GetValue c.enum_told-in-GetValue-1.given.0.0) c.args.notes 9 c.enum_told-in-GetValue-1.given.1 (no_sat c.args.notes (λ h. true≢false (sym h ∙ c.if-not-notes.true)))
 
 pub returns-else-notes : goal.returns-else-notes
 returns-else-notes c = judges_mode Kind.SetLogic c.args.notes 0 c.enum_told-1.given.1 (inr (c.if-notes.false, refl))
 
 pub returns-else-not-notes : goal.returns-else-not-notes
-returns-else-not-notes c = judges_mode (Kind.GetValue c.enum_told-in-GetValue-1.given.0.0) c.args.notes c.logic_needed.result c.enum_told-in-GetValue-1.given.1 (values_first c.args.notes (not-false _ c.if-not-notes.false) c.logic_needed.ensures)
+returns-else-not-notes c = judges_mode (Kind.GetValue c.enum_told-in-GetValue-1.given.0.0) c.args.notes c.logic_needed.result c.enum_told-in-GetValue-1.given.1 (values_first c.args.notes c.if-not-notes.false c.logic_needed.ensures)
 
 pub returns-in-Exit : goal.returns-in-Exit
 returns-in-Exit c = judges_mode Kind.Exit c.args.notes 0 c.enum_told-in-Exit-1.given.1 refl

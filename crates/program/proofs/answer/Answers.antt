@@ -204,14 +204,14 @@ shape_of-out-then-not-part c = let advance = c.advance-part in
 pub returns-then-not-part : goal.returns-then-not-part
 returns-then-not-part c = let advance = c.advance-part in
     let loop = c.loop-part in
-    told (loop.inv.1.1 _ (last_of advance.ensures.0 (not-true _ c.if-not-part.true))) c.status_of.ensures
+    told (loop.inv.1.1 _ (last_of advance.ensures.0 c.if-not-part.true)) c.status_of.ensures
 
 pub loop-part-smaller : goal.loop-part-smaller
 loop-part-smaller c = let advance = c.advance-part in
     let loop = c.loop-part in
-    omega (arith, advance.ensures.advances.onward (not-false _ c.if-not-part.false) (omega (arith, c.requires.in_bounds_2, loop.invariant.0.1.1.1.1.1.1.1.1.1.1.1.1.1.1.1.1)))
+    omega (arith, advance.ensures.advances.onward c.if-not-part.false (omega (arith, c.requires.in_bounds_2, loop.invariant.0.1.1.1.1.1.1.1.1.1.1.1.1.1.1.1.1)))
 
 pub loop-part-preserved : goal.loop-part-preserved
 loop-part-preserved c = let advance = c.advance-part in
     let loop = c.loop-part in
-    ((advance.kept.1.1.1.0 ∙ loop.inv.0.0, (advance.kept.1.1.1.1.0 ∙ loop.inv.0.1.0, (advance.kept.1.1.1.1.1.0 ∙ loop.inv.0.1.1.0, (advance.kept.1.1.1.1.1.1.1.1.0 ∙ loop.inv.0.1.1.1.0, (advance.kept.1.1.1.1.1.1.1.1.1.0 ∙ loop.inv.0.1.1.1.1.0, (advance.kept.1.1.1.1.1.1.1.1.1.1.0 ∙ loop.inv.0.1.1.1.1.1.0, (advance.kept.1.1.1.1.1.1.1.1.1.1.1.0 ∙ loop.inv.0.1.1.1.1.1.1.0, (advance.kept.1.1.1.1.1.1.1.1.1.1.1.1.0 ∙ loop.inv.0.1.1.1.1.1.1.1.0, (advance.kept.1.1.1.1.1.1.1.1.1.1.1.1.1.0 ∙ loop.inv.0.1.1.1.1.1.1.1.1.0, (advance.kept.1.1.1.1.1.1.1.1.1.1.1.1.1.1.0 ∙ loop.inv.0.1.1.1.1.1.1.1.1.1.0, (advance.kept.1.1.1.1.1.1.1.1.1.1.1.1.1.1.1.0 ∙ loop.inv.0.1.1.1.1.1.1.1.1.1.1.0, (advance.kept.1.1.1.1.1.1.1.1.1.1.1.1.1.1.1.1.0 ∙ loop.inv.0.1.1.1.1.1.1.1.1.1.1.1.0, (advance.kept.1.1.1.1.1.1.1.1.1.1.1.1.1.1.1.1.1.0 ∙ loop.inv.0.1.1.1.1.1.1.1.1.1.1.1.1.0, (advance.kept.1.1.1.1.1.1.1.1.1.1.1.1.1.1.1.1.1.1.0 ∙ loop.inv.0.1.1.1.1.1.1.1.1.1.1.1.1.1.0, (advance.kept.1.1.1.1.1.1.1.1.1.1.1.1.1.1.1.1.1.1.1.0 ∙ loop.inv.0.1.1.1.1.1.1.1.1.1.1.1.1.1.1.0, (advance.kept.1.1.1.1.1.1.1.1.1.1.1.1.1.1.1.1.1.1.1.1.0 ∙ loop.inv.0.1.1.1.1.1.1.1.1.1.1.1.1.1.1.1.0, advance.kept.1.1.1.1.1.1.1.1.1.1.1.1.1.1.1.1.1.1.1.1.1.0 ∙ loop.inv.0.1.1.1.1.1.1.1.1.1.1.1.1.1.1.1.1)))))))))))))))), (advance.ensures.maintained_2, λ r e. loop.inv.1.1 r (more_of advance.ensures.advances (not-false _ c.if-not-part.false) r e)))
+    ((advance.kept.1.1.1.0 ∙ loop.inv.0.0, (advance.kept.1.1.1.1.0 ∙ loop.inv.0.1.0, (advance.kept.1.1.1.1.1.0 ∙ loop.inv.0.1.1.0, (advance.kept.1.1.1.1.1.1.1.1.0 ∙ loop.inv.0.1.1.1.0, (advance.kept.1.1.1.1.1.1.1.1.1.0 ∙ loop.inv.0.1.1.1.1.0, (advance.kept.1.1.1.1.1.1.1.1.1.1.0 ∙ loop.inv.0.1.1.1.1.1.0, (advance.kept.1.1.1.1.1.1.1.1.1.1.1.0 ∙ loop.inv.0.1.1.1.1.1.1.0, (advance.kept.1.1.1.1.1.1.1.1.1.1.1.1.0 ∙ loop.inv.0.1.1.1.1.1.1.1.0, (advance.kept.1.1.1.1.1.1.1.1.1.1.1.1.1.0 ∙ loop.inv.0.1.1.1.1.1.1.1.1.0, (advance.kept.1.1.1.1.1.1.1.1.1.1.1.1.1.1.0 ∙ loop.inv.0.1.1.1.1.1.1.1.1.1.0, (advance.kept.1.1.1.1.1.1.1.1.1.1.1.1.1.1.1.0 ∙ loop.inv.0.1.1.1.1.1.1.1.1.1.1.0, (advance.kept.1.1.1.1.1.1.1.1.1.1.1.1.1.1.1.1.0 ∙ loop.inv.0.1.1.1.1.1.1.1.1.1.1.1.0, (advance.kept.1.1.1.1.1.1.1.1.1.1.1.1.1.1.1.1.1.0 ∙ loop.inv.0.1.1.1.1.1.1.1.1.1.1.1.1.0, (advance.kept.1.1.1.1.1.1.1.1.1.1.1.1.1.1.1.1.1.1.0 ∙ loop.inv.0.1.1.1.1.1.1.1.1.1.1.1.1.1.0, (advance.kept.1.1.1.1.1.1.1.1.1.1.1.1.1.1.1.1.1.1.1.0 ∙ loop.inv.0.1.1.1.1.1.1.1.1.1.1.1.1.1.1.0, (advance.kept.1.1.1.1.1.1.1.1.1.1.1.1.1.1.1.1.1.1.1.1.0 ∙ loop.inv.0.1.1.1.1.1.1.1.1.1.1.1.1.1.1.1.0, advance.kept.1.1.1.1.1.1.1.1.1.1.1.1.1.1.1.1.1.1.1.1.1.0 ∙ loop.inv.0.1.1.1.1.1.1.1.1.1.1.1.1.1.1.1.1)))))))))))))))), (advance.ensures.maintained_2, λ r e. loop.inv.1.1 r (more_of advance.ensures.advances c.if-not-part.false r e)))

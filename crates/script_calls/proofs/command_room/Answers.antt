@@ -12,10 +12,10 @@ use Rattle.script_calls.proofs.start_room.Reads as start-room-reads
 use Rattle.script_calls.proofs.command_room.Goals as goal
 
 pub returns-then-not-start_room : goal.returns-then-not-start_room
-returns-then-not-start_room c = λ counts notes. decides_no refl (λ h. (c.start_room.ensures counts notes c.args.out.now).not_so (not-true _ c.if-not-start_room.true) h.start_room)
+returns-then-not-start_room c = λ counts notes. decides_no refl (λ h. (c.start_room.ensures counts notes c.args.out.now).not_so c.if-not-start_room.true h.start_room)
 
 pub returns : goal.returns
 returns c = λ counts notes. record {
-  so = λ e. record { start_room = (c.start_room.ensures counts notes c.args.out.now).so (not-false _ c.if-not-start_room.false); out_room = leb-true ROOM (length c.args.out.now) e };
+  so = λ e. record { start_room = (c.start_room.ensures counts notes c.args.out.now).so c.if-not-start_room.false; out_room = leb-true ROOM (length c.args.out.now) e };
   not_so = λ e h. omega (arith, leb-false ROOM (length c.args.out.now) e, h.out_room);
 }

@@ -23,11 +23,11 @@ name_fine-requires c = record {
 }
 
 pub returns-then-not-name_fine : goal.returns-then-not-name_fine
-returns-then-not-name_fine c = decides_no refl (λ h. c.name_fine.ensures.not_so (not-true c.name_fine.result c.if-not-name_fine.true) (h c.loop-k.k c.loop-k-test.true))
+returns-then-not-name_fine c = decides_no refl (λ h. c.name_fine.ensures.not_so c.if-not-name_fine.true (h c.loop-k.k c.loop-k-test.true))
 
 pub loop-k-preserved : goal.loop-k-preserved
 loop-k-preserved c = let loop = c.loop-k in
-    (omega (arith, c.loop-k-test.true), below_more _ loop.k loop.invariant.1 (c.name_fine.ensures.so (not-false c.name_fine.result c.if-not-name_fine.false)))
+    (omega (arith, c.loop-k-test.true), below_more _ loop.k loop.invariant.1 (c.name_fine.ensures.so c.if-not-name_fine.false))
 
 pub returns : goal.returns
 returns c = decides_yes refl (λ i h. c.loop-k.invariant.1 i (omega (arith, c.loop-k-test.false)))

@@ -15,7 +15,7 @@ use Rattle.script_calls.proofs.stands.Goals as goal
 
 pub returns-then-not-is_sound : goal.returns-then-not-is_sound
 returns-then-not-is_sound c = let is-sound = c.is_sound in
-    λ out. record { decides = decides_no refl (λ h. is-sound.ensures.decides.not_so (not-true _ c.if-not-is_sound.true) h.tables_sound); stands = λ e. absurd (false≢true e) }
+    λ out. record { decides = decides_no refl (λ h. is-sound.ensures.decides.not_so c.if-not-is_sound.true h.tables_sound); stands = λ e. absurd (false≢true e) }
 
 pub record_fine-requires : goal.record_fine-requires
 record_fine-requires c = record {
@@ -27,12 +27,12 @@ record_fine-requires c = record {
 pub returns : goal.returns
 returns c = let is-sound = c.is_sound in
     λ out.
-    let sound = is-sound.ensures.decides.so (not-false _ c.if-not-is_sound.false) in
+    let sound = is-sound.ensures.decides.so c.if-not-is_sound.false in
     record {
       decides = decides_same (λ f. script_sound _ sound f) (λ h. record_fine_of _ h) c.record_fine.ensures.decides;
       stands = λ e. record {
         sound = script_sound _ sound (c.record_fine.ensures.decides.so e);
-        chained = is-sound.ensures.chained (not-false _ c.if-not-is_sound.false);
+        chained = is-sound.ensures.chained c.if-not-is_sound.false;
         indexed = c.record_fine.ensures.indexed e;
       };
     }

@@ -30,7 +30,7 @@ returns c = let if1 = c.if-size-eq0 in
     let args = c.args in
     let spans = c.Span-of.ensures in
     let wrote = c.print_unsupported.ensures in λ some is.
-    let other = unsupported_else args.s.now (λ e. if1.false (spans ∙ e)) (λ e. some (is ∙ e)) (λ e. eqb-false args.why 2 c.if-why-eq-WRONG.false (is ∙ e)) (λ e. c.if-why-eq-SIZE.false (is ∙ e)) in
+    let other = unsupported_else args.s.now (λ e. if1.false (spans ∙ e)) (λ e. some (is ∙ e)) (λ e. c.if-why-eq-WRONG.false (is ∙ e)) (λ e. c.if-why-eq-SIZE.false (is ∙ e)) in
     record {
       first_unmet = other.0;
       unsupported = λ done. other.1;

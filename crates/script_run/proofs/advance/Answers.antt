@@ -78,15 +78,15 @@ shape_of-out-then-not-step c = c.one-step.auto.out ∙ c.loop-now_held.invariant
 
 pub returns-then-not-step : goal.returns-then-not-step
 returns-then-not-step c = record {
-  advances = underway_ends c.loop-now_held.invariant.1.0 c.one-step.ensures.steps (not-true _ c.if-not-step.true);
+  advances = underway_ends c.loop-now_held.invariant.1.0 c.one-step.ensures.steps c.if-not-step.true;
   maintained_2 = c.one-step.ensures.maintained_2;
 }
 
 pub loop-now_held-smaller : goal.loop-now_held-smaller
-loop-now_held-smaller c = omega (arith, c.one-step.ensures.steps.onward (not-false _ c.if-not-step.false))
+loop-now_held-smaller c = omega (arith, c.one-step.ensures.steps.onward c.if-not-step.false)
 
 pub loop-now_held-preserved : goal.loop-now_held-preserved
 loop-now_held-preserved c = (
   (c.one-step.auto.row_xs ∙ c.loop-now_held.invariant.0.0, (c.one-step.auto.row_ys ∙ c.loop-now_held.invariant.0.1.0, (c.one-step.auto.row_cs ∙ c.loop-now_held.invariant.0.1.1.0, (c.one-step.auto.xs ∙ c.loop-now_held.invariant.0.1.1.1.0, (c.one-step.auto.ys ∙ c.loop-now_held.invariant.0.1.1.1.1.0, (c.one-step.auto.cs ∙ c.loop-now_held.invariant.0.1.1.1.1.1.0, (c.one-step.auto.days ∙ c.loop-now_held.invariant.0.1.1.1.1.1.1.0, (c.one-step.auto.levels ∙ c.loop-now_held.invariant.0.1.1.1.1.1.1.1.0, (c.one-step.auto.heads ∙ c.loop-now_held.invariant.0.1.1.1.1.1.1.1.1.0, (c.one-step.auto.nexts ∙ c.loop-now_held.invariant.0.1.1.1.1.1.1.1.1.1.0, (c.one-step.auto.kept ∙ c.loop-now_held.invariant.0.1.1.1.1.1.1.1.1.1.1.0, (c.one-step.auto.names ∙ c.loop-now_held.invariant.0.1.1.1.1.1.1.1.1.1.1.1.0, (c.one-step.auto.lens ∙ c.loop-now_held.invariant.0.1.1.1.1.1.1.1.1.1.1.1.1.0, (c.one-step.auto.hashes ∙ c.loop-now_held.invariant.0.1.1.1.1.1.1.1.1.1.1.1.1.1.0, (c.one-step.auto.name_heads ∙ c.loop-now_held.invariant.0.1.1.1.1.1.1.1.1.1.1.1.1.1.1.0, (c.one-step.auto.name_nexts ∙ c.loop-now_held.invariant.0.1.1.1.1.1.1.1.1.1.1.1.1.1.1.1.0, c.one-step.auto.out ∙ c.loop-now_held.invariant.0.1.1.1.1.1.1.1.1.1.1.1.1.1.1.1.1)))))))))))))))),
-  (underway_on c.loop-now_held.invariant.1.0 c.one-step.ensures.steps (not-false _ c.if-not-step.false) c.one-step.auto.out, c.one-step.ensures.maintained_2),
+  (underway_on c.loop-now_held.invariant.1.0 c.one-step.ensures.steps c.if-not-step.false c.one-step.auto.out, c.one-step.ensures.maintained_2),
 )

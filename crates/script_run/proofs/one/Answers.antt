@@ -25,15 +25,15 @@ begin-b-requires c = c.requires.tab_value
 pub returns-then-not-b : goal.returns-then-not-b
 returns-then-not-b c = let a = c.args in
     let number = c.begin-b.result.number in record {
-      steps = halted_steps a.s.now a.at (in_hand a.counts a.xs.now a.ys.now a.cs.now a.days.now a.levels.now a.notes a.names.now a.lens.now a.out.now) a.to number (eqb number SHORT) (eqb-true number SHORT) (eqb-false number SHORT) (c.begin-b.ensures.when_not (not-true _ c.if-not-b.true));
+      steps = halted_steps a.s.now a.at (in_hand a.counts a.xs.now a.ys.now a.cs.now a.days.now a.levels.now a.notes a.names.now a.lens.now a.out.now) a.to number (eqb number SHORT) (eqb-true number SHORT) (eqb-false number SHORT) (c.begin-b.ensures.when_not c.if-not-b.true);
       maintained_2 = c.requires.maintained;
     }
 
 pub slice_bounds-carry-count : goal.slice_bounds-carry-count
-slice_bounds-carry-count c = (c.begin-b.ensures.when_ready (not-false _ c.if-not-b.false)).within
+slice_bounds-carry-count c = (c.begin-b.ensures.when_ready c.if-not-b.false).within
 
 pub slice_bounds-carry-start : goal.slice_bounds-carry-start
-slice_bounds-carry-start c = (c.begin-b.ensures.when_ready (not-false _ c.if-not-b.false)).within
+slice_bounds-carry-start c = (c.begin-b.ensures.when_ready c.if-not-b.false).within
 
 pub carry-r-requires : goal.carry-r-requires
 carry-r-requires c = let pre = c.requires in record {
@@ -42,7 +42,7 @@ carry-r-requires c = let pre = c.requires in record {
   row_xs_in_bounds = pre.1.1.0;
   row_xs_in_bounds_2 = pre.1.1.1.0;
   maintained = pre.1.1.1.1;
-  to_in_bounds = (c.begin-b.ensures.when_ready (not-false _ c.if-not-b.false)).room;
+  to_in_bounds = (c.begin-b.ensures.when_ready c.if-not-b.false).room;
   names_le_e = omega arith;
 }
 
@@ -50,7 +50,7 @@ pub settle-past-requires : goal.settle-past-requires
 settle-past-requires c = let a = c.args in
     let begin = c.begin-b in
     let carry = c.carry-r in
-    let ready = begin.ensures.when_ready (not-false _ c.if-not-b.false) in
+    let ready = begin.ensures.when_ready c.if-not-b.false in
     let before = in_hand a.counts a.xs.now a.ys.now a.cs.now a.days.now a.levels.now a.notes a.names.now a.lens.now a.out.now in
     let after = in_hand carry.result.counts carry.new.xs carry.new.ys carry.new.cs carry.new.days carry.new.levels carry.result.notes carry.new.names carry.new.lens carry.new.out in
     let carries = subst (λ (x : List ℕ). Carries x a.to before carry.result after) (part_is a.s.now a.at (length a.out.now) a.to begin.result.from ready) carry.ensures.carries in record {
@@ -62,7 +62,7 @@ pub overflow_add-result : goal.overflow_add-result
 overflow_add-result c = let a = c.args in
     let begin = c.begin-b in
     let carry = c.carry-r in
-    let ready = begin.ensures.when_ready (not-false _ c.if-not-b.false) in
+    let ready = begin.ensures.when_ready c.if-not-b.false in
     let before = in_hand a.counts a.xs.now a.ys.now a.cs.now a.days.now a.levels.now a.notes a.names.now a.lens.now a.out.now in
     let after = in_hand carry.result.counts carry.new.xs carry.new.ys carry.new.cs carry.new.days carry.new.levels carry.result.notes carry.new.names carry.new.lens carry.new.out in
     let carries = subst (λ (x : List ℕ). Carries x a.to before carry.result after) (part_is a.s.now a.at (length a.out.now) a.to begin.result.from ready) carry.ensures.carries in
@@ -123,7 +123,7 @@ pub returns : goal.returns
 returns c = let a = c.args in
     let begin = c.begin-b in
     let carry = c.carry-r in
-    let ready = begin.ensures.when_ready (not-false _ c.if-not-b.false) in
+    let ready = begin.ensures.when_ready c.if-not-b.false in
     let before = in_hand a.counts a.xs.now a.ys.now a.cs.now a.days.now a.levels.now a.notes a.names.now a.lens.now a.out.now in
     let after = in_hand carry.result.counts carry.new.xs carry.new.ys carry.new.cs carry.new.days carry.new.levels carry.result.notes carry.new.names carry.new.lens carry.new.out in
     let carries = subst (λ (x : List ℕ). Carries x a.to before carry.result after) (part_is a.s.now a.at (length a.out.now) a.to begin.result.from ready) carry.ensures.carries in record {
