@@ -22,13 +22,13 @@ loop-i-init c = (
 )
 
 pub bounds-row_xs-i : goal.bounds-row_xs-i
-bounds-row_xs-i c = omega (arith, c.loop-i-test.taken, c.requires.k_in_bounds)
+bounds-row_xs-i c = omega (arith, c.loop-i-test.true, c.requires.k_in_bounds)
 
 pub bounds-row_ys-i : goal.bounds-row_ys-i
-bounds-row_ys-i c = omega (arith, c.loop-i-test.taken, c.requires.k_in_bounds_2)
+bounds-row_ys-i c = omega (arith, c.loop-i-test.true, c.requires.k_in_bounds_2)
 
 pub bounds-row_cs-i : goal.bounds-row_cs-i
-bounds-row_cs-i c = omega (arith, c.loop-i-test.taken, c.requires.k_in_bounds_3)
+bounds-row_cs-i c = omega (arith, c.loop-i-test.true, c.requires.k_in_bounds_3)
 
 pub add_one-added-requires : goal.add_one-added-requires
 add_one-added-requires c = let loop = c.loop-i in record {
@@ -44,37 +44,37 @@ add_one-added-requires c = let loop = c.loop-i in record {
 pub shape_of-xs-then-added : goal.shape_of-xs-then-added
 shape_of-xs-then-added c = let add-one = c.add_one-added in
     let loop = c.loop-i in
-    add-one.kept.1.0 ∙ loop.inv.0.xs_long
+    add-one.kept.1.0 ∙ loop.invariant.0.xs_long
 
 pub shape_of-ys-then-added : goal.shape_of-ys-then-added
 shape_of-ys-then-added c = let add-one = c.add_one-added in
     let loop = c.loop-i in
-    add-one.kept.1.1.0 ∙ loop.inv.0.ys_long
+    add-one.kept.1.1.0 ∙ loop.invariant.0.ys_long
 
 pub shape_of-cs-then-added : goal.shape_of-cs-then-added
 shape_of-cs-then-added c = let add-one = c.add_one-added in
     let loop = c.loop-i in
-    add-one.kept.1.1.1.0 ∙ loop.inv.0.cs_long
+    add-one.kept.1.1.1.0 ∙ loop.invariant.0.cs_long
 
 pub shape_of-days-then-added : goal.shape_of-days-then-added
 shape_of-days-then-added c = let add-one = c.add_one-added in
     let loop = c.loop-i in
-    add-one.kept.1.1.1.1.0 ∙ loop.inv.0.days_long
+    add-one.kept.1.1.1.1.0 ∙ loop.invariant.0.days_long
 
 pub shape_of-levels-then-added : goal.shape_of-levels-then-added
 shape_of-levels-then-added c = let add-one = c.add_one-added in
     let loop = c.loop-i in
-    add-one.kept.1.1.1.1.1.0 ∙ loop.inv.0.levels_long
+    add-one.kept.1.1.1.1.1.0 ∙ loop.invariant.0.levels_long
 
 pub shape_of-heads-then-added : goal.shape_of-heads-then-added
 shape_of-heads-then-added c = let add-one = c.add_one-added in
     let loop = c.loop-i in
-    add-one.kept.1.1.1.1.1.1.0 ∙ loop.inv.0.heads_long
+    add-one.kept.1.1.1.1.1.1.0 ∙ loop.invariant.0.heads_long
 
 pub shape_of-nexts-then-added : goal.shape_of-nexts-then-added
 shape_of-nexts-then-added c = let add-one = c.add_one-added in
     let loop = c.loop-i in
-    add-one.kept.1.1.1.1.1.1.1.0 ∙ loop.inv.0.nexts_long
+    add-one.kept.1.1.1.1.1.1.1.0 ∙ loop.invariant.0.nexts_long
 
 pub returns-then-added : goal.returns-then-added
 returns-then-added c = let add-one-arg8 = c.add_one-arg-in-loop-i-7-1 in
@@ -84,7 +84,7 @@ returns-then-added c = let add-one-arg8 = c.add_one-arg-in-loop-i-7-1 in
     }
 
 pub overflow_add-i : goal.overflow_add-i
-overflow_add-i c = omega (arith, c.loop-i-test.taken, c.fits.k)
+overflow_add-i c = omega (arith, c.loop-i-test.true, c.fits.k)
 
 pub loop-i-smaller : goal.loop-i-smaller
 loop-i-smaller c = let loop-test = c.loop-i-test in

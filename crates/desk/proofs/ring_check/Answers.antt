@@ -73,12 +73,16 @@ overflow_cast-y c = let verdict = c.verdict-number in
     omega (arith, (rule_steps _ _ _ c.rule_verdict-unfit.ensures (omega (arith, c.if-unfit-gt0.false))).second_in, border.sound.counts_in.steps_in)
 
 pub is_ring-requires : goal.is_ring-requires
-is_ring-requires c = let verdict = c.verdict-number in
+is_ring-requires c =
+    let lent_at : WithList = with_list
+    (tables c.args.counts c.args.xs.now c.args.ys.now c.args.cs.now c.args.days.now c.args.levels.now
+    c.args.wxs.now c.args.wys.now c.args.wcs.now)
+    c.args.list.now in
+    let verdict = c.verdict-number in
     let border = entered _ _ _ _ _ _ verdict.ensures (omega (arith, c.if-number-gt0.false)) in
-    let steps = rule_steps _ _ _ c.rule_verdict-unfit.ensures (omega (arith, c.if-unfit-gt0.false)) in
-    let start = (verdict-before-struct-known2 c).before.before.before.before.before.before.before.before.before.before in record {
+    let steps = rule_steps _ _ _ c.rule_verdict-unfit.ensures (omega (arith, c.if-unfit-gt0.false)) in record {
       in_bounds = border.room.levels_room;
-      fact = not_held (lent_at start).tables _ c.next_free-next.ensures;
+      fact = not_held (lent_at).tables _ c.next_free-next.ensures;
       checkable = record {
         steps_in = border.sound.counts_in.steps_in;
         placed = λ i h. record {

@@ -36,22 +36,21 @@ returns-then-not-is_sound c = let is-sound = c.is_sound in
     let if2 = c.if-not-has_room in
     let has_room = c.has_room in
     let if1 = c.if-not-lists in
-    let start = start-before-slice-known2 (else2-before-slice-known4 c).before.before.before in
     record {
-      first_unmet = inr ((not-false _ if1.left, (has_room.ensures start.args.counts).so (not-false _ if2.left)), inl (refl, is-sound.ensures.decides.not_so c.if-not-is_sound.true));
+      first_unmet = inr ((not-false _ if1.left, (has_room.ensures c.args.counts).so (not-false _ if2.left)), inl (refl, is-sound.ensures.decides.not_so c.if-not-is_sound.true));
       chained = λ e. absurd (omega arith);
     }
 
 pub is_right-requires : goal.is_right-requires
 is_right-requires c = let is-sound = c.is_sound in
-    idle_border (record { room = (c.has_room.ensures c.args.counts).so (not-false _ c.if-not-has_room.left); sound = is-sound.ensures.decides.so c.if-not-is_sound.false })
+    idle_border (record { room = (c.has_room.ensures c.args.counts).so c.if-not-has_room.false; sound = is-sound.ensures.decides.so c.if-not-is_sound.false })
 
 pub returns-then-not-is_right : goal.returns-then-not-is_right
 returns-then-not-is_right c = let is-sound = c.is_sound in
     record {
       first_unmet =
           inr (
-            (not-false _ c.if-not-lists.left, (c.has_room.ensures c.args.counts).so (not-false _ c.if-not-has_room.left)),
+            (c.if-not-lists.false, (c.has_room.ensures c.args.counts).so c.if-not-has_room.false),
             inr (is-sound.ensures.decides.so c.if-not-is_sound.false, inl (refl, c.is_right.ensures.not_so c.if-not-is_right.true)),
           );
       chained = λ e. absurd (omega arith);
@@ -62,7 +61,7 @@ returns c = let is-sound = c.is_sound in
     record {
       first_unmet =
           inr (
-            (not-false _ c.if-not-lists.left, (c.has_room.ensures c.args.counts).so (not-false _ c.if-not-has_room.left)),
+            (c.if-not-lists.false, (c.has_room.ensures c.args.counts).so c.if-not-has_room.false),
             inr (is-sound.ensures.decides.so c.if-not-is_sound.false, inr (c.is_right.ensures.so c.if-not-is_right.false, refl)),
           );
       chained = λ e. is-sound.ensures.chained c.if-not-is_sound.false;

@@ -70,9 +70,8 @@ bounds-levels-m c =
     omega (arith, (ready).not_full, c.requires.counted.levels_room)
 
 pub one_more-requires : goal.one_more-requires
-one_more-requires c = let else1 = (next-free-before-slice-known10 c).before.before.before.before in
-    let hold-verdict = else1.before.hold-verdict in
-    hold_place c.args.counts _ _ _ _ hold-verdict.ensures (omega (arith, else1.if1.left))
+one_more-requires c = let hold-verdict = c.hold_verdict-number in
+    hold_place c.args.counts _ _ _ _ hold-verdict.ensures (omega (arith, c.if-number-gt0.false))
 
 pub returns-then-fitted : goal.returns-then-fitted
 returns-then-fitted c =

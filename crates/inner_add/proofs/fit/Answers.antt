@@ -32,14 +32,14 @@ returns-then-lack-eq0 c = let lack = c.lack in
     record {
       when_fits = λ e.
           taken_at_once args.n (linked args.nexts.now) number args.m args.xs.now args.ys.now args.cs.now args.days.now args.heads.now args.nexts.now args.x args.y args.c c.requires
-          (l.none (omega (arith, c.if-lack-eq0.taken))) args.last _ (rw (to_z-of_z w32 args.c c.fits.c) at c.write_rule.ensures);
+          (l.none (omega (arith, c.if-lack-eq0.true))) args.last _ (rw (to_z-of_z w32 args.c c.fits.c) at c.write_rule.ensures);
       when_not = λ e. absurd (true≢false e);
     }
 
 pub fit_with-requires : goal.fit_with-requires
 fit_with-requires c = record {
   holdable = rw (to_z-of_z w32 c.args.c c.fits.c) c.requires;
-  no_gains = no_gains c.args.n _ c.if-n-le-FEW.taken;
+  no_gains = no_gains c.args.n _ c.if-n-le-FEW.true;
 }
 
 pub returns-then-n-le-FEW : goal.returns-then-n-le-FEW

@@ -18,19 +18,19 @@ spread-requires c = let chains = c.requires.lent_chains in
     let room = c.requires.plan_room in
     let ask = c.ask in record {
       ground = ground c.requires.plannable chains.heads_room (λ i on. omega (arith, on.0, chains.nexts_room)) chains.chained;
-      askable = askable c.args.days.now c.requires.last_value.1 (omega (arith, ask.kept.1.1.1.0, room.gains_room)) room.by_room ask.ensures;
+      askable = askable c.args.days.now c.requires.last_value.1 (omega (arith, ask.auto.gains, room.gains_room)) room.by_room ask.ensures;
     }
 
 pub bring-requires : goal.bring-requires
 bring-requires c = bringable c.requires.plannable c.ask.ensures c.spread.ensures c.requires.last_value.1
-    (omega (arith, c.spread.auto.gains, c.ask.kept.1.1.1.0, c.requires.plan_room.gains_room))
+    (omega (arith, c.spread.auto.gains, c.ask.auto.gains, c.requires.plan_room.gains_room))
 
 pub shape_of-days : goal.shape_of-days
 shape_of-days c = c.bring.auto.days
 
 pub shape_of-gains : goal.shape_of-gains
 shape_of-gains c = let ask = c.ask in
-    c.spread.kept.1.1.1.1.1.1.1.1.0 ∙ ask.kept.1.1.1.0
+    c.spread.auto.gains ∙ ask.kept.1.1.1.0
 
 pub shape_of-by : goal.shape_of-by
 shape_of-by c = let spread = c.spread in

@@ -63,10 +63,10 @@ replan-last-requires c =
     }
 
 pub overflow_sub-left : goal.overflow_sub-left
-overflow_sub-left c = let else2 = (remove-before-struct-known2 c).before.before.before.before.before.before in
-    let start = start-before-else2 else2 in
-    let border = start.pre.0 in
-    let is_held_lem = is_held_at else2 in
+overflow_sub-left c =
+    let is_held_at : let args = c.args in held_by args.levels.now args.number = (omega (arith, c.if-i-ge-RULES.false), omega (arith, c.if-levels-i-eq0.false)) in
+    let border = c.requires.border in
+    let is_held_lem = is_held_at in
     omega (arith, held_counted _ _ border.sound is_held_lem)
 
 pub shape_of-heads : goal.shape_of-heads

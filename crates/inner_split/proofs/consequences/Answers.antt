@@ -46,24 +46,22 @@ judge_all-requires c = let build = c.build in
 pub pick-in_all-requires : goal.pick-in_all-requires
 pick-in_all-requires c = let watched_in = c.requires.border.sound.counts_in.watched_in in record {
   w_bound = watched_in;
-  w_in_bounds = omega (arith, watched_in, c.judge_all.kept.1.1.1.1.1.1.1.1.1.1.1.1.1.1.1.1.1.0);
+  w_in_bounds = omega (arith, watched_in, c.judge_all.auto.always);
   w_in_bounds_2 = c.requires.watched_in_bounds;
 }
 
 pub pick-in_none-requires : goal.pick-in_none-requires
 pick-in_none-requires c = let watched_in = c.requires.border.sound.counts_in.watched_in in record {
   w_bound = watched_in;
-  w_in_bounds = omega (arith, watched_in, c.judge_all.kept.1.1.1.1.1.1.1.1.1.1.1.1.1.1.1.1.1.1.0);
+  w_in_bounds = omega (arith, watched_in, c.judge_all.auto.never);
   w_in_bounds_2 = c.requires.watched_in_bounds_2;
 }
 
 pub overflow_cast-in_all : goal.overflow_cast-in_all
-overflow_cast-in_all c = let start = start-before-never (judge-all-before-pick-arg c).before in
-    omega (arith, c.pick-in_all.ensures.at_most, start.pre.0.sound.counts_in.watched_in)
+overflow_cast-in_all c = omega (arith, c.pick-in_all.ensures.at_most, c.requires.border.sound.counts_in.watched_in)
 
 pub overflow_cast-in_none : goal.overflow_cast-in_none
-overflow_cast-in_none c = let start = start-before-never (judge-all-before-pick-arg (pick-before-slice-known4 c).before).before in
-    omega (arith, c.pick-in_none.ensures.at_most, start.pre.0.sound.counts_in.watched_in)
+overflow_cast-in_none c = omega (arith, c.pick-in_none.ensures.at_most, c.requires.border.sound.counts_in.watched_in)
 
 pub shape_of-one : goal.shape_of-one
 shape_of-one c = let pick = c.pick-in_all in

@@ -44,10 +44,10 @@ returns-then-number_at-eq0 c = let a = c.args in
     record {
       in_all =
           judged_empty _ a.n a.w a.wxs.now a.wxheads.now a.wxnexts.now watching.by_first.chained a.a a.always.now a_in
-          (omega (arith, c.number_at.ensures, c.if-number_at-eq0.taken));
+          (omega (arith, c.number_at.ensures, c.if-number_at-eq0.true));
       in_none =
           judged_empty _ a.n a.w a.wys.now a.wyheads.now a.wynexts.now watching.by_second.chained a.a a.never.now a_in
-          (omega (arith, c.number_at-2.ensures, c.if-number_at-eq0.taken));
+          (omega (arith, c.number_at-2.ensures, c.if-number_at-eq0.true));
     }
 
 pub gains_from-requires : goal.gains_from-requires
@@ -64,8 +64,8 @@ judge_firsts-requires c = let gains-from = c.gains_from in
     let a = c.args in
     let watching = c.requires.watching in record {
       judgeable = judgeable a.n a.w a.wxs.now a.wys.now a.wcs.now a.wxheads.now a.wxnexts.now a.wyheads.now a.wynexts.now watching
-          (rules a.xs.now a.ys.now a.cs.now) (linked a.nexts.now) a.days.now gains-from.last.1.1.1.1.1.1.1.1.0 a.a c.requires.ground.days_room
-          (omega (arith, gains-from.kept.1.1.1.1.1.1.1.1.0, c.requires.places.gains_room)) gains-from.ensures;
+          (rules a.xs.now a.ys.now a.cs.now) (linked a.nexts.now) a.days.now gains-from.new.gains a.a c.requires.ground.days_room
+          (omega (arith, gains-from.auto.gains, c.requires.places.gains_room)) gains-from.ensures;
       chains_by = watching.by_first;
       a_lt_n = c.requires.a_lt_n;
       w_in_bounds = c.requires.places.always_room;
@@ -76,8 +76,8 @@ judge_seconds-requires c = let gains-from = c.gains_from in
     let a = c.args in
     let watching = c.requires.watching in record {
       judgeable = judgeable a.n a.w a.wxs.now a.wys.now a.wcs.now a.wxheads.now a.wxnexts.now a.wyheads.now a.wynexts.now watching
-          (rules a.xs.now a.ys.now a.cs.now) (linked a.nexts.now) a.days.now gains-from.last.1.1.1.1.1.1.1.1.0 a.a c.requires.ground.days_room
-          (omega (arith, gains-from.kept.1.1.1.1.1.1.1.1.0, c.requires.places.gains_room)) gains-from.ensures;
+          (rules a.xs.now a.ys.now a.cs.now) (linked a.nexts.now) a.days.now gains-from.new.gains a.a c.requires.ground.days_room
+          (omega (arith, gains-from.auto.gains, c.requires.places.gains_room)) gains-from.ensures;
       chains_by = watching.by_second;
       a_lt_n = c.requires.a_lt_n;
       w_in_bounds = c.requires.places.never_room;
@@ -93,10 +93,10 @@ shape_of-by c = let gains-from = c.gains_from in
 
 pub shape_of-always : goal.shape_of-always
 shape_of-always c = let judge-firsts = c.judge_firsts in
-    judge-firsts.kept.1.1.1.1.1.1.1.1.1.1.0
+    judge-firsts.auto.always
 
 pub shape_of-never : goal.shape_of-never
-shape_of-never c = c.judge_seconds.kept.1.1.1.1.1.1.1.1.1.1.0
+shape_of-never c = c.judge_seconds.auto.never
 
 pub returns : goal.returns
 returns c = let judge-firsts = c.judge_firsts in
@@ -105,14 +105,14 @@ returns c = let judge-firsts = c.judge_firsts in
     let in_bounds = c.requires.watching.in_bounds in
     let watched : ℕ → Rule = rules a.wxs.now a.wys.now a.wcs.now in
     let held : ℕ → Rule = rules a.xs.now a.ys.now a.cs.now in
-    let gains : ℕ → ℕ = at gains-from.last.1.1.1.1.1.1.1.1.0 in
+    let gains : ℕ → ℕ = at gains-from.new.gains in
     record {
       in_all =
-          judged_same _ _ a.w a.wxs.now a.a a.always.now judge-firsts.last.1.1.1.1.1.1.1.1.1.1.0
+          judged_same _ _ a.w a.wxs.now a.a a.always.now judge-firsts.new.always
           (λ j j-in of_a. always_told a.n held (linked a.nexts.now) (at a.days.now) a.a gains gains-from.ensures (watched j) of_a (in_bounds j j-in))
           judge-firsts.ensures;
       in_none =
-          judged_same _ _ a.w a.wys.now a.a a.never.now c.judge_seconds.last.1.1.1.1.1.1.1.1.1.1.0
+          judged_same _ _ a.w a.wys.now a.a a.never.now c.judge_seconds.new.never
           (λ j j-in of_a. never_told a.n held (linked a.nexts.now) (at a.days.now) a.a gains gains-from.ensures (watched j) of_a (in_bounds j j-in))
           c.judge_seconds.ensures;
     }

@@ -37,7 +37,7 @@ judge-requires c = let loop-test = c.loop-a-test in
 
 pub overflow_step-a : goal.overflow_step-a
 overflow_step-a c = let loop-test = c.loop-a-test in
-    omega (arith, loop-test.taken, c.requires.ground.steps_in)
+    omega (arith, loop-test.true, c.requires.ground.steps_in)
 
 pub loop-a-smaller : goal.loop-a-smaller
 loop-a-smaller c = let loop-test = c.loop-a-test in
@@ -52,7 +52,7 @@ loop-a-preserved c = let judge = c.judge in
       judge.auto.by ∙ loop.invariant.1,
       judge.auto.always ∙ loop.invariant.2,
       judge.auto.never ∙ loop.invariant.3,
-      omega (arith, loop-test.taken),
+      omega (arith, loop-test.true),
       below_judged _ a.w a.wxs.now loop.a loop.always judge.new.always loop.invariant.5 judge.ensures.in_all,
       below_judged _ a.w a.wys.now loop.a loop.never judge.new.never loop.invariant.6 judge.ensures.in_none,
     )

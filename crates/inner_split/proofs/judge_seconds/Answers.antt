@@ -9,7 +9,6 @@ use Rattle.spread.specs.Ground.{rules}
 use Rattle.inner_split.specs.Carries.{Carries}
 use Rattle.inner_split.proofs.Testing.{carries_broken}
 use Rattle.inner_split.proofs.Judging.{verdict_same, Along, along_head, along_next, along_end}
-use borrow.Author.Rules.{rules}
 use native.Mathlib.Omega.{arith}
 use Rattle.inner_split.proofs.judge_seconds.Goals as goal
 

@@ -40,13 +40,11 @@ returns-then-at-ge-WATCHED c = let rule-verdict = c.rule_verdict-number in
 
 pub overflow_cast-x : goal.overflow_cast-x
 overflow_cast-x c = let rule-verdict = c.rule_verdict-number in
-    let start = (rule-verdict-before-write-rule-arg3 c).before.before.before.before.before.before.before in
-    omega (arith, (rule_steps _ _ _ rule-verdict.ensures (omega arith)).first_in, start.pre.sound.counts_in.steps_in)
+    omega (arith, (rule_steps _ _ _ rule-verdict.ensures (omega arith)).first_in, c.requires.sound.counts_in.steps_in)
 
 pub overflow_cast-y : goal.overflow_cast-y
 overflow_cast-y c = let rule-verdict = c.rule_verdict-number in
-    let start = (rule-verdict-before-write-rule-arg3 c).before.before.before.before.before.before.before in
-    omega (arith, (rule_steps _ _ _ rule-verdict.ensures (omega arith)).second_in, start.pre.sound.counts_in.steps_in)
+    omega (arith, (rule_steps _ _ _ rule-verdict.ensures (omega arith)).second_in, c.requires.sound.counts_in.steps_in)
 
 pub returns : goal.returns
 returns c = let rule-verdict = c.rule_verdict-number in

@@ -35,7 +35,7 @@ free-left-requires c = record {
 pub days_at-last-requires : goal.days_at-last-requires
 days_at-last-requires c = let free = c.free-left in
     let t = unwatched c.args.counts c.args.xs.now c.args.ys.now c.args.cs.now c.args.days.now c.args.levels.now in
-    let k-in : c.args.counts.marks - c.args.n < c.args.counts.marks = omega (arith, c.if-n-eq0.left, c.requires.n_le_marks) in
+    let k-in : c.args.counts.marks - c.args.n < c.args.counts.marks = omega (arith, c.if-n-eq0.false, c.requires.n_le_marks) in
     let chains = free.ensures.lent_chains_2 in record {
       plannable = plannable_left c.requires.border _ free.ensures.levels_after chains;
       earliest = λ all. earliest_left c.requires.border _ free.ensures.levels_after chains (omega (arith, ltb-false free.result c.args.counts.rules all, free.ensures.value));
@@ -50,8 +50,7 @@ overflow_cast-left c = let free = c.free-left in
     omega (arith, free.ensures.1.0, taken_at_most RULES free.last.1.1.1.1.0)
 
 pub overflow_cast-k-2 : goal.overflow_cast-k-2
-overflow_cast-k-2 c = let start = start-before-free-arg3 (free-before-days-at-arg3 c).before in
-    omega (arith, start.pre.0.sound.counts_in.marks_in)
+overflow_cast-k-2 c = omega (arith, c.requires.border.sound.counts_in.marks_in)
 
 pub returns : goal.returns
 returns c = let days-at = c.days_at-last in

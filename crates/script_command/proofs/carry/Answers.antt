@@ -18,22 +18,22 @@ pub read_command-h-requires : goal.read_command-h-requires
 read_command-h-requires c = let args = c.args in
     let pre = c.requires in
     let before = in_hand args.counts args.xs.now args.ys.now args.cs.now args.days.now args.levels.now args.notes args.names.now args.lens.now args.out.now in
-    let m = pre.1.1.1.1.0 in
+    let m = pre.maintained in
     let fine : Fine before = record { room = m.room; sound = m.sound } in record {
-      tab_value = pre.0;
+      tab_value = pre.tab_value;
       shelved = shelved_of fine;
       indexed = m.indexed;
       all_different = m.sound.names_different;
       none_reserved = λ k h. (m.sound.names_in_form k h).not_reserved;
-      in_bounds = omega (arith, pre.1.0);
-      xs_in_bounds = pre.1.1.0;
-      xs_in_bounds_2 = pre.1.1.1.0;
+      in_bounds = omega (arith, pre.in_bounds);
+      xs_in_bounds = pre.row_xs_in_bounds;
+      xs_in_bounds_2 = pre.row_xs_in_bounds_2;
     }
 
 pub unread-requires : goal.unread-requires
-unread-requires c = let start = start-before-read-command-arg8 (read-command-before-struct-known2 c).before in record {
-  tab_value = start.pre.0;
-  to_in_bounds = start.pre.1.1.1.1.1.0;
+unread-requires c = record {
+  tab_value = c.requires.tab_value;
+  to_in_bounds = c.requires.to_in_bounds;
 }
 
 pub shape_of-row_xs-then-h-ne-GOT : goal.shape_of-row_xs-then-h-ne-GOT
@@ -56,7 +56,7 @@ returns-then-h-ne-GOT c = let unread = c.unread in
     let args = c.args in
     let pre = c.requires in
     let before = in_hand args.counts args.xs.now args.ys.now args.cs.now args.days.now args.levels.now args.notes args.names.now args.lens.now args.out.now in
-    let m = pre.1.1.1.1.0 in
+    let m = pre.maintained in
     let fine : Fine before = record { room = m.room; sound = m.sound } in
     let told = unread.ensures c.if-h-ne-GOT.true c.read_command-h.ensures.why_is in
     let wrote = unread.new.out in record {
@@ -65,11 +65,10 @@ returns-then-h-ne-GOT c = let unread = c.unread in
     }
 
 pub judge-number-requires : goal.judge-number-requires
-judge-number-requires c = let start = start-before-read-command-arg8 (read-command-before-struct-known2 c).before in
-    let m = start.pre.1.1.1.1.0 in record {
-      rules_bound = m.sound.tables_sound.counts_in.rules_in;
-      marks_bound = m.sound.tables_sound.counts_in.marks_in;
-    }
+judge-number-requires c = let m = c.requires.maintained in record {
+  rules_bound = m.sound.tables_sound.counts_in.rules_in;
+  marks_bound = m.sound.tables_sound.counts_in.marks_in;
+}
 
 pub shape_of-row_xs-then-number-gt0 : goal.shape_of-row_xs-then-number-gt0
 shape_of-row_xs-then-number-gt0 c = let read-command = c.read_command-h in
@@ -88,7 +87,7 @@ returns-then-number-gt0 c = let judge = c.judge-number in
     let args = c.args in
     let pre = c.requires in
     let before = in_hand args.counts args.xs.now args.ys.now args.cs.now args.days.now args.levels.now args.notes args.names.now args.lens.now args.out.now in
-    let m = pre.1.1.1.1.0 in
+    let m = pre.maintained in
     let fine : Fine before = record { room = m.room; sound = m.sound } in
     let heard = c.read_command-h.ensures in
     let found = command_read (reading args.s.now) (sym heard.why_is ∙ c.if-h-ne-GOT.false) in
@@ -107,28 +106,28 @@ perform-requires c = let judge = c.judge-number in
     let args = c.args in
     let pre = c.requires in
     let before = in_hand args.counts args.xs.now args.ys.now args.cs.now args.days.now args.levels.now args.notes args.names.now args.lens.now args.out.now in
-    let m = pre.1.1.1.1.0 in
+    let m = pre.maintained in
     let fine : Fine before = record { room = m.room; sound = m.sound } in
     let heard = c.read_command-h.ensures in
-    let found = command_read (reading args.s.now) (sym heard.why_is ∙ c.if-h-ne-GOT.left) in
+    let found = command_read (reading args.s.now) (sym heard.why_is ∙ c.if-h-ne-GOT.false) in
     let d = found.0 in
     let i = found.1.0 in
     let is = found.1.1 in
     let tells = heard.tells d i is in
     let judged = judge.ensures d before tells.kind_is refl refl tells.fault_first in
-    let last = c.read_command-h.last.1.1.1.1.1.1.1.1 in
+    let last = c.read_command-h.new.1.1.1.1.1.1.1.1 in
     let rows = columns last.0 last.1.0 last.1.1.0 in
     let room : Roomy rows = record {
-      firsts_room = omega (arith, pre.1.0, c.read_command-h.kept.1.1.1.1.1.1.1.1.0);
-      seconds_room = omega (arith, pre.1.0, pre.1.1.0, c.read_command-h.kept.1.1.1.1.1.1.1.1.1.0);
-      amounts_room = omega (arith, pre.1.0, pre.1.1.1.0, c.read_command-h.kept.1.1.1.1.1.1.1.1.1.1.0);
+      firsts_room = omega (arith, pre.in_bounds, c.read_command-h.auto.xs);
+      seconds_room = omega (arith, pre.in_bounds, pre.row_xs_in_bounds, c.read_command-h.auto.ys);
+      amounts_room = omega (arith, pre.in_bounds, pre.row_xs_in_bounds_2, c.read_command-h.auto.cs);
     } in
-    let none : judge.result ≡ DONE = omega (arith, c.if-number-gt0.left) in
+    let none : judge.result ≡ DONE = omega (arith, c.if-number-gt0.false) in
     let met = subst (First (command_needs d before)) none judged in record {
-      ready = ready_of before fine args.e pre.1.1.1.1.1.1 args.s.now rows room d i is c.read_command-h.result.kind c.read_command-h.result.fault tells met;
+      ready = ready_of before fine args.e pre.names_le_e args.s.now rows room d i is c.read_command-h.result.kind c.read_command-h.result.fault tells met;
       maintained = m;
-      to_in_bounds = pre.1.1.1.1.1.0;
-      names_le_e = pre.1.1.1.1.1.1;
+      to_in_bounds = pre.to_in_bounds;
+      names_le_e = pre.names_le_e;
     }
 
 pub shape_of-row_xs : goal.shape_of-row_xs
@@ -205,26 +204,26 @@ returns c = let judge = c.judge-number in
     let args = c.args in
     let pre = c.requires in
     let before = in_hand args.counts args.xs.now args.ys.now args.cs.now args.days.now args.levels.now args.notes args.names.now args.lens.now args.out.now in
-    let m = pre.1.1.1.1.0 in
+    let m = pre.maintained in
     let fine : Fine before = record { room = m.room; sound = m.sound } in
     let heard = c.read_command-h.ensures in
-    let found = command_read (reading args.s.now) (sym heard.why_is ∙ if1.left) in
+    let found = command_read (reading args.s.now) (sym heard.why_is ∙ if1.false) in
     let d = found.0 in
     let i = found.1.0 in
     let is = found.1.1 in
     let tells = heard.tells d i is in
     let judged = judge.ensures d before tells.kind_is refl refl tells.fault_first in
-    let last = c.read_command-h.last.1.1.1.1.1.1.1.1 in
+    let last = c.read_command-h.new.1.1.1.1.1.1.1.1 in
     let rows = columns last.0 last.1.0 last.1.1.0 in
     let room : Roomy rows = record {
-      firsts_room = omega (arith, pre.1.0, c.read_command-h.kept.1.1.1.1.1.1.1.1.0);
-      seconds_room = omega (arith, pre.1.0, pre.1.1.0, c.read_command-h.kept.1.1.1.1.1.1.1.1.1.0);
-      amounts_room = omega (arith, pre.1.0, pre.1.1.1.0, c.read_command-h.kept.1.1.1.1.1.1.1.1.1.1.0);
+      firsts_room = omega (arith, pre.in_bounds, c.read_command-h.auto.xs);
+      seconds_room = omega (arith, pre.in_bounds, pre.row_xs_in_bounds, c.read_command-h.auto.ys);
+      amounts_room = omega (arith, pre.in_bounds, pre.row_xs_in_bounds_2, c.read_command-h.auto.cs);
     } in
-    let none : judge.result ≡ DONE = omega (arith, c.if-number-gt0.left) in
+    let none : judge.result ≡ DONE = omega (arith, c.if-number-gt0.false) in
     let met = subst (First (command_needs d before)) none judged in
     let performed = c.perform.ensures in
-    let heeded = heeded_of before fine args.e pre.1.1.1.1.1.1 args.s.now rows room d i is c.read_command-h.result.kind c.read_command-h.result.fault tells met in
+    let heeded = heeded_of before fine args.e pre.names_le_e args.s.now rows room d i is c.read_command-h.result.kind c.read_command-h.result.fault tells met in
     let done = performed.1 d i heeded met in
     let past = heard.place_is ∙ ap place_of is in record {
       carries = performed_carries args.s.now args.to before d i is c.perform.result c.read_command-h.result.kind c.read_command-h.result.at _ tells.kind_is past met performed.0 done.0;

@@ -21,22 +21,22 @@ pub print-written-requires : goal.print-written-requires
 print-written-requires c = let args = c.args in
     let pre = c.requires in
     let before = in_hand args.counts args.xs.now args.ys.now args.cs.now args.days.now args.levels.now args.notes args.names.now args.lens.now args.out.now in
-    let m = pre.1.0 in
+    let m = pre.maintained in
     let fine : Fine before = record { room = m.room; sound = m.sound } in record {
       shelved = shelved_of fine;
-      by_index = pre.0.askable.few;
-      by_index_2 = pre.0.askable.known;
+      by_index = pre.ready.askable.few;
+      by_index_2 = pre.ready.askable.known;
       in_bounds = m.room.tables_room.days_room;
-      to_in_bounds = pre.1.1.0;
+      to_in_bounds = pre.to_in_bounds;
     }
 
 pub move_tables-moved-requires : goal.move_tables-moved-requires
 move_tables-moved-requires c = let args = c.args in
     let pre = c.requires in
     let before = in_hand args.counts args.xs.now args.ys.now args.cs.now args.days.now args.levels.now args.notes args.names.now args.lens.now args.out.now in
-    let m = pre.1.0 in
+    let m = pre.maintained in
     let fine : Fine before = record { room = m.room; sound = m.sound } in record {
-      movable = pre.0.movable;
+      movable = pre.ready.movable;
       border = tables_border fine;
       lent_chains = m.chained;
       kept_days = m.days_kept;
@@ -48,24 +48,24 @@ pub declare-requires : goal.declare-requires
 declare-requires c = let args = c.args in
     let pre = c.requires in
     let before = in_hand args.counts args.xs.now args.ys.now args.cs.now args.days.now args.levels.now args.notes args.names.now args.lens.now args.out.now in
-    let m = pre.1.0 in
+    let m = pre.maintained in
     let fine : Fine before = record { room = m.room; sound = m.sound } in record {
       shelved = shelved_of fine;
       index_room = m.indexed.room;
-      by_index = pre.0.declarable;
+      by_index = pre.ready.declarable;
     }
 
 pub notes_after-requires : goal.notes_after-requires
 notes_after-requires c = let args = c.args in
     let pre = c.requires in
     let before = in_hand args.counts args.xs.now args.ys.now args.cs.now args.days.now args.levels.now args.notes args.names.now args.lens.now args.out.now in
-    let m = pre.1.0 in
+    let m = pre.maintained in
     let fine : Fine before = record { room = m.room; sound = m.sound } in
     let rows = columns args.row-xs.now args.row-ys.now args.row-cs.now in
-    let last = c.move_tables-moved.last.1.1.1.1.1.1 in
+    let last = c.move_tables-moved.new.1.1.1.1.1.1 in
     let moved = unwatched c.move_tables-moved.result.counts last.0 last.1.0 last.1.1.0 last.1.1.1.0 last.1.1.1.1.0 in record {
       names_bound = m.sound.names_in;
-      marks_bound = (moves_border args.c args.notes.broken args.e rows before.tables moved c.move_tables-moved.result.clash pre.0.movable (tables_border fine) m.within c.move_tables-moved.ensures.moves).sound.counts_in.marks_in;
+      marks_bound = (moves_border args.c args.notes.broken args.e rows before.tables moved c.move_tables-moved.result.clash pre.ready.movable (tables_border fine) m.within c.move_tables-moved.ensures.moves).sound.counts_in.marks_in;
     }
 
 pub shape_of-xs : goal.shape_of-xs
@@ -130,13 +130,13 @@ returns c = let declare = c.declare in
     let args = c.args in
     let pre = c.requires in
     let before = in_hand args.counts args.xs.now args.ys.now args.cs.now args.days.now args.levels.now args.notes args.names.now args.lens.now args.out.now in
-    let m = pre.1.0 in
+    let m = pre.maintained in
     let fine : Fine before = record { room = m.room; sound = m.sound } in
     let rows = columns args.row-xs.now args.row-ys.now args.row-cs.now in
-    let last = c.move_tables-moved.last.1.1.1.1.1.1 in
+    let last = c.move_tables-moved.new.1.1.1.1.1.1 in
     let moved = unwatched c.move_tables-moved.result.counts last.0 last.1.0 last.1.1.0 last.1.1.1.0 last.1.1.1.1.0 in
     let named = declare.last.1.1.1 in
-    let wrote = print.last.1.1.1.1.1.1.1.0 in
+    let wrote = print.new.out in
     let after = in_hand c.move_tables-moved.result.counts last.0 last.1.0 last.1.1.0 last.1.1.1.0 last.1.1.1.1.0 c.notes_after.result named.0 named.1.0 wrote in
     let moves = c.move_tables-moved.ensures.moves in
     let noted_is = c.notes_after.ensures in
@@ -150,7 +150,7 @@ returns c = let declare = c.declare in
           let done : Does (Read.got d i) args.to before written after =
           does rows args.s.now args.to before clash moves.0 moved written count named.0 named.1.0 wrote
           args.hashes.now args.name-heads.now args.name-nexts.now named.1.1.0 named.1.1.1.0 named.1.1.1.1.0 fine args.c d i heeded met
-          (record { there = pre.0.movable.rows_there.0; added = moves.1.0; dropped = moves.1.1; wrote = printed.0; count = printed.1; declared = declared; noted_is = noted_is }) in
+          (record { there = pre.ready.movable.rows_there.0; added = moves.1.0; dropped = moves.1.1; wrote = printed.0; count = printed.1; declared = declared; noted_is = noted_is }) in
           let then = does_fine args.c rows args.s.now d i args.to written before after fine heeded met done in (
             done,
             record {
@@ -158,8 +158,8 @@ returns c = let declare = c.declare in
               sound = then.sound;
               chained = c.move_tables-moved.ensures.lent_chains_2;
               days_kept = c.move_tables-moved.ensures.kept_days_2;
-              ordered = λ some. does_orderly (Read.got d i) args.to written before after fine met done (m.ordered (omega (arith, some, c.move_tables-moved.kept.1.1.1.1.1.1.1.1.1.1.1.1.1.0)));
-              within = moves_within args.c args.notes.broken args.e rows before.tables moved clash pre.0.movable (tables_border fine) m.within moves;
+              ordered = λ some. does_orderly (Read.got d i) args.to written before after fine met done (m.ordered (omega (arith, some, c.move_tables-moved.auto.kept)));
+              within = moves_within args.c args.notes.broken args.e rows before.tables moved clash pre.ready.movable (tables_border fine) m.within moves;
               indexed = subst (λ (n : ℕ). Indexed n named.0 named.1.0 named.1.1.0 named.1.1.1.0 named.1.1.1.1.0) (sym (ap (λ (x : Notes). x.names) noted_is))
                   (indexed_after args.c args.s.now args.notes clash c.move_tables-moved.result.counts.marks args.names.now args.lens.now args.hashes.now args.name-heads.now args.name-nexts.now named.0 named.1.0 named.1.1.0 named.1.1.1.0 named.1.1.1.1.0 declared m.indexed);
             },

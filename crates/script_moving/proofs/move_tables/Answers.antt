@@ -20,17 +20,17 @@ use Rattle.script_moving.proofs.move_tables.Goals as goal
 
 pub add_rules-added-requires : goal.add_rules-added-requires
 add_rules-added-requires c = let pre = c.requires in
-    let movable = pre.0 in
+    let movable = pre.movable in
     let many = c.work_of-work.ensures.0 in record {
       k_in_bounds = rw many movable.rows_there.0;
       k_in_bounds_2 = rw many movable.rows_there.1.0;
       k_in_bounds_3 = rw many movable.rows_there.1.1;
       rows_fine = rw many movable.rows_fine;
       k_bound = rw many movable.places;
-      border = pre.1.0;
-      lent_chains = pre.1.1.0;
-      within = pre.1.1.1.1.1;
-      all_held = λ is. (pre.1.1.1.1.0 (ltb-true 0 (length c.args.kept.now) is)).all_held;
+      border = pre.border;
+      lent_chains = pre.lent_chains;
+      within = pre.within;
+      all_held = λ is. (pre.order_kept (ltb-true 0 (length c.args.kept.now) is)).all_held;
     }
 
 pub push-pushed-requires : goal.push-pushed-requires
@@ -41,10 +41,10 @@ push-pushed-requires c = let args = c.args in
     let before = unwatched args.counts args.xs.now args.ys.now args.cs.now args.days.now args.levels.now in
     let added = unwatched c.add_rules-added.result.counts last.0 last.1.0 last.1.1.0 last.1.1.1.0 last.1.1.1.1.0 in
     let adding = subst (λ (i : ℕ). AddsAll (rows_from rows 0 i) before c.add_rules-added.result.clash added) c.work_of-work.ensures.0 c.add_rules-added.ensures.adds_all in
-    let held = rows_added args.e rows (adds args.c args.broken) before added c.add_rules-added.result.clash pre.0.rows_fine pre.0.places pre.1.0 pre.1.1.1.1.1 adding in record {
+    let held = rows_added args.e rows (adds args.c args.broken) before added c.add_rules-added.result.clash pre.movable.rows_fine pre.movable.places pre.border pre.within adding in record {
       steps_bound = held.border.sound.counts_in.steps_in;
       in_bounds = held.border.room.days_room;
-      n_bound = omega (arith, held.grown.same_open, pre.0.marks_fit, c.work_of-work.ensures.1.0);
+      n_bound = omega (arith, held.grown.same_open, pre.movable.marks_fit, c.work_of-work.ensures.1.0);
     }
 
 pub pop-popped-requires : goal.pop-popped-requires
@@ -55,15 +55,15 @@ pop-popped-requires c = let args = c.args in
     let before = unwatched args.counts args.xs.now args.ys.now args.cs.now args.days.now args.levels.now in
     let added = unwatched c.add_rules-added.result.counts last.0 last.1.0 last.1.1.0 last.1.1.1.0 last.1.1.1.1.0 in
     let adding = subst (λ (i : ℕ). AddsAll (rows_from rows 0 i) before c.add_rules-added.result.clash added) c.work_of-work.ensures.0 c.add_rules-added.ensures.adds_all in
-    let held = rows_added args.e rows (adds args.c args.broken) before added c.add_rules-added.result.clash pre.0.rows_fine pre.0.places pre.1.0 pre.1.1.1.1.1 adding in
+    let held = rows_added args.e rows (adds args.c args.broken) before added c.add_rules-added.result.clash pre.movable.rows_fine pre.movable.places pre.border pre.within adding in
     let push = c.push-pushed in
     let same = pushed_same c.work_of-work.result.push added push.result push.ensures.value in
-    let kept = push.ensures.keeps_days (columns last.0 last.1.0 last.1.1.0) idle last.1.1.1.1.0 held.border.sound (days_stay before added args.kept.now held.grown pre.1.1.1.0) in
-    let ordered = order_stays args.e rows (adds args.c args.broken) before added c.add_rules-added.result.clash pre.0.rows_fine pre.0.places pre.1.0 pre.1.1.1.1.1 adding args.kept.now pre.1.1.1.1.0 in
-    let border = with_marks_border c.work_of-work.result.push held.border (omega (arith, held.grown.same_open, pre.0.marks_fit, c.work_of-work.ensures.1.0)) in
+    let kept = push.ensures.keeps_days (columns last.0 last.1.0 last.1.1.0) idle last.1.1.1.1.0 held.border.sound (days_stay before added args.kept.now held.grown pre.kept_days) in
+    let ordered = order_stays args.e rows (adds args.c args.broken) before added c.add_rules-added.result.clash pre.movable.rows_fine pre.movable.places pre.border pre.within adding args.kept.now pre.order_kept in
+    let border = with_marks_border c.work_of-work.result.push held.border (omega (arith, held.grown.same_open, pre.movable.marks_fit, c.work_of-work.ensures.1.0)) in
     let marks-are = ap (λ (x : Counts). x.marks) push.ensures.value in record {
       border = subst Border (sym same) border;
-      n_le_marks = omega (arith, marks-are, held.grown.same_open, pre.0.marks_there, c.work_of-work.ensures.1.1);
+      n_le_marks = omega (arith, marks-are, held.grown.same_open, pre.movable.marks_there, c.work_of-work.ensures.1.1);
       lent_chains = rw push.ensures.value c.add_rules-added.ensures.lent_chains_2;
       kept_days = rw (ap (λ (x : Counts). x.steps) push.ensures.value) kept;
       in_order = λ is. rw (ap (λ (x : Counts). x.rules) push.ensures.value) (ordered (ltb-true 0 (length args.kept.now) is));
@@ -113,10 +113,10 @@ returns c = let args = c.args in
     let before = unwatched args.counts args.xs.now args.ys.now args.cs.now args.days.now args.levels.now in
     let added = unwatched c.add_rules-added.result.counts last.0 last.1.0 last.1.1.0 last.1.1.1.0 last.1.1.1.1.0 in
     let adding = subst (λ (i : ℕ). AddsAll (rows_from rows 0 i) before c.add_rules-added.result.clash added) c.work_of-work.ensures.0 c.add_rules-added.ensures.adds_all in
-    let held = rows_added args.e rows (adds args.c args.broken) before added c.add_rules-added.result.clash pre.0.rows_fine pre.0.places pre.1.0 pre.1.1.1.1.1 adding in
+    let held = rows_added args.e rows (adds args.c args.broken) before added c.add_rules-added.result.clash pre.movable.rows_fine pre.movable.places pre.border pre.within adding in
     let push = c.push-pushed in
     let same = pushed_same c.work_of-work.result.push added push.result push.ensures.value in
-    let kept = push.ensures.keeps_days (columns last.0 last.1.0 last.1.1.0) idle last.1.1.1.1.0 held.border.sound (days_stay before added args.kept.now held.grown pre.1.1.1.0) in
+    let kept = push.ensures.keeps_days (columns last.0 last.1.0 last.1.1.0) idle last.1.1.1.1.0 held.border.sound (days_stay before added args.kept.now held.grown pre.kept_days) in
     let pop = c.pop-popped in
     let set = unwatched push.result last.0 last.1.0 last.1.1.0 last.1.1.1.0 last.1.1.1.1.0 in
     let after = unwatched pop.result last.0 last.1.0 last.1.1.0 pop.new.days pop.new.levels in

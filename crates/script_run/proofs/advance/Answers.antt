@@ -18,10 +18,10 @@ loop-now_held-init c = let a = c.args in
 
 pub one-step-requires : goal.one-step-requires
 one-step-requires c = let pre = c.requires in record {
-  tab_value = pre.0;
-  in_bounds = omega (arith, pre.1.0, c.loop-now_held.invariant.0.0);
-  row_xs_in_bounds = omega (arith, pre.1.1.0, c.loop-now_held.invariant.0.0, c.loop-now_held.invariant.0.1.0);
-  row_xs_in_bounds_2 = omega (arith, pre.1.1.1.0, c.loop-now_held.invariant.0.0, c.loop-now_held.invariant.0.1.1.0);
+  tab_value = pre.tab_value;
+  in_bounds = omega (arith, pre.in_bounds, c.loop-now_held.invariant.0.0);
+  row_xs_in_bounds = omega (arith, pre.row_xs_in_bounds, c.loop-now_held.invariant.0.0, c.loop-now_held.invariant.0.1.0);
+  row_xs_in_bounds_2 = omega (arith, pre.row_xs_in_bounds_2, c.loop-now_held.invariant.0.0, c.loop-now_held.invariant.0.1.1.0);
   maintained = c.loop-now_held.invariant.1.1;
 }
 

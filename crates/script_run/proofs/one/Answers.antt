@@ -37,11 +37,11 @@ slice_bounds-carry-start c = (c.begin-b.ensures.when_ready c.if-not-b.false).wit
 
 pub carry-r-requires : goal.carry-r-requires
 carry-r-requires c = let pre = c.requires in record {
-  tab_value = pre.0;
-  in_bounds = pre.1.0;
-  row_xs_in_bounds = pre.1.1.0;
-  row_xs_in_bounds_2 = pre.1.1.1.0;
-  maintained = pre.1.1.1.1;
+  tab_value = pre.tab_value;
+  in_bounds = pre.in_bounds;
+  row_xs_in_bounds = pre.row_xs_in_bounds;
+  row_xs_in_bounds_2 = pre.row_xs_in_bounds_2;
+  maintained = pre.maintained;
   to_in_bounds = (c.begin-b.ensures.when_ready c.if-not-b.false).room;
   names_le_e = omega arith;
 }

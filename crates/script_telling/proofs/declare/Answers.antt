@@ -21,10 +21,10 @@ untouched = record {
 
 pub declare-requires : goal.declare-requires
 declare-requires c = let pre = c.requires in
-    let given = pre.1.1 _ _ c.c-1.given.1 in record {
+    let given = pre.by_index _ _ c.c-1.given.1 in record {
       n_bound = omega (arith, given.1.1.1);
-      shelved = pre.0;
-      index_room = pre.1.0;
+      shelved = pre.shelved;
+      index_room = pre.index_room;
       a_le_b = given.0;
       a_bound = given.1.0;
       b_in_bounds = given.1.1.0;

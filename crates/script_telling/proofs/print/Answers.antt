@@ -17,13 +17,13 @@ returns-then-broken-eq0 c = let enum_told = c.enum_told-1 in
 pub put_values-requires : goal.put_values-requires
 put_values-requires c = let pre = c.requires in
     let known = c.c-1.given.1 in
-    let few = pre.1.0 _ known in record {
-      shelved = pre.0;
+    let few = pre.by_index _ known in record {
+      shelved = pre.shelved;
       k_bound = few.0;
       k_in_bounds = few.1;
-      by_index = pre.1.1.0 _ known;
-      in_bounds = pre.1.1.1.0;
-      to_in_bounds = pre.1.1.1.1;
+      by_index = pre.by_index_2 _ known;
+      in_bounds = pre.in_bounds;
+      to_in_bounds = pre.to_in_bounds;
     }
 
 pub returns-else-broken-eq0 : goal.returns-else-broken-eq0

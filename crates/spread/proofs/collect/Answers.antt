@@ -26,9 +26,6 @@ loop-v-init c = let a = c.args in (
 pub gain_at-requires : goal.gain_at-requires
 gain_at-requires c = omega (arith, c.loop-v-test.true, c.requires.room.gains_room)
 
-pub offset_bounds-by-v : goal.offset_bounds-by-v
-offset_bounds-by-v c = omega (arith, c.loop-v-test.true, c.requires.room.few)
-
 pub bounds-by-v : goal.bounds-by-v
 bounds-by-v c = omega (arith, c.loop-v-test.true, c.loop-v.invariant.0.0, c.requires.by_room)
 

@@ -14,8 +14,7 @@ use native.Mathlib.Omega.{arith}
 use Rattle.spread.proofs.relax_all.Goals as goal
 
 pub day_at-requires : goal.day_at-requires
-day_at-requires c = let start = (shared-slice-known3-before-slice-known5 c).before.before.before in
-    omega (arith, start.pre.0.days_room, start.pre.1.1.1.1)
+day_at-requires c = omega (arith, c.requires.ground.days_room, c.requires.x_lt_n)
 
 pub gain_at-requires : goal.gain_at-requires
 gain_at-requires c = omega (arith, c.requires.steps_room.room.gains_room, c.requires.x_lt_n)
@@ -61,12 +60,12 @@ relax-count-requires c =
     let room : StepsRoom c.args.n c.loop-link.gains c.loop-link.by c.loop-link.list c.loop-link.places c.loop-link.leaders = let l = c.loop-link in
     let a = c.args in
     room_kept a.n a.gains.now a.by.now a.list.now a.places.now a.leaders.now l.gains l.by l.list l.places l.leaders
-    l.inv.0.0 l.inv.0.1 l.inv.0.2 l.inv.0.3 l.inv.0.4 c.requires.steps_room in
+    l.invariant.0.0 l.invariant.0.1 l.invariant.0.2 l.invariant.0.3 l.invariant.0.4 c.requires.steps_room in
     let l = c.loop-link in
     let a = c.args in record {
       relaxable = relaxable a.n (linked a.nexts.now) number a.xs.now a.ys.now a.cs.now a.days.now a.heads.now a.nexts.now l.gains l.by l.list l.places l.leaders l.count (l.link - 1)
           c.requires.ground
-          (l.invariant.1.held (l.link - 1) (omega (arith, c.loop-link-test.taken)))
+          (l.invariant.1.held (l.link - 1) (omega (arith, c.loop-link-test.true)))
           (room)
           l.invariant.2.ready;
       room = (room).room;
@@ -75,16 +74,16 @@ relax-count-requires c =
 
 pub number_at-link-requires-in-loop-link : goal.number_at-link-requires-in-loop-link
 number_at-link-requires-in-loop-link c = let l = c.loop-link in
-    c.requires.ground.next_place (l.link - 1) (l.invariant.1.held (l.link - 1) (omega (arith, c.loop-link-test.taken)))
+    c.requires.ground.next_place (l.link - 1) (l.invariant.1.held (l.link - 1) (omega (arith, c.loop-link-test.true)))
 
 pub loop-link-smaller : goal.loop-link-smaller
 loop-link-smaller c = let loop = c.loop-link in
     omega (
       arith,
-      c.loop-link-test.taken,
+      c.loop-link-test.true,
       c.number_at-link-in-loop-link.ensures,
       next_lower c.args.n (linked c.args.nexts.now) c.args.xs.now c.args.heads.now c.args.nexts.now c.requires.ground.chained (loop.link - 1)
-          (loop.invariant.1.held (loop.link - 1) (omega (arith, c.loop-link-test.taken))),
+          (loop.invariant.1.held (loop.link - 1) (omega (arith, c.loop-link-test.true))),
     )
 
 pub loop-link-preserved : goal.loop-link-preserved

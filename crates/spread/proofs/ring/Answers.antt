@@ -47,13 +47,6 @@ overflow_cast-list c =
     c.loop-v.invariant.2.step_in c.loop-v.invariant.2.has c.loop-v-test.true in
     omega (arith, c.number_at-i.ensures, c.requires.reached.number_in _ (here).came.held)
 
-pub offset_bounds-list-j : goal.offset_bounds-list-j
-offset_bounds-list-j c =
-    let place_left : 1 < c.loop-v.j = let a = c.args in
-    omega (arith, (arrives_on a.xs.now a.by.now a.y (c.loop-v.j - 1) c.loop-v.v c.loop-v.invariant.2.left c.loop-v-test.true).0) in
-    let place_in : c.loop-v.j - 1 < length c.loop-v.list = omega (arith, place_left, c.loop-v.invariant.2.within, c.loop-v.invariant.1, c.loop-v.invariant.0, c.requires.n_in_bounds) in
-    omega (arith, place_in, c.loop-v.invariant.0, c.good.1.1.1.1.1.1.1.1.1.1.1.1.0.1)
-
 pub bounds-list-j : goal.bounds-list-j
 bounds-list-j c =
     let place_left : 1 < c.loop-v.j = let a = c.args in
@@ -92,7 +85,7 @@ loop-v-preserved c =
     )
 
 pub overflow_cast-list-2 : goal.overflow_cast-list-2
-overflow_cast-list-2 c = omega (arith, c.requires.reached.Free-in)
+overflow_cast-list-2 c = omega (arith, c.requires.reached.free_in)
 
 pub bounds-list-0 : goal.bounds-list-0
 bounds-list-0 c = omega (arith, c.loop-v.invariant.0, c.requires.n_in_bounds, c.requires.reached.first_in)

@@ -6,24 +6,23 @@ use Rattle.meaning.specs.Tables.{at}
 use Rattle.spread.specs.Ground.{rules}
 use Rattle.spread.proofs.Ends.{no_turn_yet, collected_ready}
 use native.Mathlib.Omega.{arith}
-use borrow.Author.Rules.{rules}
 use Rattle.spread.proofs.spread.Goals as goal
 
 pub settle_all-requires : goal.settle_all-requires
 settle_all-requires c = let a = c.args in
     let pre = c.requires in record {
-      ground = pre.0;
+      ground = pre.ground;
       steps_room = record {
         room = record {
-          few = pre.0.steps_in;
-          gains_room = pre.1.gains_room;
-          list_room = omega (arith, c.collect-k.kept.1.1.1.0, pre.0.steps_in);
-          places_room = omega (arith, c.collect-k.kept.1.1.1.1.0, pre.0.steps_in);
-          leaders_room = omega (arith, c.collect-k.kept.1.1.1.1.1.0, pre.0.steps_in);
+          few = pre.ground.steps_in;
+          gains_room = pre.askable.gains_room;
+          list_room = omega (arith, c.collect-k.auto.list, pre.ground.steps_in);
+          places_room = omega (arith, c.collect-k.auto.places, pre.ground.steps_in);
+          leaders_room = omega (arith, c.collect-k.auto.leaders, pre.ground.steps_in);
         };
-        by_room = omega (arith, c.collect-k.kept.1.1.0, pre.1.by_room);
+        by_room = omega (arith, c.collect-k.auto.by, pre.askable.by_room);
       };
-      ready = collected_ready a.n (at a.gains.now) (at c.collect-k.last.1.1.0) (at c.collect-k.last.1.1.1.0) c.collect-k.result pre.1.small c.collect-k.ensures.collected;
+      ready = collected_ready a.n (at a.gains.now) (at c.collect-k.new.by) (at c.collect-k.new.list) c.collect-k.result pre.askable.small c.collect-k.ensures.collected;
       led = c.collect-k.ensures.led;
     }
 
@@ -31,4 +30,4 @@ pub returns : goal.returns
 returns c = let a = c.args in
     c.settle_all.ensures (λ v. at a.days.now v + at a.gains.now v)
     (no_turn_yet a.n (rules a.xs.now a.ys.now a.cs.now) (linked a.nexts.now) (at a.days.now) (λ v. at a.days.now v + at a.gains.now v)
-    (at a.gains.now) (at c.collect-k.last.1.1.0) (at c.collect-k.last.1.1.1.0) c.collect-k.result (λ v v-in. refl) c.collect-k.ensures.collected)
+    (at a.gains.now) (at c.collect-k.new.by) (at c.collect-k.new.list) c.collect-k.result (λ v v-in. refl) c.collect-k.ensures.collected)

@@ -10,7 +10,6 @@ use Rattle.spread.specs.Ground.{rules}
 use Rattle.spread.proofs.Collecting.{alone_is}
 use Rattle.spread.proofs.Ends.{no_turn_yet, collected_ready, from_before}
 use native.Mathlib.Omega.{arith}
-use borrow.Author.Rules.{rules}
 use Rattle.spread.proofs.spread_in.Goals as goal
 
 -- The one gain is small, and so is none.
@@ -37,37 +36,37 @@ settle_all-requires c = let a = c.args in
       steps_room = record {
         room = record {
           few = room.few;
-          gains_room = omega (arith, begin.kept.1.1.1.0, room.gains_room);
-          list_room = omega (arith, begin.kept.1.1.1.1.1.0, room.list_room);
-          places_room = omega (arith, begin.kept.1.1.1.1.1.1.0, room.places_room);
-          leaders_room = omega (arith, begin.kept.1.1.1.1.1.1.1.0, room.leaders_room);
+          gains_room = omega (arith, begin.auto.gains, room.gains_room);
+          list_room = omega (arith, begin.auto.list, room.list_room);
+          places_room = omega (arith, begin.auto.places, room.places_room);
+          leaders_room = omega (arith, begin.auto.leaders, room.leaders_room);
         };
-        by_room = omega (arith, begin.kept.1.1.1.1.0, asked.by_room);
+        by_room = omega (arith, begin.auto.by, asked.by_room);
       };
-      ready = collected_ready a.n (at begin.last.1.1.1.0) (at begin.last.1.1.1.1.0) (at begin.last.1.1.1.1.1.0) begin.result
-          (small a.n a.y a.gain (at a.gains.now) (at begin.last.1.1.1.0) asked.small asked.none_yet begun.asked) begun.collected;
+      ready = collected_ready a.n (at begin.new.gains) (at begin.new.by) (at begin.new.list) begin.result
+          (small a.n a.y a.gain (at a.gains.now) (at begin.new.gains) asked.small asked.none_yet begun.asked) begun.collected;
       led = begin.ensures.led;
     }
 
 pub shape_of-gains : goal.shape_of-gains
 shape_of-gains c = let begin = c.begin-k in
-    c.settle_all.kept.1.1.1.1.1.1.1.1.0 ∙ begin.kept.1.1.1.0
+    c.settle_all.auto.gains ∙ begin.kept.1.1.1.0
 
 pub shape_of-by : goal.shape_of-by
 shape_of-by c = let begin = c.begin-k in
-    c.settle_all.kept.1.1.1.1.1.1.1.1.1.0 ∙ begin.kept.1.1.1.1.0
+    c.settle_all.auto.by ∙ begin.kept.1.1.1.1.0
 
 pub shape_of-list : goal.shape_of-list
 shape_of-list c = let begin = c.begin-k in
-    c.settle_all.kept.1.1.1.1.1.1.1.1.1.1.0 ∙ begin.kept.1.1.1.1.1.0
+    c.settle_all.auto.list ∙ begin.kept.1.1.1.1.1.0
 
 pub shape_of-places : goal.shape_of-places
 shape_of-places c = let begin = c.begin-k in
-    c.settle_all.kept.1.1.1.1.1.1.1.1.1.1.1.0 ∙ begin.kept.1.1.1.1.1.1.0
+    c.settle_all.auto.places ∙ begin.kept.1.1.1.1.1.1.0
 
 pub shape_of-leaders : goal.shape_of-leaders
 shape_of-leaders c = let begin = c.begin-k in
-    c.settle_all.kept.1.1.1.1.1.1.1.1.1.1.1.1.0 ∙ begin.kept.1.1.1.1.1.1.1.0
+    c.settle_all.auto.leaders ∙ begin.kept.1.1.1.1.1.1.1.0
 
 pub returns : goal.returns
 returns c = let a = c.args in
@@ -75,10 +74,10 @@ returns c = let a = c.args in
     let begin = c.begin-k in
     let begun = begin.ensures.begun in
     let low : ℕ → ℕ = λ v. at a.days.now v + alone a.y a.gain v in
-    from_before a.n (linked a.nexts.now) a.xs.now a.ys.now a.cs.now a.days.now a.goal low a.gains.now begin.last.1.1.1.0 _ _ a.y a.gain asked.step_in
+    from_before a.n (linked a.nexts.now) a.xs.now a.ys.now a.cs.now a.days.now a.goal low a.gains.now begin.new.gains _ _ a.y a.gain asked.step_in
     begun.asked
     (c.settle_all.ensures low
-    (no_turn_yet a.n (rules a.xs.now a.ys.now a.cs.now) (linked a.nexts.now) (at a.days.now) low (at begin.last.1.1.1.0)
-    (at begin.last.1.1.1.1.0) (at begin.last.1.1.1.1.1.0) begin.result
-    (λ v v-in. omega (arith, alone_is a.n a.y a.gain (at a.gains.now) (at begin.last.1.1.1.0) asked.none_yet begun.asked v v-in))
+    (no_turn_yet a.n (rules a.xs.now a.ys.now a.cs.now) (linked a.nexts.now) (at a.days.now) low (at begin.new.gains)
+    (at begin.new.by) (at begin.new.list) begin.result
+    (λ v v-in. omega (arith, alone_is a.n a.y a.gain (at a.gains.now) (at begin.new.gains) asked.none_yet begun.asked v v-in))
     begun.collected))

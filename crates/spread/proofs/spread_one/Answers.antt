@@ -5,11 +5,11 @@ use Rattle.spread.proofs.spread_one.Goals as goal
 
 pub spread_in-requires : goal.spread_in-requires
 spread_in-requires c = let pre = c.requires in record {
-  ground = pre.0;
-  askable_alone = pre.1;
+  ground = pre.ground;
+  askable_alone = pre.askable_alone;
   room = record {
-    few = pre.0.steps_in;
-    gains_room = pre.1.gains_room;
+    few = pre.ground.steps_in;
+    gains_room = pre.askable_alone.gains_room;
     list_room = omega (arith, c.if-n-le-FEW.true);
     places_room = omega (arith, c.if-n-le-FEW.true);
     leaders_room = omega (arith, c.if-n-le-FEW.true);
@@ -30,14 +30,14 @@ returns-then-n-le-FEW c = let spread-in = c.spread_in in
 
 pub spread_in-requires-2 : goal.spread_in-requires-2
 spread_in-requires-2 c = let pre = c.requires in record {
-  ground = pre.0;
-  askable_alone = pre.1;
+  ground = pre.ground;
+  askable_alone = pre.askable_alone;
   room = record {
-    few = pre.0.steps_in;
-    gains_room = pre.1.gains_room;
-    list_room = omega (arith, pre.0.steps_in);
-    places_room = omega (arith, pre.0.steps_in);
-    leaders_room = omega (arith, pre.0.steps_in);
+    few = pre.ground.steps_in;
+    gains_room = pre.askable_alone.gains_room;
+    list_room = omega (arith, pre.ground.steps_in);
+    places_room = omega (arith, pre.ground.steps_in);
+    leaders_room = omega (arith, pre.ground.steps_in);
   };
 }
 

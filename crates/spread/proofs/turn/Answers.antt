@@ -24,7 +24,7 @@ relax_all-requires c = let a = c.args in
           refl refl c.take-x.auto.list c.take-x.auto.places c.take-x.auto.leaders c.requires.steps_room;
       ready = ready_without a.n (at a.gains.now) (at a.list.now) (at list) a.k taken.place taken.largest.place_in taken.out c.requires.ready;
       led = taken.led;
-      x_lt_n = omega (arith, taken.there, c.requires.ready.Listed-in taken.place taken.largest.place_in);
+      x_lt_n = omega (arith, taken.there, c.requires.ready.listed_in taken.place taken.largest.place_in);
     }
 
 pub returns : goal.returns
@@ -32,7 +32,7 @@ returns c = let a = c.args in
     let taken = c.take-x.ensures in record {
       turned = turned a.n (linked a.nexts.now) number a.xs.now a.ys.now a.cs.now a.days.now a.heads.now a.nexts.now a.gains.now a.by.now a.list.now
           c.take-x.new.list a.k taken.place _ _ _ _ c.requires.ground
-          (c.requires.ready.Listed-in taken.place taken.largest.place_in) taken.largest taken.out
+          (c.requires.ready.listed_in taken.place taken.largest.place_in) taken.largest taken.out
           (rw (sym taken.there) at c.relax_all.ensures.relaxed_all);
       led_2 = c.relax_all.ensures.led_2;
     }

@@ -64,7 +64,7 @@ put_pair-e-requires c =
     let known = declared in record {
       a_le_b = omega arith;
       b_in_bounds = name_within c.requires.shelved c.number_at-step.result known;
-      day_in_bounds = room_pair loop.inv loop-test.taken c.requires.shelved c.number_at-step.ensures known day-at.ensures (shared-slice-known4.given c.number_at-step.result).fits put-gap.ensures put-gap.auto.out;
+      day_in_bounds = room_pair loop.invariant loop-test.taken c.requires.shelved c.number_at-step.ensures known day-at.ensures (shared-slice-known4.given c.number_at-step.result).fits put-gap.ensures put-gap.auto.out;
     }
 
 pub overflow_add-i : goal.overflow_add-i
@@ -83,7 +83,7 @@ loop-i-preserved c =
     let loop = c.loop-i in
     let shared-slice-known4 = c.shared_slice_known-4-1 in
     let known = declared in
-    going_on loop.invariant loop-test.taken c.requires.shelved c.number_at-step.ensures known day-at.ensures (shared-slice-known4.given c.number_at-step.result).fits c.put_gap-e.ensures c.put_gap-e.auto.out
+    going_on loop.invariant loop-test.true c.requires.shelved c.number_at-step.ensures known day-at.ensures (shared-slice-known4.given c.number_at-step.result).fits c.put_gap-e.ensures c.put_gap-e.auto.out
     c.put_pair-e.new.out c.put_pair-e.result c.put_pair-e.ensures c.put_pair-e.auto.out
 
 pub word-requires : goal.word-requires
