@@ -2,7 +2,6 @@
 use Prim.Native.Nat.{ℕ, ◌<◌}
 use mathlib.Core.Path.{◌≡◌, sym}
 use mathlib.Core.List.{List}
-use Rattle.meaning.specs.Rules.{largest}
 use Rattle.meaning.specs.Tables.{Tables, at, opened, steps_alone, last_now, with_days}
 use Rattle.meaning.proofs.LastDay.{largest_zeros}
 

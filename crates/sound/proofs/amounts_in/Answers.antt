@@ -1,19 +1,11 @@
 -- `sound::amounts_in` meets its contract. The loop's invariant: the answer is that for the places passed. The measure is what is left of the places.
-use Prim.Native.Nat.{◌-◌, ◌≤◌}
 use mathlib.Core.Path.{◌≡◌}
-use mathlib.Core.Logic.{inl, inr, ⊎_elim}
+use mathlib.Core.Logic.{inl, inr}
 use lib.ListN.{get_or}
 use lib.IntN.{pos}
-use borrow.Author.Tests.{not-true, not-false}
 use Rattle.meaning.specs.Rules.{InAmount}
-use Rattle.lent.specs.Decides.{Decides}
-use Rattle.sound.specs.Parts.{AmountsIn}
 use Rattle.lent.proofs.Cells.{decides_none, decides_next}
-use borrow.Author.Rules.{rules}
 use native.Mathlib.Omega.{arith}
-use Rattle.sound.proofs.amounts_in.Reads as reads
-use Rattle.sound.proofs.amounts_in.Lts as lts
-use Rattle.lent.proofs.amount_in.Reads as amount-in-reads
 use Rattle.sound.proofs.amounts_in.Goals as goal
 use Rattle.sound.proofs.amounts_in.Goals.{else-not-amount_in, then-not-amount_in}
 
@@ -25,7 +17,7 @@ loop-i-preserved c = let amount_in = c.amount_in in
     let loop = c.loop-i in (
       omega (arith, c.loop-i-test.true),
       decides_next (λ j. InAmount (get_or c.args.list.now j (pos 0))) loop.i loop.all _
-          (elim c.if-not-amount_in.branch [ then-not-amount_in w ↦ inl (amount_in.ensures.not_so (not-true amount_in.result w.if-not-amount_in.true), w.all-is) | else-not-amount_in w ↦ inr (amount_in.ensures.so (not-false amount_in.result w.if-not-amount_in.false), w.all-is) ]) loop.invariant.1,
+          (elim c.if-not-amount_in.branch [ then-not-amount_in w ↦ inl (amount_in.ensures.not_so w.if-not-amount_in.true, w.all-is) | else-not-amount_in w ↦ inr (amount_in.ensures.so w.if-not-amount_in.false, w.all-is) ]) loop.invariant.1,
     )
 
 pub returns : goal.returns

@@ -2,7 +2,6 @@
 use native.Mathlib.Omega.{arith}
 use mathlib.Core.Path.{refl}
 use borrow.Author.Tests.{leb-true, leb-false}
-use borrow.Author.Rules.{rules}
 use Rattle.meaning.specs.Bounds.{WATCHED}
 use Rattle.lent.specs.Decides.{decides_no}
 use Rattle.sound.proofs.counts_in.Goals as goal

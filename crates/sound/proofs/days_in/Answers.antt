@@ -1,6 +1,5 @@
 -- `sound::days_in` meets its contract: the last day that is not the stored one says no; else the days are the answer.
 use mathlib.Core.Path.{refl, sym, ◌∙◌}
-use borrow.Author.Rules.{rules}
 use Rattle.lent.specs.Decides.{decides_no}
 use Rattle.sound.proofs.days_in.Goals as goal
 

@@ -2,7 +2,6 @@
 use native.Mathlib.Omega.{arith}
 use mathlib.Core.Path.{refl}
 use mathlib.Core.Logic.{inl, inr}
-use borrow.Author.Rules.{rules}
 use Rattle.sound.proofs.enter.Goals as goal
 
 pub returns-then-places-v-ne0 : goal.returns-then-places-v-ne0

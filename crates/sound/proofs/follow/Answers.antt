@@ -1,11 +1,9 @@
 -- `sound::follow` meets its contract. The loop's invariant is `Walking`: every rule of a above the link has been followed. The measure is the link, which falls from rule to rule.
-use Prim.Native.Nat.{suc, ◌-◌, ◌<◌}
+use Prim.Native.Nat.{suc, ◌-◌}
 use native.Mathlib.Omega.{arith}
 use mathlib.Core.Path.{sym, subst, ◌≡◌, refl, ◌∙◌}
 use mathlib.Core.Bool.{true≢false, false≢true}
-use mathlib.Core.Logic.{⊎_elim}
 use lib.ListN.{length}
-use borrow.Author.Tests.{not-true, not-false}
 use Rattle.meaning.specs.Rules.{Grounded}
 use Rattle.meaning.specs.Tables.{rule_at, at}
 use Rattle.lent.specs.Lent.{columns, KeptAt}
@@ -61,7 +59,7 @@ returns-then-not-kept c =
       underway = c.loop-link.invariant.2.underway;
       grown = c.loop-link.invariant.2.grown;
       when_kept = λ e. absurd (false≢true e);
-      when_broken = λ e plan. c.kept.ensures.not_so (not-true c.kept.result c.if-not-kept.true) (plan (c.loop-link.link - 1) (rule_held));
+      when_broken = λ e plan. c.kept.ensures.not_so c.if-not-kept.true (plan (c.loop-link.link - 1) (rule_held));
     }
 
 pub slack-requires : goal.slack-requires
@@ -73,7 +71,7 @@ slack-requires c =
     subst (Walking args.n (linked args.nexts.now) number args.xs.now args.ys.now args.cs.now args.days.now args.a args.places.now l.k l.places l.work) link-is l.invariant.2 in
     let rule_held : linked c.args.nexts.now (c.loop-link.link - 1) = (walking_at).of_a.held (c.loop-link.link - 1) refl in
     let rule_kept : let args = c.args in
-    KeptAt args.xs.now args.ys.now args.cs.now args.days.now (c.loop-link.link - 1) = c.kept.ensures.so (not-false c.kept.result c.if-not-kept.false) in
+    KeptAt args.xs.now args.ys.now args.cs.now args.days.now (c.loop-link.link - 1) = c.kept.ensures.so c.if-not-kept.false in
     let args = c.args in record {
       dated = dated args.n (linked args.nexts.now) args.xs.now args.ys.now args.cs.now args.days.now number args.heads.now args.nexts.now c.requires.groundable (c.loop-link.link - 1) (rule_held);
       kept_at = rule_kept;
@@ -136,7 +134,7 @@ loop-link-preserved c =
     subst (Walking args.n (linked args.nexts.now) number args.xs.now args.ys.now args.cs.now args.days.now args.a args.places.now l.k l.places l.work) link-is l.invariant.2 in
     let rule_held : linked c.args.nexts.now (c.loop-link.link - 1) = (walking_at).of_a.held (c.loop-link.link - 1) refl in
     let rule_kept : let args = c.args in
-    KeptAt args.xs.now args.ys.now args.cs.now args.days.now (c.loop-link.link - 1) = c.kept.ensures.so (not-false c.kept.result c.if-not-kept.false) in
+    KeptAt args.xs.now args.ys.now args.cs.now args.days.now (c.loop-link.link - 1) = c.kept.ensures.so c.if-not-kept.false in
     let first_grounded : let args = c.args in
     Grounded (rule_at (columns args.xs.now args.ys.now args.cs.now)) (linked args.nexts.now) (at args.days.now) (at args.xs.now (c.loop-link.link - 1)) = let args = c.args in
     let w = walking_at in
@@ -157,9 +155,9 @@ loop-link-preserved c =
         w.enter-k.auto.places,
         w.enter-k.auto.work,
         turned_tight args.n (linked args.nexts.now) args.xs.now args.ys.now args.cs.now args.days.now i c.slack.result l.k w.enter-k.result l.places l.work
-            w.enter-k.last.1.1.0 w.enter-k.last.1.1.1.0 (rule_held) c.slack.ensures w.if-slack-eq0.true (rule_kept) (first_grounded) (walking_at).underway
+            w.enter-k.new.places w.enter-k.new.work (rule_held) c.slack.ensures w.if-slack-eq0.true (rule_kept) (first_grounded) (walking_at).underway
             (entering args.n (at args.ys.now i) l.k l.places l.work (c.requires.groundable.rules_in i (rule_held)).second_in (lists_room)
-            (walking_at).underway.worklist w.enter-k.result w.enter-k.last.1.1.0 w.enter-k.last.1.1.1.0 (rw w.number_at.ensures at w.enter-k.ensures)),
+            (walking_at).underway.worklist w.enter-k.result w.enter-k.new.places w.enter-k.new.work (rw w.number_at.ensures at w.enter-k.ensures)),
       )
       | else-slack-eq0 w ↦ rw (w.places-is, w.work-is, w.k-is) (
         refl,

@@ -1,15 +1,10 @@
 -- `sound::is_earliest` meets its contract. The loop's invariant is `Grounding`: the first `done` steps of the work-list have been followed. The measure is what is left of the steps, of which at most n are entered.
-use Prim.Native.Nat.{◌≤◌, ◌-◌}
-use native.Mathlib.Omega.{arith}
-use mathlib.Core.Path.{sym, ap, ◌≡◌, refl, ◌∙◌}
-use lib.ListN.{replicate, get_or-replicate, length}
-use borrow.Author.Tests.{not-true, not-false}
-use Rattle.meaning.specs.Tables.{at}
+use Prim.Native.Nat.{◌-◌}
+use mathlib.Core.Path.{◌≡◌}
+use lib.ListN.{length}
 use Rattle.meaning.specs.Bounds.{STEPS}
-use Rattle.lent.specs.Decides.{decides_no}
-use Rattle.sound.proofs.Entering.{few, empty}
 use Rattle.chains.specs.Chains.{linked}
-use Rattle.sound.proofs.Grounding.{grounding_start, grounding_on, count_decides, Grounding}
+use Rattle.sound.proofs.Grounding.{Grounding}
 use Rattle.sound.proofs.is_earliest.Given as goal
 
 abbrev pub invariant-loop-done : goal.invariant-loop-done

@@ -1,12 +1,9 @@
 -- `sound::places_in` meets its contract. The loop's invariant is `Passed`: the rules of the places passed are good and on their chains. The measure is what is left of the places. Behind
 -- the last rule every place is free, and off.
-use Prim.Native.Nat.{◌≤◌, ◌-◌}
 use mathlib.Core.Path.{◌≡◌, refl, ◌∙◌}
 use lib.ListN.{length}
-use borrow.Author.Tests.{not-true, not-false}
-use Rattle.meaning.specs.Bounds.{RULES}
 use Rattle.sound.specs.Parts.{ChainsRoom}
-use Rattle.sound.proofs.Settling.{Passed, passed_none, passed_more, settled_bad, too_few, too_many, rules_tested, rules_refused}
+use Rattle.sound.proofs.Settling.{passed_none, passed_more, settled_bad, too_few, too_many, rules_tested, rules_refused}
 use native.Mathlib.Omega.{arith}
 use Rattle.sound.proofs.places_in.Goals as goal
 
@@ -109,7 +106,7 @@ returns-then-not-free_from c = let args = c.args in
     let loop = c.loop-seen in
     rules_refused args.n args.marks args.xs.now args.ys.now args.cs.now args.levels.now args.m loop.heads loop.nexts
     (too_many args.n args.marks args.xs.now args.ys.now args.cs.now args.levels.now args.m loop.i
-    (omega (arith, loop.invariant.4.counted, loop.invariant.3, c.loop-seen-test.false)) (c.free_from.ensures.not_so (not-true c.free_from.result c.if-not-free_from.true)))
+    (omega (arith, loop.invariant.4.counted, loop.invariant.3, c.loop-seen-test.false)) (c.free_from.ensures.not_so c.if-not-free_from.true))
 
 pub off_from-requires : goal.off_from-requires
 off_from-requires c = tt
@@ -136,5 +133,5 @@ returns c =
     let args = c.args in
     let loop = c.loop-seen in
     rules_tested args.n args.marks args.xs.now args.ys.now args.cs.now args.levels.now args.m loop.i loop.seen loop.heads loop.nexts loop.invariant.4
-    loop.invariant.2 (omega (arith, loop.invariant.3, c.loop-seen-test.false)) (c.free_from.ensures.so (not-false c.free_from.result c.if-not-free_from.false)) _
+    loop.invariant.2 (omega (arith, loop.invariant.3, c.loop-seen-test.false)) (c.free_from.ensures.so c.if-not-free_from.false) _
     (room).heads_room (room).nexts_room c.off_from.auto.nexts c.off_from.ensures

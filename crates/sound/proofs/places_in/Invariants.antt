@@ -1,13 +1,10 @@
 -- `sound::places_in` meets its contract. The loop's invariant is `Passed`: the rules of the places passed are good and on their chains. The measure is what is left of the places. Behind
 -- the last rule every place is free, and off.
 use Prim.Native.Nat.{◌≤◌, ◌-◌}
-use mathlib.Core.Path.{◌≡◌, refl, ◌∙◌}
+use mathlib.Core.Path.{◌≡◌}
 use lib.ListN.{length}
-use borrow.Author.Tests.{not-true, not-false}
 use Rattle.meaning.specs.Bounds.{RULES}
-use Rattle.sound.specs.Parts.{ChainsRoom}
-use Rattle.sound.proofs.Settling.{Passed, passed_none, passed_more, settled_bad, too_few, too_many, rules_tested, rules_refused}
-use native.Mathlib.Omega.{arith}
+use Rattle.sound.proofs.Settling.{Passed}
 use Rattle.sound.proofs.places_in.Given as goal
 
 abbrev pub invariant-loop-seen : goal.invariant-loop-seen

@@ -1,11 +1,5 @@
 -- `sound::rules_in` meets its contract: each of the two ways does.
 use native.Mathlib.Omega.{arith}
-use borrow.Author.Rules.{rules}
-use Rattle.sound.proofs.rules_in.Reads as reads
-use Rattle.sound.proofs.rules_in.Lts as lts
-use Rattle.lent.proofs.all_held.Reads as all-held-reads
-use Rattle.sound.proofs.first_in.Reads as first-in-reads
-use Rattle.sound.proofs.places_in.Reads as places-in-reads
 use Rattle.sound.proofs.rules_in.Goals as goal
 
 pub all_held-requires : goal.all_held-requires

@@ -1,11 +1,7 @@
 -- `sound::seed` meets its contract. The loop's invariant: of the steps passed, those of day 0 are entered. The measure is what is left of the steps.
-use Prim.Native.Nat.{◌≤◌, ◌-◌}
 use native.Mathlib.Omega.{arith}
-use mathlib.Core.Logic.{⊎_elim}
 use mathlib.Core.Path.{◌≡◌, refl, ◌∙◌}
-use lib.ListN.{length, get_or}
-use borrow.Author.Rules.{rules}
-use Rattle.sound.specs.Ground.{Seeded}
+use lib.ListN.{get_or}
 use Rattle.sound.proofs.Entering.{enterable, entering, seeded_none, seeded_past, seeded_more}
 use Rattle.sound.proofs.seed.Goals as goal
 use Rattle.sound.proofs.seed.Goals.{else-day_at-eq0, then-day_at-eq0}
@@ -27,11 +23,11 @@ loop-v-preserved c = let loop-test = c.loop-v-test in
         w.enter-k.auto.places ∙ c.loop-v.invariant.0,
         w.enter-k.auto.work ∙ c.loop-v.invariant.1,
         omega (arith, loop-test.true),
-        seeded_more args.n args.days.now c.loop-v.v c.loop-v.k w.enter-k.result c.loop-v.places c.loop-v.work w.enter-k.last.1.1.0 w.enter-k.last.1.1.1.0
+        seeded_more args.n args.days.now c.loop-v.v c.loop-v.k w.enter-k.result c.loop-v.places c.loop-v.work w.enter-k.new.places w.enter-k.new.work
             loop-test.true (omega (arith, w.if-day_at-eq0.true))
             (entering args.n c.loop-v.v c.loop-v.k c.loop-v.places c.loop-v.work loop-test.true
             (record { places_room = omega (arith, c.requires.lists_room.places_room, c.loop-v.invariant.0); work_room = omega (arith, c.requires.lists_room.work_room, c.loop-v.invariant.1) })
-            c.loop-v.invariant.3.worklist w.enter-k.result w.enter-k.last.1.1.0 w.enter-k.last.1.1.1.0 w.enter-k.ensures)
+            c.loop-v.invariant.3.worklist w.enter-k.result w.enter-k.new.places w.enter-k.new.work w.enter-k.ensures)
             c.loop-v.invariant.3,
       )
       | else-day_at-eq0 w ↦ rw (w.places-is, w.work-is, w.k-is) (

@@ -1,12 +1,8 @@
 -- `sound::seed` meets its contract. The loop's invariant: of the steps passed, those of day 0 are entered. The measure is what is left of the steps.
-use Prim.Native.Nat.{◌≤◌, ◌-◌}
-use native.Mathlib.Omega.{arith}
-use mathlib.Core.Logic.{⊎_elim}
-use mathlib.Core.Path.{◌≡◌, refl, ◌∙◌}
-use lib.ListN.{length, get_or}
-use borrow.Author.Rules.{rules}
+use Prim.Native.Nat.{◌≤◌}
+use mathlib.Core.Path.{◌≡◌}
+use lib.ListN.{length}
 use Rattle.sound.specs.Ground.{Seeded}
-use Rattle.sound.proofs.Entering.{enterable, entering, seeded_none, seeded_past, seeded_more}
 use Rattle.sound.proofs.seed.Given as goal
 
 abbrev pub invariant-loop-v : goal.invariant-loop-v

@@ -1,10 +1,8 @@
 -- `sound::settle` meets its contract: each way out has its case.
 use mathlib.Core.Path.{◌≡◌, refl}
 use mathlib.Core.Logic.{inl, inr}
-use borrow.Author.Tests.{not-true, not-false}
 use Rattle.meaning.specs.Tables.{at}
 use native.Mathlib.Omega.{arith}
-use borrow.Author.Rules.{rules}
 use Rattle.sound.proofs.settle.Goals as goal
 
 pub level_at-level-requires : goal.level_at-level-requires
@@ -39,11 +37,11 @@ returns-then-not-rule_in c =
     inr (inr (record {
       is_2 = refl;
       held = omega (arith, level_is, c.if-level-eq0.false);
-      bad = λ good. c.rule_in.ensures.not_so (not-true c.rule_in.result c.if-not-rule_in.true) good.in_bounds;
+      bad = λ good. c.rule_in.ensures.not_so c.if-not-rule_in.true good.in_bounds;
     }))
 
 pub push-requires : goal.push-requires
-push-requires c = let in_bounds = c.rule_in.ensures.so (not-false c.rule_in.result c.if-not-rule_in.false) in
+push-requires c = let in_bounds = c.rule_in.ensures.so c.if-not-rule_in.false in
     record {
       first_place = omega (arith, c.requires.chains_room.columns_room.firsts_room, c.requires.i_bound);
       next_place = omega (arith, c.requires.chains_room.nexts_room, c.requires.i_bound);
@@ -64,7 +62,7 @@ returns c =
       is_1 = refl;
       held = omega (arith, level_is, c.if-level-eq0.false);
       good = record {
-        in_bounds = c.rule_in.ensures.so (not-false c.rule_in.result c.if-not-rule_in.false);
+        in_bounds = c.rule_in.ensures.so c.if-not-rule_in.false;
         level_open = omega (arith, level_is, c.if-marks-level.false);
       };
       pushed = c.push.ensures;
