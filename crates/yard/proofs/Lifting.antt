@@ -2,7 +2,7 @@
 use Prim.Native.Nat.{ℕ, ◌+◌, ◌≤◌, ◌<◌}
 use native.Mathlib.Omega.{arith}
 use native.Mathlib.Decide.{ℕ_discrete}
-use mathlib.Core.Path.{◌≡◌, refl, sym, ◌∙◌, ap, subst}
+use mathlib.Core.Path.{◌≡◌, refl, sym, ap, subst}
 use mathlib.Core.List.{List, []}
 use mathlib.Core.Logic.{◌⊎◌, inl, inr}
 use lib.ListN.{length, get_or, set}
@@ -10,11 +10,10 @@ use lib.Seq.{get_or-set_same, get_or-set_other}
 use lib.IntN.{ℤ}
 use Rattle.meaning.specs.Bounds.{YARD_STEPS}
 use Rattle.meaning.specs.Rules.{Rule}
-use Rattle.meaning.specs.Reckoning.{up, dn}
 use Rattle.meaning.specs.Tables.{at, rule_at}
 use Rattle.meaning.proofs.Whole.{plan→}
 use Rattle.lent.specs.Lent.{columns, held_by, BIAS, Biased}
-use Rattle.gaps.specs.Slacks.{NONE, Spares, Slacks}
+use Rattle.gaps.specs.Slacks.{NONE, Spares}
 use Rattle.yard.specs.Squares.{way}
 use Rattle.yard.specs.Tables.{Least, Slackable, Leasable, SlackOf, RowKept, RowSlack, Single}
 

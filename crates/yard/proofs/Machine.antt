@@ -5,16 +5,16 @@ use mathlib.Core.Path.{◌≡◌, refl, sym, ◌∙◌, ap, subst}
 use mathlib.Core.Bool.{Bool, true, false, not}
 use mathlib.Core.Logic.{inl, inr}
 use lib.Dec.{T}
-use lib.IntN.{ℤ, pos, negsuc, nat_abs, neg_ℤ, ◌+ℤ◌, ◌-ℤ◌}
-use lib.Signed.{non_neg, lt_z, ◌≤ℤ◌, ◌<ℤ◌, lt_z_no}
+use lib.IntN.{ℤ, pos, negsuc, neg_ℤ, ◌+ℤ◌, ◌-ℤ◌}
+use lib.Signed.{lt_z, ◌≤ℤ◌, ◌<ℤ◌, lt_z_no}
 use mir.Syntax.{w32, w64}
-use mir.Val.{Fits, SFits, of_z, to_z}
+use mir.Val.{SFits, of_z, to_z}
 use mir.ValLaws.{to_z-of_z, to_z_pos}
 use borrow.Author.Tests.{le-leb, lt-leb}
 use Rattle.meaning.specs.Bounds.{LARGEST, NO_LIMIT}
 use Rattle.meaning.specs.Rules.{InAmount}
 use Rattle.meaning.specs.Reckoning.{up, dn}
-use Rattle.meaning.proofs.Whole.{le→, lt→, →eq, up_neg, dn_neg, add_is, minus_is}
+use Rattle.meaning.proofs.Whole.{le→, add_is, minus_is}
 use Rattle.lent.proofs.Amounts.{wide}
 use Rattle.gaps.specs.Slacks.{NONE, NEAR, Near}
 use Rattle.yard.specs.Cells.{limit}

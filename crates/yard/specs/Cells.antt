@@ -1,7 +1,6 @@
 -- The cells of the gap table one by one: a slack as a limit, and a limit as it is told.
-use Rattle.std.specs.Prelude.{ℕ, ◌+◌, ◌<◌, ◌≡◌, cond, ◌⊎◌, leb, ℤ, pos, neg_ℤ, ◌-ℤ◌, ◌≤ℤ◌, ◌<ℤ◌}
+use Rattle.std.specs.Prelude.{ℕ, ◌+◌, cond, leb, ℤ, pos, ◌-ℤ◌}
 use Rattle.meaning.specs.Bounds.{NO_LIMIT}
-use Rattle.meaning.specs.Reckoning.{up, dn}
 use Rattle.gaps.specs.Slacks.{NONE}
 
 -- The cell of a pair whose slack is w, where its steps have the days a and b.

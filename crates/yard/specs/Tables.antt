@@ -6,8 +6,8 @@ use Rattle.meaning.specs.Reckoning.{up, dn}
 use Rattle.meaning.specs.Tables.{rule_at, at, taken}
 use Rattle.lent.specs.Decides.{Decides}
 use Rattle.lent.specs.Lent.{columns, held_by, KeptAt, BIAS, Biased}
-use Rattle.gaps.specs.Gaps.{Gaps, cell, InYard}
-use Rattle.gaps.specs.Slacks.{NONE, Slacks, stages, cell_of}
+use Rattle.gaps.specs.Gaps.{Gaps, cell}
+use Rattle.gaps.specs.Slacks.{NONE, Slacks, stages}
 use Rattle.yard.specs.Squares.{way}
 use Rattle.yard.specs.Cells.{limit}
 

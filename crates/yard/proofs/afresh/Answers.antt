@@ -1,6 +1,5 @@
 -- `yard::afresh` meets its contract: the slacks of single rules, and then all ways.
 use Rattle.yard.proofs.Results.{fresh}
-use borrow.Author.Rules.{rules}
 use Rattle.yard.proofs.afresh.Goals as goal
 
 pub returns : goal.returns

@@ -1,16 +1,10 @@
 -- `yard::agrees` meets its contract. The loop's invariant: each row passed is right. The measure is what is left of the n rows.
-use Prim.Native.Nat.{ℕ, ◌-◌, ◌≤◌, ◌<◌}
-use mathlib.Core.Path.{◌≡◌, refl, ◌∙◌, ap}
+use Prim.Native.Nat.{ℕ, ◌≤◌, ◌<◌}
+use mathlib.Core.Path.{◌≡◌}
 use Rattle.meaning.specs.Tables.{at}
-use Rattle.lent.specs.Decides.{decides_yes, decides_no}
 use Rattle.gaps.specs.Gaps.{cell}
 use Rattle.yard.specs.Cells.{limit}
 use Rattle.yard.specs.Squares.{way}
-use borrow.Author.Tests.{not-true, not-false}
-use Rattle.yard.proofs.Making.{made_same}
-use Rattle.yard.proofs.Comparing.{row_right, row_wrong, rows_more}
-use borrow.Author.Rules.{rules}
-use native.Mathlib.Omega.{arith}
 use Rattle.yard.proofs.agrees.Given as goal
 
 abbrev pub invariant-loop-x : goal.invariant-loop-x

@@ -1,13 +1,10 @@
 -- `yard::blank` meets its contract. The loop's invariant: each row passed has NONE everywhere but 0 in its own column. The measure is what is left of the rows.
-use Prim.Native.Nat.{◌-◌, ◌≤◌}
-use mathlib.Core.Path.{◌≡◌, refl}
+use Prim.Native.Nat.{◌≤◌}
+use mathlib.Core.Path.{◌≡◌}
 use mathlib.Core.List.{[]}
 use lib.ListN.{set}
 use Rattle.meaning.specs.Bounds.{YARD_STEPS}
 use Rattle.yard.specs.Tables.{Made}
-use Rattle.yard.proofs.Making.{made_none, made_more}
-use borrow.Author.Rules.{rules}
-use native.Mathlib.Omega.{arith}
 use Rattle.yard.proofs.blank.Given as goal
 
 abbrev pub invariant-loop-v : goal.invariant-loop-v

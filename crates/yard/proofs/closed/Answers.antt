@@ -1,17 +1,15 @@
 -- `yard::closed` meets its contract. The outer loop's invariant: the cells have the stages of the steps passed, and none is above NONE; the inner loop's: the rows passed have the ways over the
 -- step, and the others are as they were. The measures are the steps, and the rows, that are left.
-use Prim.Native.Nat.{◌+◌, ◌-◌, ◌≤◌, ◌<◌}
+use Prim.Native.Nat.{◌+◌, ◌≤◌, ◌<◌}
 use mathlib.Core.Path.{◌≡◌}
-use mathlib.Core.Logic.{⊎_elim}
 use Rattle.meaning.specs.Bounds.{YARD_STEPS}
-use Rattle.yard.proofs.Staging.{Staging, staging_none, staging_more, staging_skip, Stages, stages_none, stages_more}
-use borrow.Author.Rules.{rules}
+use Rattle.yard.proofs.Staging.{staging_none, staging_more, staging_skip, stages_none, stages_more}
 use native.Mathlib.Omega.{arith}
 use Rattle.yard.proofs.closed.Goals as goal
 use Rattle.yard.proofs.closed.Goals.{else-base-lt-NONE, then-base-lt-NONE}
 
 pub loop-k-init : goal.loop-k-init
-loop-k-init c = (omega arith, stages_none _ _ c.well-formed.1.0.1.0.1 c.requires.bounded)
+loop-k-init c = (omega arith, stages_none _ _ c.well_formed.1.0.1.0.1 c.requires.bounded)
 
 pub loop-x-init : goal.loop-x-init
 loop-x-init c = (omega arith, staging_none _ _ c.loop-k.invariant.1.rows)

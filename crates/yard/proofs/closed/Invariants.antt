@@ -1,12 +1,7 @@
 -- `yard::closed` meets its contract. The outer loop's invariant: the cells have the stages of the steps passed, and none is above NONE; the inner loop's: the rows passed have the ways over the
 -- step, and the others are as they were. The measures are the steps, and the rows, that are left.
-use Prim.Native.Nat.{◌+◌, ◌-◌, ◌≤◌, ◌<◌}
-use mathlib.Core.Path.{◌≡◌}
-use mathlib.Core.Logic.{⊎_elim}
-use Rattle.meaning.specs.Bounds.{YARD_STEPS}
-use Rattle.yard.proofs.Staging.{Staging, staging_none, staging_more, staging_skip, Stages, stages_none, stages_more}
-use borrow.Author.Rules.{rules}
-use native.Mathlib.Omega.{arith}
+use Prim.Native.Nat.{◌≤◌}
+use Rattle.yard.proofs.Staging.{Staging, Stages}
 use Rattle.yard.proofs.closed.Given as goal
 
 abbrev pub invariant-loop-x : goal.invariant-loop-x

@@ -1,17 +1,19 @@
 -- `yard::least` meets its contract. The invariant of both loops: the square has the least amounts of the places passed, as `Passing` says; the outer one has passed whole groups. The measures are
 -- the numbers of places that are not passed, of all and of the group.
-use Prim.Native.Nat.{ℕ, ◌+◌, ◌*◌, ◌-◌, ◌≤◌, ◌<◌}
+use Prim.Native.Nat.{◌+◌, ◌≤◌, ◌<◌}
 use mathlib.Core.Path.{◌≡◌}
-use mathlib.Core.Logic.{inl, inr, ⊎_elim}
+use mathlib.Core.Logic.{◌⊎◌, inl, inr}
 use Rattle.meaning.specs.Bounds.{RULES, YARD_STEPS}
-use Rattle.meaning.specs.Tables.{rule_at, at, taken}
+use Rattle.meaning.specs.Tables.{rule_at, at}
 use Rattle.meaning.specs.Rules.{InSteps}
 use Rattle.meaning.proofs.Places.{taken_at_most}
 use Rattle.lent.specs.Lent.{columns}
-use Rattle.yard.proofs.Passing.{Passing, passing_none, place_left, passing_all, passing_free, passing_held}
-use borrow.Author.Rules.{rules}
+use Rattle.yard.proofs.Passing.{passing_none, place_left, passing_all, passing_free, passing_held}
 use native.Mathlib.Omega.{arith}
 use Rattle.yard.proofs.least.Goals as goal
+use Rattle.yard.proofs.least.Goals.{then-levels-k-ne0, else-levels-k-ne0, then-w-square, else-w-square}
+use Rattle.yard.specs.Squares.{way}
+use Rattle.yard.proofs.Passing.{put}
 
 pub loop-seen-init : goal.loop-seen-init
 loop-seen-init c = (0, omega arith, passing_none (rule_at (columns c.args.xs.now c.args.ys.now c.args.cs.now)) c.args.levels.now c.blank-start.ensures)
@@ -96,7 +98,7 @@ offset_bounds-square-x-then-w-square c =
     let inside : c.loop-k.k < RULES = omega (arith, group_inside, c.loop-k-test.true) in
     let between : (at c.args.levels.now c.loop-k.k ≡ 0 → ⊥) →
     InSteps YARD_STEPS (rule_at (columns c.args.xs.now c.args.ys.now c.args.cs.now) c.loop-k.k) = λ some. c.requires.steps_in c.loop-k.k (inside, omega (arith, some)) in
-    omega (arith, c.number_at-x.ensures, (between c.if-levels-k-ne0.taken).first_in)
+    omega (arith, c.number_at-x.ensures, (between c.if-levels-k-ne0.true).first_in)
 
 pub offset_bounds-square-y-then-w-square : goal.offset_bounds-square-y-then-w-square
 offset_bounds-square-y-then-w-square c =
@@ -105,7 +107,7 @@ offset_bounds-square-y-then-w-square c =
     let inside : c.loop-k.k < RULES = omega (arith, group_inside, c.loop-k-test.true) in
     let between : (at c.args.levels.now c.loop-k.k ≡ 0 → ⊥) →
     InSteps YARD_STEPS (rule_at (columns c.args.xs.now c.args.ys.now c.args.cs.now) c.loop-k.k) = λ some. c.requires.steps_in c.loop-k.k (inside, omega (arith, some)) in
-    omega (arith, c.number_at-y.ensures, (between c.if-levels-k-ne0.taken).second_in)
+    omega (arith, c.number_at-y.ensures, (between c.if-levels-k-ne0.true).second_in)
 
 pub bounds-square-x-then-w-square : goal.bounds-square-x-then-w-square
 bounds-square-x-then-w-square c =
@@ -114,7 +116,7 @@ bounds-square-x-then-w-square c =
     let inside : c.loop-k.k < RULES = omega (arith, group_inside, c.loop-k-test.true) in
     let between : (at c.args.levels.now c.loop-k.k ≡ 0 → ⊥) →
     InSteps YARD_STEPS (rule_at (columns c.args.xs.now c.args.ys.now c.args.cs.now) c.loop-k.k) = λ some. c.requires.steps_in c.loop-k.k (inside, omega (arith, some)) in
-    omega (arith, c.number_at-x.ensures, (between c.if-levels-k-ne0.taken).first_in)
+    omega (arith, c.number_at-x.ensures, (between c.if-levels-k-ne0.true).first_in)
 
 pub bounds-square-y-then-w-square : goal.bounds-square-y-then-w-square
 bounds-square-y-then-w-square c =
@@ -123,7 +125,7 @@ bounds-square-y-then-w-square c =
     let inside : c.loop-k.k < RULES = omega (arith, group_inside, c.loop-k-test.true) in
     let between : (at c.args.levels.now c.loop-k.k ≡ 0 → ⊥) →
     InSteps YARD_STEPS (rule_at (columns c.args.xs.now c.args.ys.now c.args.cs.now) c.loop-k.k) = λ some. c.requires.steps_in c.loop-k.k (inside, omega (arith, some)) in
-    omega (arith, c.number_at-y.ensures, (between c.if-levels-k-ne0.taken).second_in)
+    omega (arith, c.number_at-y.ensures, (between c.if-levels-k-ne0.true).second_in)
 
 pub overflow_add-seen : goal.overflow_add-seen
 overflow_add-seen c =
@@ -152,15 +154,19 @@ loop-k-preserved c =
     InSteps YARD_STEPS (rule_at (columns c.args.xs.now c.args.ys.now c.args.cs.now) c.loop-k.k) = λ some. c.requires.steps_in c.loop-k.k (inside, omega (arith, some)) in
     let loop = c.loop-k in (
       omega (arith, c.loop-k-test.true),
-      ⊎_elim
-          (λ w.
-          let steps = between w.0.taken in
-          rw (w.6, w.7)
-          (passing_held loop.invariant.1 (inside) (omega (arith, w.0.taken)) w.3.result w.3.ensures steps.first_in steps.second_in
-          w.1.result w.2.result w.1.ensures w.2.ensures w.5.square
-          (⊎_elim (λ v. inl (v.0.taken, v.1)) (λ v. inr (v.0.left, v.1)) w.5.came)))
-          (λ w. rw (w.1, w.2) (passing_free loop.invariant.1 (inside) w.0.left))
-          c.if-levels-k-ne0.branch,
+      elim c.if-levels-k-ne0.branch [
+        | then-levels-k-ne0 w ↦ let steps = between w.if-levels-k-ne0.true in
+            let square = loop.square in
+            let x = w.number_at-x.result in
+            let y = w.number_at-y.result in
+            let low = w.amount_at-w.result in
+            let lowered : ((low < way square x y) × (w.if-w-square.square ≡ put square x y low)) ⊎ ((way square x y ≤ low) × (w.if-w-square.square ≡ square)) =
+            elim w.if-w-square.branch [ then-w-square v ↦ inl (v.if-w-square.true, v.square-is) | else-w-square v ↦ inr (v.if-w-square.false, v.square-is) ] in
+            rw (w.square-is, w.seen-is)
+            (passing_held loop.invariant.1 (inside) (omega (arith, w.if-levels-k-ne0.true)) low w.amount_at-w.ensures steps.first_in steps.second_in
+            x y w.number_at-x.ensures w.number_at-y.ensures w.if-w-square.square lowered)
+        | else-levels-k-ne0 w ↦ rw (w.square-is, w.seen-is) (passing_free loop.invariant.1 (inside) w.if-levels-k-ne0.false)
+      ],
     )
 
 pub loop-seen-smaller : goal.loop-seen-smaller

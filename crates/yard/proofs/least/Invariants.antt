@@ -1,16 +1,11 @@
 -- `yard::least` meets its contract. The invariant of both loops: the square has the least amounts of the places passed, as `Passing` says; the outer one has passed whole groups. The measures are
 -- the numbers of places that are not passed, of all and of the group.
-use Prim.Native.Nat.{ℕ, ◌+◌, ◌*◌, ◌-◌, ◌≤◌, ◌<◌}
+use Prim.Native.Nat.{ℕ, ◌*◌, ◌-◌, ◌≤◌}
 use mathlib.Core.Path.{◌≡◌}
-use mathlib.Core.Logic.{inl, inr, ⊎_elim}
-use Rattle.meaning.specs.Bounds.{RULES, YARD_STEPS}
-use Rattle.meaning.specs.Tables.{rule_at, at, taken}
-use Rattle.meaning.specs.Rules.{InSteps}
-use Rattle.meaning.proofs.Places.{taken_at_most}
+use Rattle.meaning.specs.Bounds.{RULES}
+use Rattle.meaning.specs.Tables.{rule_at}
 use Rattle.lent.specs.Lent.{columns}
-use Rattle.yard.proofs.Passing.{Passing, passing_none, place_left, passing_all, passing_free, passing_held}
-use borrow.Author.Rules.{rules}
-use native.Mathlib.Omega.{arith}
+use Rattle.yard.proofs.Passing.{Passing}
 use Rattle.yard.proofs.least.Given as goal
 
 abbrev pub invariant-loop-k : goal.invariant-loop-k

@@ -1,5 +1,4 @@
 -- `yard::limit_of` meets its contract: `Machine` has each of its needs.
-use borrow.Author.Rules.{rules}
 use Rattle.yard.proofs.Machine.{later_fits, day_fits, limit_fits, limit_read, none_read}
 use Rattle.yard.proofs.limit_of.Goals as goal
 

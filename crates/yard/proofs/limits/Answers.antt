@@ -1,14 +1,10 @@
 -- `yard::limits` meets its contract. The loop's invariant: the cells passed are those of their slacks, and the others are as before. The measure is what is left of the n cells.
-use Prim.Native.Nat.{◌-◌, ◌≤◌}
 use mathlib.Core.Path.{◌≡◌, ◌∙◌, ap}
 use mir.Syntax.{w64}
 use mir.ValLaws.{to_z-of_z}
-use lib.IntN.{pos}
 use Rattle.meaning.specs.Tables.{at}
 use Rattle.yard.specs.Cells.{limit}
-use Rattle.yard.specs.Tables.{Made}
 use Rattle.yard.proofs.Making.{made_none, made_more}
-use borrow.Author.Rules.{rules}
 use native.Mathlib.Omega.{arith}
 use Rattle.yard.proofs.limits.Goals as goal
 
@@ -26,7 +22,7 @@ limit_of-z-requires c = record {
 
 pub loop-y-preserved : goal.loop-y-preserved
 loop-y-preserved c = let loop = c.loop-y in
-    (omega arith, made_more loop.invariant.1 (omega (arith, c.requires.n_bound, c.well-formed.1.1.1.1.0.1.0.1)) _ (to_z-of_z w64 c.limit_of-z.result (record { sfits = c.limit_of-z.type-inv }) ∙ c.limit_of-z.ensures ∙ ap (limit (at c.args.t4 loop.y) c.args.dx) c.day_at.ensures))
+    (omega arith, made_more loop.invariant.1 (omega (arith, c.requires.n_bound, c.well_formed.1.1.1.1.0.1.0.1)) _ (to_z-of_z w64 c.limit_of-z.result (record { sfits = c.limit_of-z.type_inv }) ∙ c.limit_of-z.ensures ∙ ap (limit (at c.args.row loop.y) c.args.dx) c.day_at.ensures))
 
 pub returns : goal.returns
 returns c = let all : c.loop-y.y ≡ c.args.n = omega (arith, c.loop-y.invariant.0, c.loop-y-test.false) in

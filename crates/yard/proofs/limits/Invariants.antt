@@ -1,15 +1,10 @@
 -- `yard::limits` meets its contract. The loop's invariant: the cells passed are those of their slacks, and the others are as before. The measure is what is left of the n cells.
-use Prim.Native.Nat.{◌-◌, ◌≤◌}
-use mathlib.Core.Path.{◌≡◌, ◌∙◌, ap}
-use mir.Syntax.{w64}
-use mir.ValLaws.{to_z-of_z}
+use Prim.Native.Nat.{◌≤◌}
+use mathlib.Core.Path.{◌≡◌}
 use lib.IntN.{pos}
 use Rattle.meaning.specs.Tables.{at}
 use Rattle.yard.specs.Cells.{limit}
 use Rattle.yard.specs.Tables.{Made}
-use Rattle.yard.proofs.Making.{made_none, made_more}
-use borrow.Author.Rules.{rules}
-use native.Mathlib.Omega.{arith}
 use Rattle.yard.proofs.limits.Given as goal
 
 abbrev pub invariant-loop-y : goal.invariant-loop-y

@@ -1,15 +1,10 @@
 -- `yard::raise_row` meets its contract. The loop's invariant: the cells passed are the smaller of what they were and the way, and the others are as before. The measure is what is left of the n cells.
-use Prim.Native.Nat.{◌-◌, ◌≤◌}
 use mathlib.Core.Path.{◌≡◌}
 use lib.ListN.{get_or}
 use lib.IntN.{pos}
 use mir.Syntax.{w64}
-use mir.Val.{to_z}
 use mir.ValLaws.{to_z-of_z}
-use Rattle.gaps.specs.Slacks.{SmallerOf}
-use Rattle.yard.specs.Tables.{Made}
 use Rattle.yard.proofs.Making.{made_none, made_more}
-use borrow.Author.Rules.{rules}
 use native.Mathlib.Omega.{arith}
 use Rattle.yard.proofs.raise_row.Goals as goal
 
@@ -20,18 +15,18 @@ pub smaller-z-requires : goal.smaller-z-requires
 smaller-z-requires c = let loop = c.loop-j in record {
   near = rw (to_z-of_z w64 c.args.p c.ranges.p) c.requires.near;
   in_amount = rw (to_z-of_z w64 c.args.c c.ranges.c) c.requires.in_amount;
-  near_2 = rw (to_z-of_z w64 (get_or c.args.t4 loop.j (pos 0)) (record { sfits = c.smaller-arg-in-loop-j-1.given })) (c.requires.by_index loop.j c.loop-j-test.true);
+  near_2 = rw (to_z-of_z w64 (get_or c.args.via loop.j (pos 0)) (record { sfits = c.smaller-arg-in-loop-j-1.given })) (c.requires.by_index loop.j c.loop-j-test.true);
 }
 
 pub loop-j-preserved : goal.loop-j-preserved
 loop-j-preserved c = let loop = c.loop-j in
     let step =
     rw (
-      to_z-of_z w64 (get_or c.args.t5 loop.j (pos 0)) (record { sfits = c.smaller-arg-1.given }),
-      to_z-of_z w64 (get_or c.args.t4 loop.j (pos 0)) (record { sfits = c.smaller-arg-in-loop-j-1.given }),
+      to_z-of_z w64 (get_or c.args.before loop.j (pos 0)) (record { sfits = c.smaller-arg-1.given }),
+      to_z-of_z w64 (get_or c.args.via loop.j (pos 0)) (record { sfits = c.smaller-arg-in-loop-j-1.given }),
     ) at c.smaller-z.ensures in (
       omega arith,
-      made_more loop.invariant.1 (omega (arith, c.requires.n_bound, c.well-formed.1.1.1.1.0.1.0.1)) _ (rw (to_z-of_z w64 c.smaller-z.result (record { sfits = c.smaller-z.type-inv })) step),
+      made_more loop.invariant.1 (omega (arith, c.requires.n_bound, c.well_formed.1.1.1.1.0.1.0.1)) _ (rw (to_z-of_z w64 c.smaller-z.result (record { sfits = c.smaller-z.type_inv })) step),
     )
 
 pub returns : goal.returns

@@ -1,17 +1,10 @@
 -- `yard::raise_row` meets its contract. The loop's invariant: the cells passed are the smaller of what they were and the way, and the others are as before. The measure is what is left of the n cells.
-use Prim.Native.Nat.{◌-◌, ◌≤◌}
-use mathlib.Core.Path.{◌≡◌}
+use Prim.Native.Nat.{◌≤◌}
 use lib.ListN.{get_or}
 use lib.IntN.{pos}
-use mir.Syntax.{w64}
-use mir.Val.{to_z}
-use mir.ValLaws.{to_z-of_z}
 use Rattle.gaps.specs.Slacks.{SmallerOf}
 use Rattle.yard.specs.Tables.{Made}
-use Rattle.yard.proofs.Making.{made_none, made_more}
-use borrow.Author.Rules.{rules}
-use native.Mathlib.Omega.{arith}
 use Rattle.yard.proofs.raise_row.Given as goal
 
 abbrev pub invariant-loop-j : goal.invariant-loop-j
-invariant-loop-j l = (l.j ≤ l.n) × Made (pos 0) (λ k z. SmallerOf (get_or l.before k (pos 0)) (to_z w64 l.p) (to_z w64 l.c) (get_or l.via k (pos 0)) z) l.j l.before l.new
+invariant-loop-j l = (l.j ≤ l.n) × Made (pos 0) (λ k z. SmallerOf (get_or l.before k (pos 0)) l.p l.c (get_or l.via k (pos 0)) z) l.j l.before l.new

@@ -1,7 +1,6 @@
 -- `yard::raised` meets its contract. The loop's invariant: the rows passed have the ways over the rule, and the others are as before. The measure is what is left of the n rows.
-use Prim.Native.Nat.{◌-◌, ◌≤◌}
 use mathlib.Core.Path.{◌≡◌, sym, subst}
-use mathlib.Core.List.{List, []}
+use mathlib.Core.List.{List}
 use lib.ListN.{get_or}
 use lib.IntN.{ℤ, pos}
 use mir.Syntax.{w64}
@@ -9,9 +8,7 @@ use mir.Val.{to_z, of_z}
 use mir.ValLaws.{to_z-of_z}
 use Rattle.gaps.specs.Gaps.{cell}
 use Rattle.gaps.specs.Slacks.{Near, SmallerOf}
-use Rattle.yard.specs.Tables.{Made}
 use Rattle.yard.proofs.Making.{made_none, made_more, made_same}
-use borrow.Author.Rules.{rules}
 use native.Mathlib.Omega.{arith}
 use Rattle.yard.proofs.raised.Goals as goal
 
@@ -33,7 +30,7 @@ raise_row-next-requires c = let loop = c.loop-i in
 pub loop-i-preserved : goal.loop-i-preserved
 loop-i-preserved c = let loop = c.loop-i in
     let args = c.args in
-    let old = args.t5 in
+    let old = args.before in
     let way = to_z w64 (of_z w64 args.c) in
     let read = to_z-of_z w64 (cell loop.new loop.i args.x) (record { sfits = c.raise_row-arg-1.given }) in
     let same = loop.invariant.1.rest loop.i (omega arith) in
@@ -43,7 +40,7 @@ loop-i-preserved c = let loop = c.loop-i in
     subst (λ (l : List ℤ). SmallerOf (get_or l j (pos 0)) (get_or l args.x (pos 0)) way (cell old args.y j) z) same
     (subst (λ (p : ℤ). SmallerOf (cell loop.new loop.i j) p way (cell old args.y j) z) read h))
     same c.raise_row-next.ensures in
-    (omega arith, made_more loop.invariant.1 (omega (arith, c.requires.n_bound, c.well-formed.1.1.1.1.0.1.0.1)) _ row)
+    (omega arith, made_more loop.invariant.1 (omega (arith, c.requires.n_bound, c.well_formed.1.1.1.1.0.1.0.1)) _ row)
 
 pub returns : goal.returns
 returns c = let all : c.loop-i.i ≡ c.args.n = omega (arith, c.loop-i.invariant.0, c.loop-i-test.false) in

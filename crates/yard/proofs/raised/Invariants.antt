@@ -1,19 +1,12 @@
 -- `yard::raised` meets its contract. The loop's invariant: the rows passed have the ways over the rule, and the others are as before. The measure is what is left of the n rows.
-use Prim.Native.Nat.{◌-◌, ◌≤◌}
-use mathlib.Core.Path.{◌≡◌, sym, subst}
-use mathlib.Core.List.{List, []}
+use Prim.Native.Nat.{◌≤◌}
+use mathlib.Core.List.{[]}
 use lib.ListN.{get_or}
-use lib.IntN.{ℤ, pos}
-use mir.Syntax.{w64}
-use mir.Val.{to_z, of_z}
-use mir.ValLaws.{to_z-of_z}
+use lib.IntN.{pos}
 use Rattle.gaps.specs.Gaps.{cell}
-use Rattle.gaps.specs.Slacks.{Near, SmallerOf}
+use Rattle.gaps.specs.Slacks.{SmallerOf}
 use Rattle.yard.specs.Tables.{Made}
-use Rattle.yard.proofs.Making.{made_none, made_more, made_same}
-use borrow.Author.Rules.{rules}
-use native.Mathlib.Omega.{arith}
 use Rattle.yard.proofs.raised.Given as goal
 
 abbrev pub invariant-loop-i : goal.invariant-loop-i
-invariant-loop-i l = (l.i ≤ l.n) × Made [] (λ k row. Made (pos 0) (λ j z. SmallerOf (cell l.initial.new k j) (cell l.initial.new k l.x) (to_z w64 l.c) (cell l.initial.new l.y j) z) l.n (get_or l.initial.new k []) row) l.i l.initial.new l.new
+invariant-loop-i l = (l.i ≤ l.n) × Made [] (λ k row. Made (pos 0) (λ j z. SmallerOf (cell l.initial.new k j) (cell l.initial.new k l.x) l.c (cell l.initial.new l.y j) z) l.n (get_or l.initial.new k []) row) l.i l.initial.new l.new

@@ -4,7 +4,6 @@ use Rattle.lent.specs.Idle.{unwatched}
 use Rattle.lent.specs.Lent.{columns, held_by}
 use Rattle.yard.proofs.Results.{slackable, written_none, written_all, written_remade}
 use native.Mathlib.Omega.{arith}
-use borrow.Author.Rules.{rules}
 use Rattle.yard.proofs.remake.Goals as goal
 
 pub returns-then-n-gt-YARD_STEPS : goal.returns-then-n-gt-YARD_STEPS

@@ -1,26 +1,22 @@
 -- `yard::same_row` meets its contract. The loop's invariant: the answer tells whether the cells passed are the same. The measure is what is left of the row.
-use Prim.Native.Nat.{◌-◌, ◌≤◌}
 use mathlib.Core.Path.{◌≡◌}
-use mathlib.Core.Logic.{⊎_elim}
 use Rattle.meaning.specs.Bounds.{YARD_STEPS}
-use Rattle.lent.specs.Decides.{Decides}
-use Rattle.yard.proofs.Comparing.{SameTo, same_none, same_differs, same_more}
-use borrow.Author.Rules.{rules}
+use Rattle.yard.proofs.Comparing.{same_none, same_differs, same_more}
 use native.Mathlib.Omega.{arith}
 use Rattle.yard.proofs.same_row.Goals as goal
 use Rattle.yard.proofs.same_row.Goals.{else-a-y, then-a-y}
 
 pub loop-y-init : goal.loop-y-init
-loop-y-init c = (omega arith, same_none c.args.t1 c.args.t2)
+loop-y-init c = (omega arith, same_none c.args.a c.args.b)
 
 pub loop-y-preserved : goal.loop-y-preserved
 loop-y-preserved c = let loop = c.loop-y in
     let args = c.args in
     elim c.if-a-y.branch [
-      | then-a-y w ↦ (omega arith, same_differs args.t1 args.t2 loop.y w.if-a-y.true w.same-is)
+      | then-a-y w ↦ (omega arith, same_differs args.a args.b loop.y w.if-a-y.true w.same-is)
       | else-a-y w ↦ (
         omega arith,
-        same_more args.t1 args.t2 loop.y (record { sfits = c.t11-1.given }) (record { sfits = c.t15-1.given }) w.if-a-y.false w.same-is loop.invariant.1,
+        same_more args.a args.b loop.y (record { sfits = c.t11-1.given }) (record { sfits = c.t15-1.given }) w.if-a-y.false w.same-is loop.invariant.1,
       )
     ]
 

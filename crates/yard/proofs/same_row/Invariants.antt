@@ -1,12 +1,8 @@
 -- `yard::same_row` meets its contract. The loop's invariant: the answer tells whether the cells passed are the same. The measure is what is left of the row.
-use Prim.Native.Nat.{◌-◌, ◌≤◌}
-use mathlib.Core.Path.{◌≡◌}
-use mathlib.Core.Logic.{⊎_elim}
+use Prim.Native.Nat.{◌≤◌}
 use Rattle.meaning.specs.Bounds.{YARD_STEPS}
 use Rattle.lent.specs.Decides.{Decides}
-use Rattle.yard.proofs.Comparing.{SameTo, same_none, same_differs, same_more}
-use borrow.Author.Rules.{rules}
-use native.Mathlib.Omega.{arith}
+use Rattle.yard.proofs.Comparing.{SameTo}
 use Rattle.yard.proofs.same_row.Given as goal
 
 abbrev pub invariant-loop-y : goal.invariant-loop-y

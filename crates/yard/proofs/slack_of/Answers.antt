@@ -2,7 +2,6 @@
 use mathlib.Core.Path.{refl}
 use mathlib.Core.Logic.{inl, inr}
 use native.Mathlib.Omega.{arith}
-use borrow.Author.Rules.{rules}
 use Rattle.yard.proofs.slack_of.Goals as goal
 
 pub returns-then-w-ge-NONE : goal.returns-then-w-ge-NONE

@@ -1,14 +1,13 @@
 -- `yard::slack_row` meets its contract. The loop's invariant: the cells passed are the slacks of the least amounts, where that of the step itself is 0 days. The measure is what is left of the row.
-use Prim.Native.Nat.{ℕ, ◌+◌, ◌-◌, ◌≤◌, ◌<◌}
+use Prim.Native.Nat.{ℕ, ◌+◌}
 use mathlib.Core.Path.{◌≡◌, subst}
 use lib.ListN.{length, set, length-set}
 use Rattle.meaning.specs.Bounds.{YARD_STEPS}
 use Rattle.meaning.specs.Tables.{at}
 use Rattle.lent.specs.Lent.{BIAS}
-use Rattle.yard.specs.Tables.{Made, SlackOf}
+use Rattle.yard.specs.Tables.{SlackOf}
 use Rattle.yard.proofs.Making.{made_none, made_more}
 use Rattle.yard.proofs.Lifting.{row_lifts, row_slack}
-use borrow.Author.Rules.{rules}
 use native.Mathlib.Omega.{arith}
 use Rattle.yard.proofs.slack_row.Goals as goal
 
@@ -20,7 +19,7 @@ loop-y-init c = (omega arith, made_none _)
 
 pub slack_of-z-requires : goal.slack_of-z-requires
 slack_of-z-requires c =
-    let long : length c.args.row ≡ YARD_STEPS = c.well-formed.1.1.0.1.0.1 in
+    let long : length c.args.row ≡ YARD_STEPS = c.well_formed.1.1.0.1.0.1 in
     let loop = c.loop-y in
     let args = c.args in record {
       dy_bound = omega (arith, c.day_at.ensures, c.type_inv.days loop.y);
@@ -29,14 +28,14 @@ slack_of-z-requires c =
 
 pub loop-y-preserved : goal.loop-y-preserved
 loop-y-preserved c =
-    let long : length c.args.row ≡ YARD_STEPS = c.well-formed.1.1.0.1.0.1 in
+    let long : length c.args.row ≡ YARD_STEPS = c.well_formed.1.1.0.1.0.1 in
     let loop = c.loop-y in
     let args = c.args in
     (omega arith, made_more loop.invariant.1 (omega (arith, long, length-set args.row args.x BIAS)) c.slack_of-z.result (subst (λ (d : ℕ). SlackOf (at (set args.row args.x BIAS) loop.y) (c.day_at-dx.result + BIAS) d c.slack_of-z.result) c.day_at.ensures c.slack_of-z.ensures))
 
 pub returns : goal.returns
 returns c =
-    let long : length c.args.row ≡ YARD_STEPS = c.well-formed.1.1.0.1.0.1 in
+    let long : length c.args.row ≡ YARD_STEPS = c.well_formed.1.1.0.1.0.1 in
     let loop = c.loop-y in
     let args = c.args in
     λ y below.

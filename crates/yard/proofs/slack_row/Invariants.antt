@@ -1,15 +1,8 @@
 -- `yard::slack_row` meets its contract. The loop's invariant: the cells passed are the slacks of the least amounts, where that of the step itself is 0 days. The measure is what is left of the row.
-use Prim.Native.Nat.{ℕ, ◌+◌, ◌-◌, ◌≤◌, ◌<◌}
-use mathlib.Core.Path.{◌≡◌, subst}
-use lib.ListN.{length, set, length-set}
+use Prim.Native.Nat.{◌≤◌}
 use Rattle.meaning.specs.Bounds.{YARD_STEPS}
 use Rattle.meaning.specs.Tables.{at}
-use Rattle.lent.specs.Lent.{BIAS}
 use Rattle.yard.specs.Tables.{Made, SlackOf}
-use Rattle.yard.proofs.Making.{made_none, made_more}
-use Rattle.yard.proofs.Lifting.{row_lifts, row_slack}
-use borrow.Author.Rules.{rules}
-use native.Mathlib.Omega.{arith}
 use Rattle.yard.proofs.slack_row.Given as goal
 
 abbrev pub invariant-loop-y : goal.invariant-loop-y

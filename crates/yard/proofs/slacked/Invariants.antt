@@ -1,13 +1,9 @@
 -- `yard::slacked` meets its contract. The loop's invariant: the rows passed have the slacks of the least amounts, and the others are as before. The measure is what is left of the rows.
-use Prim.Native.Nat.{ℕ, ◌-◌, ◌≤◌}
-use mathlib.Core.Path.{◌≡◌, sym, subst}
-use mathlib.Core.List.{List, []}
+use Prim.Native.Nat.{◌≤◌}
+use mathlib.Core.List.{[]}
 use lib.ListN.{get_or}
 use Rattle.meaning.specs.Bounds.{YARD_STEPS}
-use Rattle.yard.specs.Tables.{Made, RowKept, RowSlack}
-use Rattle.yard.proofs.Making.{made_none, made_more}
-use borrow.Author.Rules.{rules}
-use native.Mathlib.Omega.{arith}
+use Rattle.yard.specs.Tables.{Made, RowSlack}
 use Rattle.yard.proofs.slacked.Given as goal
 
 abbrev pub invariant-loop-x : goal.invariant-loop-x

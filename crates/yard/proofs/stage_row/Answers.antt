@@ -1,13 +1,10 @@
 -- `yard::stage_row` meets its contract. The loop's invariant: the cells passed are the smaller of what they were and the way. The measure is what is left of the row.
-use Prim.Native.Nat.{◌+◌, ◌-◌, ◌≤◌, min}
+use Prim.Native.Nat.{◌+◌, min}
 use mathlib.Core.Path.{◌≡◌}
-use mathlib.Core.Logic.{inl, inr, ⊎_elim}
-use Rattle.meaning.specs.Bounds.{YARD_STEPS}
+use mathlib.Core.Logic.{inl, inr}
 use Rattle.meaning.specs.Tables.{at}
-use Rattle.yard.specs.Tables.{Made}
 use Rattle.yard.proofs.Making.{made_none, made_more}
 use Rattle.yard.proofs.Staging.{smaller_is}
-use borrow.Author.Rules.{rules}
 use native.Mathlib.Omega.{arith}
 use Rattle.yard.proofs.stage_row.Goals as goal
 use Rattle.yard.proofs.stage_row.Goals.{else-way-cell, then-way-cell}
@@ -21,8 +18,12 @@ overflow_add-way c = omega (arith, c.requires.row_bounded c.loop-y.y (omega arit
 pub loop-y-preserved : goal.loop-y-preserved
 loop-y-preserved c = let loop = c.loop-y in
     let args = c.args in
-    let step = elim c.if-way-cell.branch [ then-way-cell w ↦ smaller_is (at args.t3 loop.y) (args.base + at args.t2 loop.y) c.if-way-cell.cell (inl (w.if-way-cell.true, w.new-is)) | else-way-cell w ↦ smaller_is (at args.t3 loop.y) (args.base + at args.t2 loop.y) c.if-way-cell.cell (inr (w.if-way-cell.false, w.new-is)) ] in
-    (omega arith, made_more loop.invariant.1 (omega (arith, c.well-formed.1.1.0.1.0.1)) c.if-way-cell.cell step)
+    let step : c.if-way-cell.cell ≡ min (at args.row loop.y) (args.base + at args.via loop.y) =
+    elim c.if-way-cell.branch [
+      | then-way-cell w ↦ smaller_is (at args.row loop.y) (args.base + at args.via loop.y) c.if-way-cell.cell (inl (w.if-way-cell.true, w.cell-is))
+      | else-way-cell w ↦ smaller_is (at args.row loop.y) (args.base + at args.via loop.y) c.if-way-cell.cell (inr (w.if-way-cell.false, w.cell-is))
+    ] in
+    (omega arith, made_more loop.invariant.1 (omega (arith, c.well_formed.1.1.0.1.0.1)) c.if-way-cell.cell step)
 
 pub returns : goal.returns
 returns c = let loop = c.loop-y in

@@ -1,14 +1,9 @@
 -- `yard::stage_row` meets its contract. The loop's invariant: the cells passed are the smaller of what they were and the way. The measure is what is left of the row.
-use Prim.Native.Nat.{◌+◌, ◌-◌, ◌≤◌, min}
+use Prim.Native.Nat.{◌+◌, ◌≤◌, min}
 use mathlib.Core.Path.{◌≡◌}
-use mathlib.Core.Logic.{inl, inr, ⊎_elim}
 use Rattle.meaning.specs.Bounds.{YARD_STEPS}
 use Rattle.meaning.specs.Tables.{at}
 use Rattle.yard.specs.Tables.{Made}
-use Rattle.yard.proofs.Making.{made_none, made_more}
-use Rattle.yard.proofs.Staging.{smaller_is}
-use borrow.Author.Rules.{rules}
-use native.Mathlib.Omega.{arith}
 use Rattle.yard.proofs.stage_row.Given as goal
 
 abbrev pub invariant-loop-y : goal.invariant-loop-y

@@ -1,15 +1,10 @@
 -- `yard::written` meets its contract. The loop's invariant: the rows passed are those of their slacks, and the others are as before. The measure is what is left of the n rows.
-use Prim.Native.Nat.{ℕ, ◌-◌, ◌≤◌}
+use Prim.Native.Nat.{ℕ}
 use mathlib.Core.Path.{◌≡◌, ◌∙◌, ap}
-use mathlib.Core.List.{[]}
-use lib.ListN.{get_or}
-use lib.IntN.{pos}
 use Rattle.meaning.specs.Tables.{at}
 use Rattle.yard.specs.Cells.{limit}
 use Rattle.yard.specs.Squares.{way}
-use Rattle.yard.specs.Tables.{Made}
 use Rattle.yard.proofs.Making.{made_none, made_more, made_same}
-use borrow.Author.Rules.{rules}
 use native.Mathlib.Omega.{arith}
 use Rattle.yard.proofs.written.Goals as goal
 
@@ -25,12 +20,12 @@ limits-next-requires c = let loop = c.loop-x in record {
 
 pub loop-x-preserved : goal.loop-x-preserved
 loop-x-preserved c = let loop = c.loop-x in
-    let square = c.args.t3 in
+    let square = c.args.square in
     let days = c.args.days.now in
     let row =
     made_same (λ y z e. e ∙ ap (λ (d : ℕ). limit (way square loop.x y) d (at days y)) c.day_at.ensures) (loop.invariant.1.rest loop.x (omega arith))
     c.limits-next.ensures in
-    (omega arith, made_more loop.invariant.1 (omega (arith, c.requires.n_bound, c.well-formed.1.1.1.0.1.0.1)) _ row)
+    (omega arith, made_more loop.invariant.1 (omega (arith, c.requires.n_bound, c.well_formed.1.1.1.0.1.0.1)) _ row)
 
 pub returns : goal.returns
 returns c = let all : c.loop-x.x ≡ c.args.n = omega (arith, c.loop-x.invariant.0, c.loop-x-test.false) in

@@ -1,6 +1,6 @@
 -- `yard::written` meets its contract. The loop's invariant: the rows passed are those of their slacks, and the others are as before. The measure is what is left of the n rows.
-use Prim.Native.Nat.{ℕ, ◌-◌, ◌≤◌}
-use mathlib.Core.Path.{◌≡◌, ◌∙◌, ap}
+use Prim.Native.Nat.{◌≤◌}
+use mathlib.Core.Path.{◌≡◌}
 use mathlib.Core.List.{[]}
 use lib.ListN.{get_or}
 use lib.IntN.{pos}
@@ -8,9 +8,6 @@ use Rattle.meaning.specs.Tables.{at}
 use Rattle.yard.specs.Cells.{limit}
 use Rattle.yard.specs.Squares.{way}
 use Rattle.yard.specs.Tables.{Made}
-use Rattle.yard.proofs.Making.{made_none, made_more, made_same}
-use borrow.Author.Rules.{rules}
-use native.Mathlib.Omega.{arith}
 use Rattle.yard.proofs.written.Given as goal
 
 abbrev pub invariant-loop-x : goal.invariant-loop-x
