@@ -1,7 +1,7 @@
 -- Settling the open step of largest gain keeps what the turns keep; and passing over numbers that are no rules of the step settled last.
 use Prim.Native.Nat.{ℕ, suc, ◌+◌, ◌-◌, ◌≤◌, ◌<◌}
 use native.Mathlib.Omega.{arith}
-use native.Mathlib.Decide.{ℕ_discrete, dec_lt, dec_le}
+use native.Mathlib.Decide.{ℕ_discrete, dec_lt}
 use mathlib.Core.Path.{◌≡◌, sym, ◌∙◌, ap}
 use Rattle.meaning.specs.Rules.{Rule, InSteps}
 use Rattle.meaning.specs.Reckoning.{up, dn}

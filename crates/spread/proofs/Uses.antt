@@ -4,7 +4,7 @@ use Prim.Native.Nat.{ℕ, ◌+◌, ◌-◌, ◌≤◌, ◌<◌, max}
 use native.Mathlib.Omega.{arith}
 use native.Mathlib.Decide.{ℕ_discrete}
 use mathlib.Core.Path.{◌≡◌, ap}
-use lib.IntN.{ℤ, pos}
+use lib.IntN.{pos}
 use Rattle.meaning.specs.Rules.{Rule, Keeps, InSteps, Plan, Earliest, Always, Fits, more, plus}
 use Rattle.meaning.specs.Reckoning.{up, dn}
 use Rattle.meaning.proofs.Whole.{keeps→, →keeps, plan→, →plan}

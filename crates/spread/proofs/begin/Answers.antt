@@ -9,7 +9,6 @@ use Rattle.spread.specs.Clauses.{Collected}
 use Rattle.spread.proofs.Collecting.{collected_alone, led_all_but}
 use Rattle.spread.proofs.Relaxing.{room_set}
 use native.Mathlib.Omega.{arith}
-use borrow.Author.Rules.{rules}
 use Rattle.spread.proofs.begin.Goals as goal
 
 pub enter-requires : goal.enter-requires

@@ -1,16 +1,14 @@
 -- `spread::collect` meets its contract. The loop's invariant: of the steps passed, those with a gain are collected. The measure is what is left
 -- of the steps.
-use Prim.Native.Nat.{ℕ, ◌-◌, ◌≤◌}
+use Prim.Native.Nat.{ℕ}
 use mathlib.Core.Path.{◌≡◌, refl, ◌∙◌, subst}
-use mathlib.Core.Logic.{inl, inr, ⊎_elim}
-use lib.ListN.{length, length-set}
+use mathlib.Core.Logic.{inl, inr}
+use lib.ListN.{length-set}
 use Rattle.meaning.specs.Tables.{at}
-use Rattle.waiting.specs.Waiting.{Led}
 use Rattle.waiting.proofs.Leading.{led_none}
 use Rattle.spread.specs.Clauses.{Collected}
 use Rattle.spread.proofs.Collecting.{collected_none, collected_one, step_after, led_all_but}
 use Rattle.spread.proofs.Walking.{room_kept}
-use borrow.Author.Rules.{rules}
 use native.Mathlib.Omega.{arith}
 use Rattle.spread.proofs.collect.Goals as goal
 use Rattle.spread.proofs.collect.Goals.{else-gain_at-gt0, then-gain_at-gt0}

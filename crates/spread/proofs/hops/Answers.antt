@@ -1,8 +1,7 @@
 -- `spread::hops` meets its contract. The loop's invariant: the walk back from x has come to v in k hops. The measure is how many steps there are
 -- besides those passed.
 use Rattle.chains.specs.Chains.{linked}
-use Prim.Native.Nat.{◌-◌}
-use Rattle.spread.proofs.Ringing.{Hop, hop, WalkedBack, back_none, back_more, back_few, back_done}
+use Rattle.spread.proofs.Ringing.{Hop, hop, back_none, back_more, back_few, back_done}
 use native.Mathlib.Omega.{arith}
 use Rattle.spread.proofs.hops.Goals as goal
 
@@ -34,7 +33,7 @@ overflow_add-k c = let a = c.args in
     omega (
       arith,
       back_few a.n (linked a.nexts.now) a.m a.xs.now a.ys.now a.cs.now a.days.now a.gains.now a.by.now a.x a.y c.requires c.loop-v.v c.loop-v.k c.loop-v.invariant,
-      c.fits.n,
+      c.ranges.n.fits,
     )
 
 pub loop-v-smaller : goal.loop-v-smaller

@@ -2,8 +2,7 @@
 -- besides those passed.
 use Rattle.chains.specs.Chains.{linked}
 use Prim.Native.Nat.{◌-◌}
-use Rattle.spread.proofs.Ringing.{Hop, hop, WalkedBack, back_none, back_more, back_few, back_done}
-use native.Mathlib.Omega.{arith}
+use Rattle.spread.proofs.Ringing.{WalkedBack}
 use Rattle.spread.proofs.hops.Given as goal
 
 abbrev pub invariant-loop-v : goal.invariant-loop-v

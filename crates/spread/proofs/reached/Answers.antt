@@ -1,7 +1,6 @@
 -- `spread::reached` meets its contract: the halves of the `&&` are the two parts of the claim.
 use borrow.Author.Tests.{ltb-true, ltb-false}
 use native.Mathlib.Omega.{arith}
-use borrow.Author.Rules.{rules}
 use Rattle.spread.proofs.reached.Goals as goal
 
 pub returns-then-goal-n : goal.returns-then-goal-n

@@ -8,7 +8,6 @@ use Rattle.waiting.proofs.Places.{put_set}
 use Rattle.waiting.proofs.Leading.{fresh}
 use Rattle.spread.proofs.Relaxing.{kept, raised, room_set, led_set}
 use native.Mathlib.Omega.{arith}
-use borrow.Author.Rules.{rules}
 use Rattle.spread.proofs.relax.Goals as goal
 
 pub overflow_add-far : goal.overflow_add-far

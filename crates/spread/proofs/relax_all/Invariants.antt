@@ -1,16 +1,11 @@
 -- `spread::relax_all` meets its contract. The loop's invariant: the rules of x from the link on have been relaxed. The measure is the link.
 use Rattle.chains.specs.Chains.{number, linked}
-use Rattle.chains.proofs.Laws.{next_lower}
-use Prim.Native.Nat.{suc, ◌-◌, ◌<◌}
-use mathlib.Core.Path.{◌≡◌, refl, ◌∙◌}
+use mathlib.Core.Path.{◌≡◌}
 use lib.ListN.{length}
 use Rattle.meaning.specs.Tables.{at}
-use Rattle.chains.proofs.Walk.{Link, link_head, link_next}
+use Rattle.chains.proofs.Walk.{Link}
 use Rattle.waiting.specs.Waiting.{Led}
-use Rattle.spread.specs.Clauses.{StepsRoom}
-use Rattle.spread.proofs.Walking.{relaxable, room_kept, Walked, walked_none, walked_more, walked_all}
-use borrow.Author.Rules.{rules}
-use native.Mathlib.Omega.{arith}
+use Rattle.spread.proofs.Walking.{Walked}
 use Rattle.spread.proofs.relax_all.Given as goal
 
 abbrev pub invariant-loop-link : goal.invariant-loop-link

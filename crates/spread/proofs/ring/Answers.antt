@@ -1,13 +1,12 @@
 -- `spread::ring` meets its contract. The loop's invariant: the ring is written from its end as far as place j, where the walk back has come to v.
 -- The measure is the place.
 use Rattle.chains.specs.Chains.{linked}
-use Prim.Native.Nat.{◌-◌, ◌≤◌, ◌<◌}
-use mathlib.Core.Path.{◌≡◌, refl, ◌∙◌}
+use Prim.Native.Nat.{◌-◌, ◌<◌}
+use mathlib.Core.Path.{refl, ◌∙◌}
 use lib.ListN.{length, set, length-set}
 use Rattle.meaning.specs.Tables.{at}
 use Rattle.waiting.proofs.Places.{put_set}
-use Rattle.spread.proofs.Ringing.{Hop, hop, arrives_on, Written, written_none, written_more, written_done}
-use borrow.Author.Rules.{rules}
+use Rattle.spread.proofs.Ringing.{Hop, hop, arrives_on, written_none, written_more, written_done}
 use native.Mathlib.Omega.{arith}
 use Rattle.spread.proofs.ring.Goals as goal
 

@@ -1,16 +1,13 @@
 -- `spread::settle_all` meets its contract. The loop's invariant: a turn can be made, and the state is one between two turns. The measure is how
 -- many steps are without gain or in the list, which each turn brings down.
-use Rattle.chains.specs.Chains.{number, linked}
+use Rattle.chains.specs.Chains.{linked}
 use Prim.Native.Nat.{ℕ, ◌+◌, ◌≤◌}
-use mathlib.Core.Path.{◌≡◌, refl, ◌∙◌}
+use mathlib.Core.Path.{◌≡◌}
 use lib.ListN.{length}
 use Rattle.meaning.specs.Tables.{at}
 use Rattle.waiting.specs.Waiting.{Led}
 use Rattle.spread.specs.Ground.{rules}
 use Rattle.spread.specs.State.{without_gain, Ready, BetweenTurns}
-use Rattle.spread.proofs.Walking.{room_kept}
-use Rattle.spread.proofs.Ends.{stopped}
-use native.Mathlib.Omega.{arith}
 use Rattle.spread.proofs.settle_all.Given as goal
 
 abbrev pub invariant-loop-left : goal.invariant-loop-left

@@ -2,7 +2,7 @@
 use Rattle.chains.specs.Chains.{linked}
 use Prim.Native.Nat.{ℕ, ◌+◌, ◌^◌, ◌<◌}
 use native.Mathlib.Decide.{ℕ_discrete}
-use mathlib.Core.Path.{◌≡◌, ◌∙◌, ap}
+use mathlib.Core.Path.{◌≡◌, ap}
 use Rattle.meaning.specs.Tables.{at}
 use Rattle.waiting.specs.Waiting.{Put}
 use Rattle.spread.specs.Clauses.{alone}
@@ -47,26 +47,6 @@ settle_all-requires c = let a = c.args in
           (small a.n a.y a.gain (at a.gains.now) (at begin.new.gains) asked.small asked.none_yet begun.asked) begun.collected;
       led = begin.ensures.led;
     }
-
-pub shape_of-gains : goal.shape_of-gains
-shape_of-gains c = let begin = c.begin-k in
-    c.settle_all.auto.gains ∙ begin.kept.1.1.1.0
-
-pub shape_of-by : goal.shape_of-by
-shape_of-by c = let begin = c.begin-k in
-    c.settle_all.auto.by ∙ begin.kept.1.1.1.1.0
-
-pub shape_of-list : goal.shape_of-list
-shape_of-list c = let begin = c.begin-k in
-    c.settle_all.auto.list ∙ begin.kept.1.1.1.1.1.0
-
-pub shape_of-places : goal.shape_of-places
-shape_of-places c = let begin = c.begin-k in
-    c.settle_all.auto.places ∙ begin.kept.1.1.1.1.1.1.0
-
-pub shape_of-leaders : goal.shape_of-leaders
-shape_of-leaders c = let begin = c.begin-k in
-    c.settle_all.auto.leaders ∙ begin.kept.1.1.1.1.1.1.1.0
 
 pub returns : goal.returns
 returns c = let a = c.args in

@@ -1,6 +1,5 @@
 -- `spread::spread_one` meets its contract: lists of FEW places, or of STEPS, have a place for each step.
 use native.Mathlib.Omega.{arith}
-use borrow.Author.Rules.{rules}
 use Rattle.spread.proofs.spread_one.Goals as goal
 
 pub spread_in-requires : goal.spread_in-requires
@@ -15,14 +14,6 @@ spread_in-requires c = let pre = c.requires in record {
     leaders_room = omega (arith, c.if-n-le-FEW.true);
   };
 }
-
-pub shape_of-gains-then-n-le-FEW : goal.shape_of-gains-then-n-le-FEW
-shape_of-gains-then-n-le-FEW c = let spread-in = c.spread_in in
-    spread-in.kept.1.1.1.1.1.1.1.1.1.1.0
-
-pub shape_of-by-then-n-le-FEW : goal.shape_of-by-then-n-le-FEW
-shape_of-by-then-n-le-FEW c = let spread-in = c.spread_in in
-    spread-in.kept.1.1.1.1.1.1.1.1.1.1.1.0
 
 pub returns-then-n-le-FEW : goal.returns-then-n-le-FEW
 returns-then-n-le-FEW c = let spread-in = c.spread_in in
@@ -40,14 +31,6 @@ spread_in-requires-2 c = let pre = c.requires in record {
     leaders_room = omega (arith, pre.ground.steps_in);
   };
 }
-
-pub shape_of-gains : goal.shape_of-gains
-shape_of-gains c = let spread-in2 = c.spread_in-2 in
-    spread-in2.kept.1.1.1.1.1.1.1.1.1.1.0
-
-pub shape_of-by : goal.shape_of-by
-shape_of-by c = let spread-in2 = c.spread_in-2 in
-    spread-in2.kept.1.1.1.1.1.1.1.1.1.1.1.0
 
 pub returns : goal.returns
 returns c = let spread-in2 = c.spread_in-2 in

@@ -5,7 +5,6 @@ use Rattle.meaning.specs.Tables.{at}
 use Rattle.spread.proofs.Walking.{room_kept}
 use Rattle.spread.proofs.Turning.{ready_without, turned}
 use native.Mathlib.Omega.{arith}
-use borrow.Author.Rules.{rules}
 use Rattle.spread.proofs.turn.Goals as goal
 
 pub take-x-requires : goal.take-x-requires
