@@ -1,13 +1,8 @@
 -- `inner_watch::free_all`: the places passed are free, and the rest is as before. The measure is what is left of the places.
-use Prim.Native.Nat.{◌≤◌, ◌-◌}
 use mathlib.Core.Path.{◌≡◌}
 use Rattle.meaning.specs.Bounds.{RULES}
-use Rattle.inner_watch.specs.Cleared.{Freed}
 use Rattle.inner_watch.proofs.Clearing.{freed_none, freed_more}
-use borrow.Author.Rules.{rules}
 use native.Mathlib.Omega.{arith}
-use Rattle.inner_watch.proofs.free_all.Reads as reads
-use Rattle.inner_watch.proofs.free_all.Lts as lts
 use Rattle.inner_watch.proofs.free_all.Goals as goal
 
 pub loop-i-init : goal.loop-i-init

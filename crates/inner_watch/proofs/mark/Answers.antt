@@ -4,12 +4,6 @@ use mathlib.Core.Logic.{inl, inr}
 use Rattle.meaning.specs.Bounds.{FULL}
 use Rattle.meaning.proofs.Needs.{obeys_done, obeys_refused}
 use native.Mathlib.Omega.{arith}
-use borrow.Author.Rules.{rules}
-use Rattle.inner_watch.proofs.mark.Reads as reads
-use Rattle.inner_watch.proofs.mark.Lts as lts
-use Rattle.meaning.proofs.done.Reads as done-reads
-use Rattle.meaning.proofs.marks_now.Reads as marks-now-reads
-use Rattle.meaning.proofs.refused.Reads as refused-reads
 use Rattle.inner_watch.proofs.mark.Goals as goal
 
 pub returns-then-counts-ge-MARKS : goal.returns-then-counts-ge-MARKS

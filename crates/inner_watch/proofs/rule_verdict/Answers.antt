@@ -3,12 +3,7 @@ use mathlib.Core.Path.{refl}
 use mathlib.Core.Logic.{inl, inr}
 use mir.Syntax.{w32}
 use mir.ValLaws.{to_z-of_z}
-use borrow.Author.Tests.{not-true, not-false}
 use native.Mathlib.Omega.{arith}
-use borrow.Author.Rules.{rules}
-use Rattle.inner_watch.proofs.rule_verdict.Reads as reads
-use Rattle.inner_watch.proofs.rule_verdict.Lts as lts
-use Rattle.lent.proofs.amount_fits.Reads as amount-fits-reads
 use Rattle.inner_watch.proofs.rule_verdict.Goals as goal
 
 pub returns-then-steps-x : goal.returns-then-steps-x

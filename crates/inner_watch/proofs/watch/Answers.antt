@@ -12,14 +12,6 @@ use Rattle.meaning.specs.Rules.{rule}
 use Rattle.inner_watch.proofs.Equal.{tables_equal}
 use Rattle.inner_watch.proofs.Verdict.{rule_steps, rule_amount, rule_refused, rule_no_conflict}
 use native.Mathlib.Omega.{arith}
-use borrow.Author.Rules.{rules}
-use Rattle.inner_watch.proofs.watch.Reads as reads
-use Rattle.inner_watch.proofs.watch.Lts as lts
-use Rattle.inner_watch.proofs.rule_verdict.Reads as rule-verdict-reads
-use Rattle.inner_watch.proofs.write_rule.Reads as write-rule-reads
-use Rattle.meaning.proofs.done.Reads as done-reads
-use Rattle.meaning.proofs.refused.Reads as refused-reads
-use Rattle.meaning.proofs.watched_now.Reads as watched-now-reads
 use Rattle.inner_watch.proofs.watch.Goals as goal
 
 pub returns-then-number-gt0 : goal.returns-then-number-gt0
