@@ -1,5 +1,5 @@
 -- The bits of a number, and the flags of steps that are kept in them.
-use Prim.Native.Nat.{ℕ, suc, ◌+◌, ◌*◌, ◌-◌, ◌^◌, ◌/◌, ◌%◌, ◌≤◌, ◌<◌, max}
+use Prim.Native.Nat.{ℕ, suc, ◌+◌, ◌*◌, ◌-◌, ◌^◌, ◌/◌, ◌%◌, ◌<◌, max}
 use native.Mathlib.Omega.{arith}
 use native.Mathlib.Decide.{ℕ_discrete, dec_lt}
 use native.Mathlib.Nat.{add-zero, zero-mul, zero-div, div_self, div-eq_of_lt, div-add-mod', mod-lt, mod-eq_of_lt, mul-mod_left, mul-add-mod_self_right, pow-suc}

@@ -1,16 +1,10 @@
 -- `ringcheck::closes` meets its contract. The loop's invariant: the sum is at most 4294967296 for each rule passed, and the list closes the ring exactly when
 -- what is left of it does. The measure is what is left of the list.
-use Prim.Native.Nat.{◌+◌, ◌*◌, ◌-◌, ◌≤◌}
 use mathlib.Core.Path.{refl}
-use mathlib.Core.Logic.{◌↔◌}
-use lib.ListN.{length}
-use borrow.Author.Rules.{rules}
-use borrow.Author.Tests.{not-true, not-false, ne_eqb}
+use borrow.Author.Tests.{ne_eqb}
 use native.Mathlib.Omega.{arith}
-use Rattle.meaning.specs.Tables.{rule_at}
 use Rattle.lent.specs.Decides.{decides_no}
-use Rattle.lent.specs.Lent.{columns, held_by}
-use Rattle.ringcheck.proofs.Walk.{Left, sought_back, sum_decides, sought_goes_on, one_further}
+use Rattle.ringcheck.proofs.Walk.{sought_back, sum_decides, sought_goes_on, one_further}
 use Rattle.ringcheck.proofs.closes.Goals as goal
 
 pub loop-k-init : goal.loop-k-init
@@ -27,14 +21,14 @@ returns-then-not-goes_on c = let entry = c.entry_at-i in
     let loop = c.loop-k in
     let args = c.args in
     decides_no refl (λ closes.
-    c.goes_on.ensures.not_so (not-true c.goes_on.result c.if-not-goes_on.true)
+    c.goes_on.ensures.not_so c.if-not-goes_on.true
     (sought_goes_on args.list.now loop.k loop.invariant.2 entry.result c.loop-k-test.true entry.ensures closes))
 
 pub amount_at-sum-requires : goal.amount_at-sum-requires
-amount_at-sum-requires c = (c.requires.walkable.placed _ (c.goes_on.ensures.so (not-false c.goes_on.result c.if-not-goes_on.false)).is_held).amount_place
+amount_at-sum-requires c = (c.requires.walkable.placed _ (c.goes_on.ensures.so c.if-not-goes_on.false).is_held).amount_place
 
 pub number_at-reached-requires : goal.number_at-reached-requires
-number_at-reached-requires c = (c.requires.walkable.placed _ (c.goes_on.ensures.so (not-false c.goes_on.result c.if-not-goes_on.false)).is_held).second_place
+number_at-reached-requires c = (c.requires.walkable.placed _ (c.goes_on.ensures.so c.if-not-goes_on.false).is_held).second_place
 
 pub loop-k-preserved : goal.loop-k-preserved
 loop-k-preserved c = let goes_on = c.goes_on in
@@ -42,7 +36,7 @@ loop-k-preserved c = let goes_on = c.goes_on in
     let here = c.loop-k-test.true in
     let loop = c.loop-k in
     let args = c.args in
-    let on = goes_on.ensures.so (not-false goes_on.result c.if-not-goes_on.false) in (
+    let on = goes_on.ensures.so c.if-not-goes_on.false in (
       omega (arith, here),
       omega (arith, loop.invariant.1, c.amount_at-sum.ensures.narrow),
       one_further args.list.now loop.k loop.invariant.2 entry_at.result here entry_at.ensures c.amount_at-sum.result c.number_at-reached.result c.amount_at-sum.ensures c.number_at-reached.ensures on,

@@ -1,16 +1,11 @@
 -- `ringcheck::closes` meets its contract. The loop's invariant: the sum is at most 4294967296 for each rule passed, and the list closes the ring exactly when
 -- what is left of it does. The measure is what is left of the list.
 use Prim.Native.Nat.{◌+◌, ◌*◌, ◌-◌, ◌≤◌}
-use mathlib.Core.Path.{refl}
 use mathlib.Core.Logic.{◌↔◌}
 use lib.ListN.{length}
-use borrow.Author.Rules.{rules}
-use borrow.Author.Tests.{not-true, not-false, ne_eqb}
-use native.Mathlib.Omega.{arith}
 use Rattle.meaning.specs.Tables.{rule_at}
-use Rattle.lent.specs.Decides.{decides_no}
 use Rattle.lent.specs.Lent.{columns, held_by}
-use Rattle.ringcheck.proofs.Walk.{Left, sought_back, sum_decides, sought_goes_on, one_further}
+use Rattle.ringcheck.proofs.Walk.{Left}
 use Rattle.ringcheck.proofs.closes.Given as goal
 
 abbrev pub invariant-loop-k : goal.invariant-loop-k

@@ -1,13 +1,11 @@
 -- `ringcheck::different` meets its contract. The loop's invariant: low is the first step of the window, and no step of a window before it is a first step twice.
 -- The measure is what is left of the steps.
-use Prim.Native.Nat.{ℕ, ◌+◌, ◌*◌, ◌-◌, ◌≤◌}
-use mathlib.Core.Path.{◌≡◌, refl}
+use Prim.Native.Nat.{ℕ, ◌+◌}
+use mathlib.Core.Path.{refl}
 use mathlib.Core.List.{List}
-use borrow.Author.Rules.{rules}
-use borrow.Author.Tests.{not-true, not-false}
 use native.Mathlib.Omega.{arith}
 use Rattle.lent.specs.Decides.{decides_yes, decides_no}
-use Rattle.ringcheck.specs.Closing.{WINDOW, In, Once, first_steps}
+use Rattle.ringcheck.specs.Closing.{In, first_steps}
 use Rattle.ringcheck.proofs.Windows.{Before, none_before, all_before, windows_joined, different→once, once→different}
 use Rattle.ringcheck.proofs.different.Goals as goal
 
@@ -26,7 +24,7 @@ returns-then-not-once_in c =
     let once-in = c.once_in in
     let window = c.loop-low.window in
     let l = steps in
-    decides_no refl (λ different. once-in.ensures.not_so (not-true once-in.result c.if-not-once_in.true) (record { here = different→once (In window) l different; next = different→once (In (window + 1)) l different }))
+    decides_no refl (λ different. once-in.ensures.not_so c.if-not-once_in.true (record { here = different→once (In window) l different; next = different→once (In (window + 1)) l different }))
 
 pub loop-low-preserved : goal.loop-low-preserved
 loop-low-preserved c =
@@ -35,7 +33,7 @@ loop-low-preserved c =
     let loop = c.loop-low in (
       omega (arith, loop.invariant.0),
       omega (arith, c.loop-low-test.true),
-      windows_joined loop.window (steps) loop.invariant.2 (once-in.ensures.so (not-false once-in.result c.if-not-once_in.false)),
+      windows_joined loop.window (steps) loop.invariant.2 (once-in.ensures.so c.if-not-once_in.false),
     )
 
 pub returns : goal.returns

@@ -1,14 +1,9 @@
 -- `ringcheck::different` meets its contract. The loop's invariant: low is the first step of the window, and no step of a window before it is a first step twice.
 -- The measure is what is left of the steps.
-use Prim.Native.Nat.{ℕ, ◌+◌, ◌*◌, ◌-◌, ◌≤◌}
-use mathlib.Core.Path.{◌≡◌, refl}
-use mathlib.Core.List.{List}
-use borrow.Author.Rules.{rules}
-use borrow.Author.Tests.{not-true, not-false}
-use native.Mathlib.Omega.{arith}
-use Rattle.lent.specs.Decides.{decides_yes, decides_no}
-use Rattle.ringcheck.specs.Closing.{WINDOW, In, Once, first_steps}
-use Rattle.ringcheck.proofs.Windows.{Before, none_before, all_before, windows_joined, different→once, once→different}
+use Prim.Native.Nat.{◌+◌, ◌*◌, ◌-◌, ◌≤◌}
+use mathlib.Core.Path.{◌≡◌}
+use Rattle.ringcheck.specs.Closing.{WINDOW, Once, first_steps}
+use Rattle.ringcheck.proofs.Windows.{Before}
 use Rattle.ringcheck.proofs.different.Given as goal
 
 abbrev pub invariant-loop-low : goal.invariant-loop-low

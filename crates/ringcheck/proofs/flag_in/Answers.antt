@@ -4,7 +4,6 @@ use mathlib.Core.Path.{refl, ◌∙◌}
 use native.Mathlib.Nat.{mod-lt, one-mul}
 use lib.Pow.{shl_exact}
 use native.Mathlib.Omega.{arith}
-use borrow.Author.Rules.{rules}
 use Rattle.ringcheck.specs.Closing.{WINDOW}
 use Rattle.ringcheck.proofs.flag_in.Goals as goal
 

@@ -1,12 +1,10 @@
 -- `ringcheck::is_ring` meets its contract: each early return has what the list lacks, and past them the first steps decide.
 use Prim.Native.Nat.{ℕ, ◌<◌}
 use mathlib.Core.Path.{refl, sym, ◌∙◌}
-use lib.ListN.{length, drop}
+use lib.ListN.{drop}
 use mir.Syntax.{w32}
 use mir.ValLaws.{to_z-of_z}
 use native.Mathlib.Omega.{arith}
-use borrow.Author.Rules.{rules}
-use borrow.Author.Tests.{not-true, not-false}
 use Rattle.meaning.specs.Rules.{Rule}
 use Rattle.meaning.specs.Tables.{rule_at, at}
 use Rattle.meaning.proofs.Theory.{all_implies}
@@ -39,26 +37,26 @@ returns-then-entry_at-m c =
 
 pub closes-requires : goal.closes-requires
 closes-requires c = let pre = c.requires in record {
-  in_bounds = pre.0;
-  walkable = record { placed = pre.1.1.placed; one_amount = c.biased.ensures.narrow; short = omega (arith, c.if-n-numbers.false, pre.1.1.steps_in) };
+  in_bounds = pre.in_bounds;
+  walkable = record { placed = pre.checkable.placed; one_amount = c.biased.ensures.narrow; short = omega (arith, c.if-n-numbers.false, pre.checkable.steps_in) };
 }
 
 pub returns-then-not-closes : goal.returns-then-not-closes
 returns-then-not-closes c =
     let lent : ℕ → Rule = rule_at (columns c.args.xs.now c.args.ys.now c.args.cs.now) in
     let new : Rule = record { first = c.args.x; second = c.args.y; amount = c.args.c } in
-    let amount_is : Biased (new).amount c.biased.result = rw (to_z-of_z w32 c.args.c c.fits.c) at c.biased.ensures in
+    let amount_is : Biased (new).amount c.biased.result = rw (to_z-of_z w32 c.args.c c.ranges.c) at c.biased.ensures in
     let closes = c.closes in
     let m = c.args.m in
     decides_no refl (λ refutes.
-    closes.ensures.not_so (not-true closes.result c.if-not-closes.true)
+    closes.ensures.not_so c.if-not-closes.true
     (refutes_closes (lent) (held_by c.args.levels.now) m (new) c.requires.fact c.biased.result (amount_is) c.args.list.now refutes))
 
 pub different-requires : goal.different-requires
 different-requires c =
     let lent : ℕ → Rule = rule_at (columns c.args.xs.now c.args.ys.now c.args.cs.now) in
     let new : Rule = record { first = c.args.x; second = c.args.y; amount = c.args.c } in
-    let closed : ClosesAfter (lent) (held_by c.args.levels.now) (new) c.biased.result (drop 1 c.args.list.now) = let closes = c.closes in closes.ensures.so (not-false closes.result c.if-not-closes.false) in
+    let closed : ClosesAfter (lent) (held_by c.args.levels.now) (new) c.biased.result (drop 1 c.args.list.now) = let closes = c.closes in closes.ensures.so c.if-not-closes.false in
     let pre = c.requires.checkable in
     let rest = drop 1 c.args.list.now in
     let xs = c.args.xs.now in
@@ -72,8 +70,8 @@ pub returns : goal.returns
 returns c =
     let lent : ℕ → Rule = rule_at (columns c.args.xs.now c.args.ys.now c.args.cs.now) in
     let new : Rule = record { first = c.args.x; second = c.args.y; amount = c.args.c } in
-    let amount_is : Biased (new).amount c.biased.result = rw (to_z-of_z w32 c.args.c c.fits.c) at c.biased.ensures in
-    let closed : ClosesAfter (lent) (held_by c.args.levels.now) (new) c.biased.result (drop 1 c.args.list.now) = let closes = c.closes in closes.ensures.so (not-false closes.result c.if-not-closes.false) in
+    let amount_is : Biased (new).amount c.biased.result = rw (to_z-of_z w32 c.args.c c.ranges.c) at c.biased.ensures in
+    let closed : ClosesAfter (lent) (held_by c.args.levels.now) (new) c.biased.result (drop 1 c.args.list.now) = let closes = c.closes in closes.ensures.so c.if-not-closes.false in
     let m = c.args.m in
     different_decides (lent) (held_by c.args.levels.now) m (new) c.requires.fact c.biased.result (amount_is)
     c.args.list.now c.if-numbers-eq0.false (sym c.entry_at.ensures ∙ c.if-entry_at-m.false) (closed) c.different.ensures

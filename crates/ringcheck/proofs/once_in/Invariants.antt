@@ -1,18 +1,11 @@
 -- `ringcheck::once_in` meets its contract. The loop's invariant: the numbers left have a first step, and no step of the two windows is a first step twice exactly
 -- when what is left of the first steps is fresh in both. The measure is what is left of the list.
 use Prim.Native.Nat.{◌+◌, ◌-◌, ◌≤◌, ◌<◌}
-use mathlib.Core.Path.{◌≡◌, refl, ◌∙◌, ap}
 use mathlib.Core.Logic.{◌↔◌}
 use lib.ListN.{length, drop}
-use borrow.Author.Rules.{rules}
-use native.Mathlib.Omega.{arith}
 use Rattle.meaning.specs.Rules.{All}
-use Rattle.meaning.specs.Tables.{at}
-use Rattle.lent.specs.Decides.{decides_yes, decides_no}
 use Rattle.ringcheck.specs.Closing.{OnceIn, first_steps}
-use Rattle.ringcheck.proofs.Reading.{Left, all_left, at_first, none_left, sought_unmet, sought_unmet_next, one_further}
-use Rattle.ringcheck.proofs.once_in.Reads as reads
-use Rattle.ringcheck.proofs.once_in.Lts as lts
+use Rattle.ringcheck.proofs.Reading.{Left}
 use Rattle.ringcheck.proofs.once_in.Given as goal
 
 abbrev pub invariant-loop-k : goal.invariant-loop-k
