@@ -1,12 +1,12 @@
 -- What a rule has to spare, as the machine reckons it, and the cell that it lowers.
-use Prim.Native.Nat.{ℕ, zero, suc, ◌+◌, ◌-◌, ◌≤◌, ◌<◌}
+use Prim.Native.Nat.{ℕ, ◌+◌, ◌-◌, ◌≤◌, ◌<◌}
 use native.Mathlib.Omega.{arith}
 use native.Mathlib.Decide.{ℕ_discrete, dec_lt}
 use mathlib.Core.Path.{◌≡◌, refl, subst}
 use mathlib.Core.List.{List}
 use mathlib.Core.Bool.{Bool, true, false}
 use mathlib.Core.Logic.{inl, inr}
-use lib.ListN.{length, get_or, set}
+use lib.ListN.{get_or, set}
 use lib.IntN.{ℤ, pos}
 use Rattle.meaning.specs.Bounds.{RULES}
 use Rattle.meaning.specs.Tables.{at}

@@ -3,7 +3,6 @@ use mathlib.Core.Path.{◌∙◌}
 use mathlib.Core.Logic.{inl}
 use Rattle.chains.specs.Chains.{linked}
 use Rattle.shortest.proofs.Advancing.{advanced}
-use borrow.Author.Rules.{rules}
 use native.Mathlib.Omega.{arith}
 use Rattle.shortest.proofs.advance.Goals as goal
 

@@ -1,7 +1,6 @@
 -- `shortest::begin` meets its contract: all cells have the value t, and then that of x has 0.
 use Rattle.shortest.proofs.Cells.{begun}
 use native.Mathlib.Omega.{arith}
-use borrow.Author.Rules.{rules}
 use Rattle.shortest.proofs.begin.Goals as goal
 
 pub returns : goal.returns

@@ -1,10 +1,7 @@
 -- `shortest::copy` meets its contract. The loop's invariant: the cells passed are copied, so what is read is still what was there. The measure is what is left of the steps.
-use Prim.Native.Nat.{◌≤◌, ◌-◌}
 use mathlib.Core.Path.{◌≡◌, refl}
-use lib.ListN.{length, length-set}
-use Rattle.shortest.specs.Clauses.{Copied}
+use lib.ListN.{length-set}
 use Rattle.shortest.proofs.Cells.{copied_none, copied_more}
-use borrow.Author.Rules.{rules}
 use native.Mathlib.Omega.{arith}
 use Rattle.shortest.proofs.copy.Goals as goal
 

@@ -1,11 +1,8 @@
 -- `shortest::copy` meets its contract. The loop's invariant: the cells passed are copied, so what is read is still what was there. The measure is what is left of the steps.
-use Prim.Native.Nat.{◌≤◌, ◌-◌}
-use mathlib.Core.Path.{◌≡◌, refl}
-use lib.ListN.{length, length-set}
+use Prim.Native.Nat.{◌≤◌}
+use mathlib.Core.Path.{◌≡◌}
+use lib.ListN.{length}
 use Rattle.shortest.specs.Clauses.{Copied}
-use Rattle.shortest.proofs.Cells.{copied_none, copied_more}
-use borrow.Author.Rules.{rules}
-use native.Mathlib.Omega.{arith}
 use Rattle.shortest.proofs.copy.Given as goal
 
 abbrev pub invariant-loop-v : goal.invariant-loop-v

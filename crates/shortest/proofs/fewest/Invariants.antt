@@ -1,13 +1,10 @@
 -- `shortest::fewest` meets its contract. The loop's invariant: h is the answer for ways of at most g rules. There is a way of fewer rules than steps, so the measure is what is left of the
 -- steps; and what is added to g next is at most one more than g.
 use Prim.Native.Nat.{◌+◌, ◌-◌, ◌≤◌, ◌<◌}
-use mathlib.Core.Path.{◌≡◌, refl, ◌∙◌}
+use mathlib.Core.Path.{◌≡◌}
 use lib.ListN.{length}
 use Rattle.chains.specs.Chains.{linked}
 use Rattle.shortest.specs.Clauses.{rules, spares, Within}
-use Rattle.shortest.proofs.Advancing.{still_sought, found, seekable_same}
-use borrow.Author.Rules.{rules}
-use native.Mathlib.Omega.{arith}
 use Rattle.shortest.proofs.fewest.Given as goal
 
 abbrev pub invariant-loop-g : goal.invariant-loop-g

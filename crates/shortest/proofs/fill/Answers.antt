@@ -1,10 +1,7 @@
 -- `shortest::fill` meets its contract. The loop's invariant: the cells passed have the value. The measure is what is left of the steps.
-use Prim.Native.Nat.{◌≤◌, ◌-◌}
 use mathlib.Core.Path.{◌≡◌, refl}
-use lib.ListN.{length, length-set}
-use Rattle.shortest.specs.Clauses.{AllSet}
+use lib.ListN.{length-set}
 use Rattle.shortest.proofs.Cells.{set_none, set_more}
-use borrow.Author.Rules.{rules}
 use native.Mathlib.Omega.{arith}
 use Rattle.shortest.proofs.fill.Goals as goal
 

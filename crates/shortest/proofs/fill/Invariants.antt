@@ -1,11 +1,8 @@
 -- `shortest::fill` meets its contract. The loop's invariant: the cells passed have the value. The measure is what is left of the steps.
-use Prim.Native.Nat.{◌≤◌, ◌-◌}
-use mathlib.Core.Path.{◌≡◌, refl}
-use lib.ListN.{length, length-set}
+use Prim.Native.Nat.{◌≤◌}
+use mathlib.Core.Path.{◌≡◌}
+use lib.ListN.{length}
 use Rattle.shortest.specs.Clauses.{AllSet}
-use Rattle.shortest.proofs.Cells.{set_none, set_more}
-use borrow.Author.Rules.{rules}
-use native.Mathlib.Omega.{arith}
 use Rattle.shortest.proofs.fill.Given as goal
 
 abbrev pub invariant-loop-v : goal.invariant-loop-v

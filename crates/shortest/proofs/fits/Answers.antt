@@ -5,7 +5,6 @@ use borrow.Author.Tests.{ltb-true, ltb-false, leb-true, leb-false}
 use Rattle.shortest.specs.Clauses.{from}
 use Rattle.shortest.proofs.Sparing.{fits_not, fits_test}
 use native.Mathlib.Omega.{arith}
-use borrow.Author.Rules.{rules}
 use Rattle.shortest.proofs.fits.Goals as goal
 
 pub returns-then-number_at-v : goal.returns-then-number_at-v

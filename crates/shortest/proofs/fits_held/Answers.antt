@@ -5,10 +5,6 @@ use Rattle.chains.specs.Chains.{linked}
 use Rattle.shortest.specs.Clauses.{from}
 use Rattle.shortest.proofs.Sparing.{held_dated, fits_held}
 use native.Mathlib.Omega.{arith}
-use borrow.Author.Rules.{rules}
-use Rattle.shortest.proofs.fits_held.Reads as reads
-use Rattle.shortest.proofs.fits_held.Lts as lts
-use Rattle.shortest.proofs.fits.Reads as fits-reads
 use Rattle.shortest.proofs.fits_held.Goals as goal
 
 pub returns-then-nexts-i-ge-OFF : goal.returns-then-nexts-i-ge-OFF
@@ -25,4 +21,4 @@ fits-requires c = let a = c.args in
 
 pub returns : goal.returns
 returns c = let a = c.args in
-    fits_held (linked a.nexts.now) a.xs.now a.ys.now a.cs.now a.days.now a.v a.bound (from a.a a.cells.now) a.i (c.requires.i_bound, omega (arith, c.if-nexts-i-ge-OFF.false)) _ c.fits2.ensures
+    fits_held (linked a.nexts.now) a.xs.now a.ys.now a.cs.now a.days.now a.v a.bound (from a.a a.cells.now) a.i (c.requires.i_bound, omega (arith, c.if-nexts-i-ge-OFF.false)) _ c.fits.ensures

@@ -1,11 +1,8 @@
 -- `shortest::levels` meets its contract. The loop's invariant: the depths go as far as the level. The measure is what is left of the steps.
-use Prim.Native.Nat.{◌-◌, ◌≤◌}
-use mathlib.Core.Path.{◌≡◌, refl, ◌∙◌}
-use lib.ListN.{length, length-set}
+use mathlib.Core.Path.{refl, ◌∙◌}
+use lib.ListN.{length-set}
 use Rattle.chains.specs.Chains.{linked}
-use Rattle.shortest.specs.Clauses.{Levelled}
 use Rattle.shortest.proofs.Deepening.{levelled_none, levelled_more}
-use borrow.Author.Rules.{rules}
 use native.Mathlib.Omega.{arith}
 use Rattle.shortest.proofs.levels.Goals as goal
 
@@ -40,20 +37,20 @@ widen-requires c = record {
 
 pub overflow_add-level : goal.overflow_add-level
 overflow_add-level c = let loop-test = c.loop-level-test in
-    omega (arith, loop-test.taken)
+    omega (arith, loop-test.true)
 
 pub loop-level-smaller : goal.loop-level-smaller
 loop-level-smaller c = let loop-test = c.loop-level-test in
-    omega (arith, loop-test.taken)
+    omega (arith, loop-test.true)
 
 pub loop-level-preserved : goal.loop-level-preserved
 loop-level-preserved c = let widen = c.widen in
     let loop = c.loop-level in
     let a = c.args in
     let kept = c.requires.leading.kept in (
-      omega (arith, widen.auto, loop.invariant.0),
-      omega (arith, c.loop-level-test.taken),
-      levelled_more a.n (linked a.nexts.now) a.xs.now a.ys.now a.cs.now a.days.now a.t loop.level (omega (arith, c.loop-level-test.taken, kept.steps_in)) kept a.y loop.depths _ widen.ensures loop.invariant.2,
+      omega (arith, widen.auto.depths, loop.invariant.0),
+      omega (arith, c.loop-level-test.true),
+      levelled_more a.n (linked a.nexts.now) a.xs.now a.ys.now a.cs.now a.days.now a.t loop.level (omega (arith, c.loop-level-test.true, kept.steps_in)) kept a.y loop.depths _ widen.ensures loop.invariant.2,
     )
 
 pub shape_of-depths : goal.shape_of-depths

@@ -1,12 +1,9 @@
 -- `shortest::levels` meets its contract. The loop's invariant: the depths go as far as the level. The measure is what is left of the steps.
 use Prim.Native.Nat.{◌-◌, ◌≤◌}
-use mathlib.Core.Path.{◌≡◌, refl, ◌∙◌}
-use lib.ListN.{length, length-set}
+use mathlib.Core.Path.{◌≡◌}
+use lib.ListN.{length}
 use Rattle.chains.specs.Chains.{linked}
 use Rattle.shortest.specs.Clauses.{Levelled}
-use Rattle.shortest.proofs.Deepening.{levelled_none, levelled_more}
-use borrow.Author.Rules.{rules}
-use native.Mathlib.Omega.{arith}
 use Rattle.shortest.proofs.levels.Given as goal
 
 abbrev pub invariant-loop-level : goal.invariant-loop-level

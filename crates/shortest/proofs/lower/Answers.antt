@@ -3,7 +3,6 @@ use Prim.Native.Nat.{ℕ, ◌+◌}
 use mathlib.Core.Path.{ap}
 use Rattle.shortest.proofs.Sparing.{lowered_more, lowered_not}
 use native.Mathlib.Omega.{arith}
-use borrow.Author.Rules.{rules}
 use Rattle.shortest.proofs.lower.Goals as goal
 
 pub overflow_cast-cells : goal.overflow_cast-cells

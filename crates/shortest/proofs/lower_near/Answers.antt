@@ -3,7 +3,6 @@ use mathlib.Core.Path.{refl, ap}
 use mathlib.Core.Logic.{inl, inr}
 use Rattle.meaning.specs.Tables.{at}
 use native.Mathlib.Omega.{arith}
-use borrow.Author.Rules.{rules}
 use Rattle.shortest.proofs.lower_near.Goals as goal
 
 pub returns-then-limit-number_at : goal.returns-then-limit-number_at

@@ -1,11 +1,9 @@
 -- `shortest::next` meets its contract. The loop's invariant: the rules to the steps passed have lowered the layer. The measure is what is left of the steps.
-use Prim.Native.Nat.{◌+◌, ◌-◌, ◌≤◌}
+use Prim.Native.Nat.{◌+◌, ◌≤◌}
 use mathlib.Core.Path.{◌≡◌, refl, ◌∙◌}
-use lib.ListN.{length}
 use Rattle.meaning.specs.Bounds.{STEPS}
 use Rattle.chains.specs.Chains.{linked}
-use Rattle.shortest.proofs.Following.{Lowering, lowering_none, lowering_more, lowering_skipped, lowering_all}
-use borrow.Author.Rules.{rules}
+use Rattle.shortest.proofs.Following.{lowering_none, lowering_more, lowering_skipped, lowering_all}
 use native.Mathlib.Omega.{arith}
 use Rattle.shortest.proofs.next.Goals as goal
 

@@ -1,12 +1,10 @@
 -- `shortest::next` meets its contract. The loop's invariant: the rules to the steps passed have lowered the layer. The measure is what is left of the steps.
 use Prim.Native.Nat.{◌+◌, ◌-◌, ◌≤◌}
-use mathlib.Core.Path.{◌≡◌, refl, ◌∙◌}
+use mathlib.Core.Path.{◌≡◌}
 use lib.ListN.{length}
 use Rattle.meaning.specs.Bounds.{STEPS}
 use Rattle.chains.specs.Chains.{linked}
-use Rattle.shortest.proofs.Following.{Lowering, lowering_none, lowering_more, lowering_skipped, lowering_all}
-use borrow.Author.Rules.{rules}
-use native.Mathlib.Omega.{arith}
+use Rattle.shortest.proofs.Following.{Lowering}
 use Rattle.shortest.proofs.next.Given as goal
 
 abbrev pub invariant-loop-u : goal.invariant-loop-u

@@ -1,10 +1,6 @@
 -- `shortest::none_below` meets its contract. The loop's invariant: no cell passed is below the least. The measure is what is left of the group.
-use Prim.Native.Nat.{◌-◌, ◌≤◌}
-use mathlib.Core.Logic.{⊎_elim}
 use borrow.Author.Tests.{leb-true}
-use Rattle.shortest.specs.Clauses.{GROUP, NoneBelow}
 use Rattle.shortest.proofs.Grouping.{below_more}
-use borrow.Author.Rules.{rules}
 use native.Mathlib.Omega.{arith}
 use Rattle.shortest.proofs.none_below.Goals as goal
 use Rattle.shortest.proofs.none_below.Goals.{else-cell-least, then-cell-least}

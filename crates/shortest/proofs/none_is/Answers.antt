@@ -1,12 +1,8 @@
 -- `shortest::none_is` meets its contract. The loop's invariant: where nothing is found, no number passed is the key. The measure is what is left of the group.
-use Prim.Native.Nat.{◌-◌, ◌≤◌}
-use mathlib.Core.Path.{◌≡◌, sym, ◌∙◌}
-use mathlib.Core.Bool.{false, true≢false}
-use mathlib.Core.Logic.{⊎_elim}
+use mathlib.Core.Path.{sym, ◌∙◌}
+use mathlib.Core.Bool.{true≢false}
 use borrow.Author.Tests.{not-true}
-use Rattle.shortest.specs.Clauses.{GROUP, NoneIs}
 use Rattle.shortest.proofs.Grouping.{is_more}
-use borrow.Author.Rules.{rules}
 use native.Mathlib.Omega.{arith}
 use Rattle.shortest.proofs.none_is.Goals as goal
 use Rattle.shortest.proofs.none_is.Goals.{else-list-a, then-list-a}
@@ -23,4 +19,4 @@ loop-j-preserved c = let loop = c.loop-j in
     )
 
 pub returns : goal.returns
-returns c e j j-in = c.loop-j.invariant.1 (not-true _ e) j (omega (arith, c.loop-j.invariant.0, c.loop-j-test.false))
+returns c e j j-in = c.loop-j.invariant.1 (not-true c.loop-j.found e) j (omega (arith, c.loop-j.invariant.0, c.loop-j-test.false))

@@ -1,17 +1,15 @@
 -- `shortest::pass` meets its contract. The loop's invariant: the rules of the chain of u from the link on have lowered the layer. The measure is the link.
-use Prim.Native.Nat.{suc, ◌+◌, ◌-◌, ◌<◌}
+use Prim.Native.Nat.{suc, ◌+◌, ◌-◌}
 use mathlib.Core.Path.{◌≡◌, refl}
-use lib.ListN.{length}
 use Rattle.meaning.specs.Bounds.{STEPS}
 use Rattle.meaning.specs.Tables.{at}
 use Rattle.chains.specs.Chains.{number, linked}
 use Rattle.chains.proofs.Laws.{next_lower}
-use Rattle.chains.proofs.Walk.{Link, link_head, link_next}
+use Rattle.chains.proofs.Walk.{link_head, link_next}
 use Rattle.shortest.specs.Clauses.{from}
-use Rattle.shortest.proofs.Following.{Above, Walked, walked_none, walked_more, walked_end, by_past}
+use Rattle.shortest.proofs.Following.{walked_none, walked_more, walked_end, by_past}
 use Rattle.shortest.proofs.Cells.{between_none}
 use Rattle.shortest.proofs.Sparing.{held_dated}
-use borrow.Author.Rules.{rules}
 use native.Mathlib.Omega.{arith}
 use Rattle.shortest.proofs.pass.Goals as goal
 

@@ -1,10 +1,9 @@
 -- `shortest::pick` meets its contract. The loop's invariant: no rule passed fits, so that one that fits is still to come. The measure is what is left of the places.
-use borrow.Author.Tests.{not-true, not-false}
-use Prim.Native.Nat.{◌-◌, ◌<◌}
+use Prim.Native.Nat.{◌<◌}
 use Rattle.meaning.specs.Bounds.{RULES}
 use Rattle.chains.specs.Chains.{linked}
 use Rattle.shortest.specs.Clauses.{from}
-use Rattle.shortest.proofs.Sparing.{NonePassed, passed_none, passed_more, passed_skipped, picked_in, still_to_come, passed_lowest}
+use Rattle.shortest.proofs.Sparing.{passed_none, passed_more, passed_skipped, picked_in, still_to_come, passed_lowest}
 use native.Mathlib.Omega.{arith}
 use Rattle.shortest.proofs.pick.Goals as goal
 
@@ -65,8 +64,8 @@ loop-i-smaller c =
 pub loop-i-preserved : goal.loop-i-preserved
 loop-i-preserved c = let a = c.args in
     passed_skipped (linked a.nexts.now) a.xs.now a.ys.now a.cs.now a.days.now a.v a.bound (from a.a a.cells.now) _ _ _ c.skip_other-i-in-loop-i.ensures
-    (passed_more (linked a.nexts.now) a.xs.now a.ys.now a.cs.now a.days.now a.v a.bound (from a.a a.cells.now) c.loop-i.i (c.fits_held.ensures.not_so (not-true _ c.loop-i-test.true)) c.loop-i.invariant)
+    (passed_more (linked a.nexts.now) a.xs.now a.ys.now a.cs.now a.days.now a.v a.bound (from a.a a.cells.now) c.loop-i.i (c.fits_held.ensures.not_so c.loop-i-test.true) c.loop-i.invariant)
 
 pub returns : goal.returns
 returns c = let a = c.args in
-    passed_lowest (linked a.nexts.now) a.xs.now a.ys.now a.cs.now a.days.now a.v a.bound (from a.a a.cells.now) c.loop-i.i (c.fits_held.ensures.so (not-false _ c.loop-i-test.false)) c.loop-i.invariant
+    passed_lowest (linked a.nexts.now) a.xs.now a.ys.now a.cs.now a.days.now a.v a.bound (from a.a a.cells.now) c.loop-i.i (c.fits_held.ensures.so c.loop-i-test.false) c.loop-i.invariant

@@ -1,11 +1,9 @@
 -- `shortest::pick` meets its contract. The loop's invariant: no rule passed fits, so that one that fits is still to come. The measure is what is left of the places.
-use borrow.Author.Tests.{not-true, not-false}
-use Prim.Native.Nat.{◌-◌, ◌<◌}
+use Prim.Native.Nat.{◌-◌}
 use Rattle.meaning.specs.Bounds.{RULES}
 use Rattle.chains.specs.Chains.{linked}
 use Rattle.shortest.specs.Clauses.{from}
-use Rattle.shortest.proofs.Sparing.{NonePassed, passed_none, passed_more, passed_skipped, picked_in, still_to_come, passed_lowest}
-use native.Mathlib.Omega.{arith}
+use Rattle.shortest.proofs.Sparing.{NonePassed}
 use Rattle.shortest.proofs.pick.Given as goal
 
 abbrev pub invariant-loop-i : goal.invariant-loop-i

@@ -1,10 +1,7 @@
 -- `shortest::raise` meets its contract. The loop's invariant: layer h stands where layer lo stood. The measure is what is left as far as hi.
-use Prim.Native.Nat.{◌-◌, ◌≤◌}
 use mathlib.Core.Path.{◌≡◌, refl, ◌∙◌}
 use mathlib.Core.Logic.{inr}
-use lib.ListN.{length}
 use Rattle.chains.specs.Chains.{linked}
-use Rattle.shortest.specs.Clauses.{Raised}
 use Rattle.shortest.proofs.Advancing.{raised_none, raised_more}
 use native.Mathlib.Omega.{arith}
 use Rattle.shortest.proofs.raise.Goals as goal
@@ -25,9 +22,6 @@ next-requires c = record {
   t_bound = c.requires.t_bound;
   a_in_bounds = omega (arith, c.loop-h.invariant.0, c.requires.a_in_bounds);
 }
-
-pub overflow_add-a : goal.overflow_add-a
-overflow_add-a c = omega (arith, c.requires.a_in_bounds, c.good)
 
 pub copy-requires : goal.copy-requires
 copy-requires c = let within = c.requires.chained.kept.steps_in in

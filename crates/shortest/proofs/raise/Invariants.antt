@@ -1,12 +1,9 @@
 -- `shortest::raise` meets its contract. The loop's invariant: layer h stands where layer lo stood. The measure is what is left as far as hi.
-use Prim.Native.Nat.{◌-◌, ◌≤◌}
-use mathlib.Core.Path.{◌≡◌, refl, ◌∙◌}
-use mathlib.Core.Logic.{inr}
+use Prim.Native.Nat.{◌≤◌}
+use mathlib.Core.Path.{◌≡◌}
 use lib.ListN.{length}
 use Rattle.chains.specs.Chains.{linked}
 use Rattle.shortest.specs.Clauses.{Raised}
-use Rattle.shortest.proofs.Advancing.{raised_none, raised_more}
-use native.Mathlib.Omega.{arith}
 use Rattle.shortest.proofs.raise.Given as goal
 
 abbrev pub invariant-loop-h : goal.invariant-loop-h

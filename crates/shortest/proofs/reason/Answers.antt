@@ -12,7 +12,6 @@ use Rattle.chains.specs.Chains.{number, linked}
 use Rattle.shortest.specs.Clauses.{LAYERS, FAR, Chained, Refuted, ReasonIn}
 use Rattle.shortest.proofs.Writing.{short, short_is, seekable, few_rules, traceable, written_all, leading, turnable, refuted_still, turned, reason_before}
 use native.Mathlib.Omega.{arith}
-use borrow.Author.Rules.{rules}
 use Rattle.shortest.proofs.reason.Goals as goal
 
 pub overflow_add-t-2 : goal.overflow_add-t-2
@@ -67,7 +66,7 @@ fewest-h-requires c =
     }
 
 pub overflow_cast-list : goal.overflow_cast-list
-overflow_cast-list c = omega (arith, c.requires.refuted.Free-in)
+overflow_cast-list c = omega (arith, c.requires.refuted.free_in)
 
 pub bounds-list-0 : goal.bounds-list-0
 bounds-list-0 c = omega (arith, c.requires.refuted.list_room, c.requires.refuted.first_in)
@@ -114,12 +113,10 @@ overflow_add-result c =
     omega (arith, few_rules a.n (linked (nexts-now)) a.m a.xs.now a.ys.now a.cs.now a.days.now (heads-now) (nexts-now) a.x a.y a.c a.list.now (still) _ _ (lack).1 c.fewest-h.ensures, c.requires.refuted.kept.steps_in)
 
 pub shape_of-heads : goal.shape_of-heads
-shape_of-heads c = let turn = (turn-before-cells (fewest-before-slice-known6 c).before).turn in
-    turn.kept.1.1.0
+shape_of-heads c = c.turn.auto.heads
 
 pub shape_of-nexts : goal.shape_of-nexts
-shape_of-nexts c = let turn = (turn-before-cells (fewest-before-slice-known6 c).before).turn in
-    turn.kept.1.1.1.0
+shape_of-nexts c = c.turn.auto.nexts
 
 pub shape_of-list : goal.shape_of-list
 shape_of-list c = c.trace.auto.list ∙ length-set c.args.list.now 0 c.args.m

@@ -1,10 +1,7 @@
 -- `shortest::settle` meets its contract. The loop's invariant: the steps passed are settled, the others as they were. The measure is what is left of the steps.
-use Prim.Native.Nat.{◌-◌, ◌≤◌}
 use mathlib.Core.Path.{◌≡◌, refl}
-use mathlib.Core.Logic.{⊎_elim}
-use lib.ListN.{length, length-set}
-use Rattle.shortest.proofs.Deepening.{Settling, settling_none, settling_low, settling_high}
-use borrow.Author.Rules.{rules}
+use lib.ListN.{length-set}
+use Rattle.shortest.proofs.Deepening.{settling_none, settling_low, settling_high}
 use native.Mathlib.Omega.{arith}
 use Rattle.shortest.proofs.settle.Goals as goal
 use Rattle.shortest.proofs.settle.Goals.{else-level-number_at, then-level-number_at}

@@ -1,11 +1,8 @@
 -- `shortest::settle` meets its contract. The loop's invariant: the steps passed are settled, the others as they were. The measure is what is left of the steps.
-use Prim.Native.Nat.{◌-◌, ◌≤◌}
-use mathlib.Core.Path.{◌≡◌, refl}
-use mathlib.Core.Logic.{⊎_elim}
-use lib.ListN.{length, length-set}
-use Rattle.shortest.proofs.Deepening.{Settling, settling_none, settling_low, settling_high}
-use borrow.Author.Rules.{rules}
-use native.Mathlib.Omega.{arith}
+use Prim.Native.Nat.{◌≤◌}
+use mathlib.Core.Path.{◌≡◌}
+use lib.ListN.{length}
+use Rattle.shortest.proofs.Deepening.{Settling}
 use Rattle.shortest.proofs.settle.Given as goal
 
 abbrev pub invariant-loop-v : goal.invariant-loop-v

@@ -1,9 +1,6 @@
 -- `shortest::skip_high` meets its contract. The loop's invariant: for no step passed there is less than t. The measure is what is left of the steps.
 use Prim.Native.Nat.{◌-◌, ◌<◌}
-use borrow.Author.Tests.{not-false}
 use Rattle.shortest.specs.Clauses.{from, Skipped}
-use Rattle.shortest.proofs.Grouping.{skipped_none, skipped_group, below_group}
-use borrow.Author.Rules.{rules}
 use Rattle.shortest.proofs.skip_high.Given as goal
 
 abbrev pub invariant-loop-v : goal.invariant-loop-v

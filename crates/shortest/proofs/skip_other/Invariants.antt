@@ -1,11 +1,8 @@
 -- `shortest::skip_other` meets its contract. The loop's invariant: no number passed is the key. The measure is what is left of the numbers.
 use Prim.Native.Nat.{◌-◌}
 use mathlib.Core.Path.{◌≡◌}
-use borrow.Author.Tests.{not-false}
 use Rattle.meaning.specs.Tables.{at}
 use Rattle.shortest.specs.Clauses.{Skipped}
-use Rattle.shortest.proofs.Grouping.{skipped_group}
-use borrow.Author.Rules.{rules}
 use Rattle.shortest.proofs.skip_other.Given as goal
 
 abbrev pub invariant-loop-k : goal.invariant-loop-k

@@ -3,7 +3,6 @@ use mathlib.Core.Path.{◌∙◌, ap}
 use Rattle.meaning.specs.Tables.{at}
 use Rattle.shortest.proofs.Sparing.{day_within, spare_is}
 use native.Mathlib.Omega.{arith}
-use borrow.Author.Rules.{rules}
 use Rattle.shortest.proofs.spare.Goals as goal
 
 pub overflow_add-latest : goal.overflow_add-latest

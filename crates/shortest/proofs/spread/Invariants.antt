@@ -1,15 +1,9 @@
 -- `shortest::spread` meets its contract. The loop's invariant: the rules of v from the link on have been met. The measure is the link.
-use Prim.Native.Nat.{suc, ◌-◌, ◌<◌}
-use mathlib.Core.Path.{◌≡◌, refl, ◌∙◌}
+use mathlib.Core.Path.{◌≡◌}
 use lib.ListN.{length}
-use Rattle.meaning.specs.Tables.{at}
-use Rattle.chains.specs.Chains.{number, linked}
-use Rattle.chains.proofs.Laws.{next_lower}
-use Rattle.chains.proofs.Walk.{Link, link_head, link_next}
-use Rattle.shortest.proofs.Sparing.{held_dated}
-use Rattle.shortest.proofs.Deepening.{Walking, walking_none, walking_more, walking_end, spread_not}
-use borrow.Author.Rules.{rules}
-use native.Mathlib.Omega.{arith}
+use Rattle.chains.specs.Chains.{linked}
+use Rattle.chains.proofs.Walk.{Link}
+use Rattle.shortest.proofs.Deepening.{Walking}
 use Rattle.shortest.proofs.spread.Given as goal
 
 abbrev pub invariant-loop-link : goal.invariant-loop-link

@@ -1,9 +1,7 @@
 -- `shortest::trace` meets its contract. The loop's invariant: the rules above top are written, and the way goes on from there. Its measure is where what is left ends.
-use mathlib.Core.Path.{◌≡◌, refl, ◌∙◌}
-use lib.ListN.{length}
+use mathlib.Core.Path.{refl, ◌∙◌}
 use Rattle.chains.specs.Chains.{linked}
-use Rattle.shortest.proofs.Tracing.{Found, found_none, part_descendable, found_more, found_all}
-use borrow.Author.Rules.{rules}
+use Rattle.shortest.proofs.Tracing.{found_none, part_descendable, found_more, found_all}
 use native.Mathlib.Omega.{arith}
 use Rattle.shortest.proofs.trace.Goals as goal
 
@@ -39,9 +37,6 @@ raise-requires c = record {
 pub overflow_sub-h : goal.overflow_sub-h
 overflow_sub-h c = let loop = c.loop-top in
     loop.invariant.2.within
-
-pub overflow_add-h : goal.overflow_add-h
-overflow_add-h c = omega (arith, c.requires.traceable.list_room, c.good)
 
 pub descend-stand-requires : goal.descend-stand-requires
 descend-stand-requires c = let loop = c.loop-top in

@@ -1,10 +1,8 @@
 -- `shortest::trace` meets its contract. The loop's invariant: the rules above top are written, and the way goes on from there. Its measure is where what is left ends.
-use mathlib.Core.Path.{◌≡◌, refl, ◌∙◌}
+use mathlib.Core.Path.{◌≡◌}
 use lib.ListN.{length}
 use Rattle.chains.specs.Chains.{linked}
-use Rattle.shortest.proofs.Tracing.{Found, found_none, part_descendable, found_more, found_all}
-use borrow.Author.Rules.{rules}
-use native.Mathlib.Omega.{arith}
+use Rattle.shortest.proofs.Tracing.{Found}
 use Rattle.shortest.proofs.trace.Given as goal
 
 abbrev pub invariant-loop-top : goal.invariant-loop-top

@@ -1,10 +1,7 @@
 -- `shortest::widen` meets its contract. The loop's invariant: the steps passed of that level have spread. The measure is what is left of the steps.
-use Prim.Native.Nat.{◌-◌, ◌≤◌}
 use mathlib.Core.Path.{◌≡◌, refl}
-use lib.ListN.{length}
 use Rattle.chains.specs.Chains.{linked}
-use Rattle.shortest.proofs.Deepening.{Widening, widening_none, widening_skipped, widening_more, widening_all}
-use borrow.Author.Rules.{rules}
+use Rattle.shortest.proofs.Deepening.{widening_none, widening_skipped, widening_more, widening_all}
 use native.Mathlib.Omega.{arith}
 use Rattle.shortest.proofs.widen.Goals as goal
 

@@ -1,11 +1,9 @@
 -- `shortest::widen` meets its contract. The loop's invariant: the steps passed of that level have spread. The measure is what is left of the steps.
 use Prim.Native.Nat.{◌-◌, ◌≤◌}
-use mathlib.Core.Path.{◌≡◌, refl}
+use mathlib.Core.Path.{◌≡◌}
 use lib.ListN.{length}
 use Rattle.chains.specs.Chains.{linked}
-use Rattle.shortest.proofs.Deepening.{Widening, widening_none, widening_skipped, widening_more, widening_all}
-use borrow.Author.Rules.{rules}
-use native.Mathlib.Omega.{arith}
+use Rattle.shortest.proofs.Deepening.{Widening}
 use Rattle.shortest.proofs.widen.Given as goal
 
 abbrev pub invariant-loop-v : goal.invariant-loop-v

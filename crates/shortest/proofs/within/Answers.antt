@@ -1,13 +1,8 @@
 -- `shortest::within` meets its contract. The loop's invariant: layer h stands in the first cells, and no way from y has fewer rules. The measure is what is left of g.
-use Prim.Native.Nat.{◌-◌, ◌≤◌}
-use mathlib.Core.Path.{◌≡◌, refl, ◌∙◌}
+use mathlib.Core.Path.{refl, ◌∙◌}
 use mathlib.Core.Logic.{inr}
-use lib.ListN.{length}
-use Rattle.meaning.specs.Tables.{at}
 use Rattle.chains.specs.Chains.{linked}
-use Rattle.shortest.specs.Layers.{Deep}
-use Rattle.shortest.specs.Clauses.{rules, spares, Kept}
-use Rattle.shortest.proofs.Advancing.{Sought, sought_none, sought_more, sought_found, sought_not}
+use Rattle.shortest.proofs.Advancing.{sought_none, sought_more, sought_found, sought_not}
 use native.Mathlib.Omega.{arith}
 use Rattle.shortest.proofs.within.Goals as goal
 
