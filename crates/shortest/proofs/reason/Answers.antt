@@ -15,8 +15,7 @@ use native.Mathlib.Omega.{arith}
 use Rattle.shortest.proofs.reason.Goals as goal
 
 pub overflow_add-t-2 : goal.overflow_add-t-2
-overflow_add-t-2 c = let shared-slice-known3 = c.shared_slice_known-3-1 in
-    omega (arith, c.day_at-2.ensures, c.type_inv.days c.args.y, c.biased.ensures.narrow)
+overflow_add-t-2 c = omega (arith, c.day_at-2.ensures, c.type_inv.days c.args.y, c.biased.ensures.narrow)
 
 pub overflow_sub-t : goal.overflow_sub-t
 overflow_sub-t c =

@@ -9,8 +9,7 @@ pub overflow_add-latest : goal.overflow_add-latest
 overflow_add-latest c = omega (arith, c.day_at.ensures, c.type_inv.days c.number_at.result, c.amount_at.ensures.narrow)
 
 pub overflow_add-result : goal.overflow_add-result
-overflow_add-result c = let shared-slice-known3 = c.shared_slice_known-3-1 in
-    omega (arith, c.day_at-2.ensures, c.type_inv.days c.number_at-2.result)
+overflow_add-result c = omega (arith, c.day_at-2.ensures, c.type_inv.days c.number_at-2.result)
 
 pub overflow_sub-result : goal.overflow_sub-result
 overflow_sub-result c = let a = c.args in
