@@ -1,15 +1,17 @@
 # What the scripts of this folder share: installing what is missing, and building and running programs of Rust and C for x86-64, and of Rust for
 # this machine. It is read by `.` from the top of the repository and runs nothing by itself.
+#
+# The toolchain runs on x86-64 alone. On Arm nothing is proved and no archive is made; with target/staticlib from such a machine, x86-64 programs over the archive are built
+# and run under an emulator.
 
-# The crate whose archive holds the exported entry, and the one whose archive holds the program as one function.
+# The crate whose archive holds the exported entry, and the one whose archive holds the program as one function; and where the archives stand, for x86-64.
 ENTRY=exports
-PROGRAM=program
-ARCHIVE=target/staticlib/lib$ENTRY.a
-PROGRAM_ARCHIVE=target/staticlib/lib$PROGRAM.a
+PROGRAM=program_c
+ARCHIVE=target/staticlib/libexports.a
+PROGRAM_ARCHIVE=target/staticlib/libprogram.a
 
-# The program that tools/build links, for x86-64; and the same compiled for this machine, where it is another one and has a C compiler. ./dates runs the latter where it is there.
+# The program that tools/build links.
 BARE=target/dates
-OWN=target/dates-own
 
 # The stamps that tools/build writes when the program, or the archive, is built.
 PROGRAM_STAMP=target/built
@@ -48,24 +50,25 @@ get_packages() { # PACKAGE..
         { say "apt-get could not install $*; the end of $log:"; tail -n 3 "$log"; return 1; }
 }
 
-# Whether a file is there and no source of the crates is newer.
-fresh() { # FILE
-    [ -f "$1" ] && [ -z "$(find crates.txt crates -newer "$1" -print -quit)" ]
-}
-
-# The module that the toolchain's compiler was given when an archive was made: tools/build keeps it beside the archive, but on x86-64, where nobody needs it.
-module_of() { echo "target/staticlib/lib$1.bc"; }
-
-# Prints the sum of the module of an archive, for the stamp of that; nothing on x86-64.
-module_sum() { # CRATE
-    [ "$machine" = x86_64 ] || sha256sum "$(module_of "$1")" 2>/dev/null || echo "no module"
+# The same archives for this machine: for Arm the toolchain makes them on an x86-64 machine (tools/build arm).
+native_archive() { # ARCHIVE
+    if [ "$machine" = x86_64 ]; then echo "$1"; else echo "target/staticlib/$machine/${1##*/}"; fi
 }
 
 # Makes the library's archive ready. Not 0 where it is not proved.
 need_archive() { tools/build library; }
 
-# The toolchain's own code of C that the program calls, for x86-64.
-kit_c_code() { echo "$(dirname -- "$(dirname -- "$(rt doc)")")/lib/libos_c.a"; }
+# The folder of the toolchain.
+kit_folder() {
+    local guide
+    guide=$(rt doc) && dirname -- "$guide"
+}
+
+# Prints the toolchain's own code of C that the program calls, for x86-64: an archive to a line.
+kit_c_code() {
+    local kit
+    kit=$(kit_folder) && printf '%s\n' "$kit/c/libos_c.a" "$kit/c/liblibc_c.a"
+}
 
 # Prints the version, which stands in the header alone.
 version_of_header() { sed -n 's/^#define DATES_VERSION "\(.*\)"$/\1/p' include/dates.h; }

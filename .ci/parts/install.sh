@@ -1,7 +1,7 @@
 #!/usr/bin/env bash
 # The installed product. A copy of the tree, with what is proved and built, is installed into an empty folder and taken away; then the program and the library do what
 # they should from there alone: also the program on every case and generated script, with its streams and its status. first.sh and host.sh, which come before, have built the
-# program and the library; a stand-in for rt in the copy proves nothing and makes no archive.
+# program and the library; a stand-in for rt in the copy proves nothing and makes no archive, as none of their sources has changed.
 set -u
 CDPATH='' cd -- "$(dirname -- "${BASH_SOURCE[0]}")/../.." || exit 1
 . host/tools.sh
@@ -18,14 +18,14 @@ command -v pkg-config >/dev/null || get_packages pkg-config || stop "there is no
 # ---- A copy of the tree, which is installed and goes.
 tree=$work/tree prefix="$work/a home/.local" home="$work/a home"
 mkdir -p "$tree/target" "$home"
-cp -a dates install tools host include docs examples crates crates.txt CHANGES.md "$tree/" && cp -a target/staticlib target/stamp "$LIBRARY_STAMP" "$tree/target/" || stop "no copy of the tree"
+tar -cf - --exclude='crates/*/out' dates install tools host include docs examples crates crates.txt CHANGES.md target/staticlib "$LIBRARY_STAMP" | tar -C "$tree" -xf - ||
+    stop "no copy of the tree"
 version=$(version_of_header)
 mkdir "$work/bin"
 cat >"$work/bin/rt" <<STANDIN
 #!/bin/sh
 case \$1 in
-doc) exec '$(command -v rt)' doc ;;
-check) echo 'rt: $PROGRAM proved (unchanged since it was last proved)' ;;
+doc | version) exec '$(command -v rt)' "\$1" ;;
 *) exit 2 ;;
 esac
 STANDIN
