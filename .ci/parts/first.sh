@@ -36,7 +36,10 @@ version) echo 'a kit'; exit ;;
 esac
 crate=\${PWD##*/}
 echo "\$* \$crate" >>'$work/called'
-[ "\$1" = lib ] && [ -f ../../crates.txt ] && [ \$# = 1 ] || { echo 'rt: not so'; exit 2; }
+case "\$*" in
+lib | 'lib --target aarch64-unknown-linux-gnu') [ -f ../../crates.txt ] || exit 2 ;;
+*) echo 'rt: not so'; exit 2 ;;
+esac
 [ "\${DO:-}" != break ] || { echo 'rt: cannot make a temporary folder'; exit 2; }
 if [ "\${DO:-}" = refuse ]; then
     echo "\$PWD/src/lib.rt:7:1: error[unknown-name]: there is no such name"
@@ -167,6 +170,11 @@ builds_library() {
 one "the library is built beside the program" builds_library
 library_is_there() { touch "$tree/crates/lent/src/lib.rt" && "$tree/tools/build" library 2>"$work/err" && diff "$work/err" /dev/null && called 4; }
 one "and not again where no source has changed" library_is_there
+for_arm() {
+    "$tree/tools/build" arm 2>"$work/err" && called 6 && [ "$(tail -n 2 "$work/called")" = $'lib --target aarch64-unknown-linux-gnu program_c\nlib --target aarch64-unknown-linux-gnu exports' ] &&
+        [ -f "$tree/target/staticlib/aarch64/libprogram.a" ] && [ -f "$tree/target/staticlib/aarch64/libexports.a" ] && answers "$tree/dates" "$season"
+}
+one "both archives for Arm are made, beside the others" for_arm
 
 # Runs a command in a terminal, and prints each drawing of its line as a line.
 in_terminal() { # COMMAND..
