@@ -1,7 +1,7 @@
 #!/usr/bin/env bash
 # The first minute: what is shown while the program is proved and built, and the command ./dates, however it is called, with its streams and its status. rt ci, which comes
-# before, has proved all; the program's archive is made here first, over what checks on this machine have kept (rt ci keeps for itself alone). Then nothing is proved: in a copy of what the command needs, a stand-in for rt says what rt says, and
-# puts that archive in place.
+# before, has proved all; the program's archive is made here first, over what checks on this machine have kept, since rt ci keeps for itself alone. Then nothing is proved:
+# in a copy of what the command needs, a stand-in for rt says what rt says, and puts that archive in place.
 set -u
 CDPATH='' cd -- "$(dirname -- "${BASH_SOURCE[0]}")/../.." || exit 1
 . host/tools.sh
