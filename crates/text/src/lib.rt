@@ -3,7 +3,7 @@
 
 ghost use Rattle.std.specs.Prelude.{◌≡◌, ◌-◌, ◌<◌, ◌≤◌, length, get_or};
 ghost use Rattle.text.specs.Lexicon.{class, grown, kind, piece_at, token_at, bytes, same_bytes, cut, number, line_end, start};
-ghost use Rattle.text.specs.Table.{TABLE};
+ghost use Rattle.text.specs.Table.{TABLE as LEXICON};
 
 pub mod table;
 
@@ -34,7 +34,7 @@ pub struct Tok {
 
 // The class of the byte.
 fn class_of(tab: &[u8; PLACES], b: u8) -> u8
-    requires { tab.now ≡ TABLE }
+    requires { tab.now ≡ LEXICON }
     ensures { result ≡ class b }
 {
     tab[b as usize]
@@ -42,7 +42,7 @@ fn class_of(tab: &[u8; PLACES], b: u8) -> u8
 
 // What a piece is with one byte more.
 fn grow(tab: &[u8; PLACES], p: u8, k: u8) -> u8
-    requires tab_value { tab.now ≡ TABLE }
+    requires tab_value { tab.now ≡ LEXICON }
     requires p_bound { p < 16 }
     requires k_bound { k < 16 }
     ensures { (result ≡ grown p k) × (result < 16) }
@@ -58,7 +58,7 @@ fn grow(tab: &[u8; PLACES], p: u8, k: u8) -> u8
 
 // The kind of a whole piece.
 fn kind_of(tab: &[u8; PLACES], p: u8) -> u8
-    requires tab_value { tab.now ≡ TABLE }
+    requires tab_value { tab.now ≡ LEXICON }
     requires p_bound { p < 16 }
     ensures { result ≡ kind p }
 {
@@ -90,7 +90,7 @@ fn comment_end(s: &[u8], at: usize) -> usize
 
 // The piece that stands at place f, where first is the class of its first byte.
 fn piece(s: &[u8], tab: &[u8; PLACES], f: usize, first: u8) -> Tok
-    requires tab_value { tab.now ≡ TABLE }
+    requires tab_value { tab.now ≡ LEXICON }
     requires f_in_bounds { f < length s.now }
     requires first_value { first ≡ class (get_or s.now f 0) }
     requires lt_first { 4 < first }
@@ -115,7 +115,7 @@ fn piece(s: &[u8], tab: &[u8; PLACES], f: usize, first: u8) -> Tok
 
 // The first token from place at on, where it is likely to be a symbol: its bytes are told by their classes alone.
 pub fn symbol(s: &[u8], tab: &[u8; PLACES], at: usize) -> Tok
-    requires { tab.now ≡ TABLE }
+    requires { tab.now ≡ LEXICON }
     ensures { result ≡ token_at s.now at }
 {
     let mut f = at;
@@ -151,7 +151,7 @@ pub fn symbol(s: &[u8], tab: &[u8; PLACES], at: usize) -> Tok
 
 // The first token from place at on; of kind END at the end of the text.
 pub fn token(s: &[u8], tab: &[u8; PLACES], at: usize) -> Tok
-    requires { tab.now ≡ TABLE }
+    requires { tab.now ≡ LEXICON }
     ensures { result ≡ token_at s.now at }
 {
     let mut i = at;

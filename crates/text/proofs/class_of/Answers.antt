@@ -1,7 +1,6 @@
 -- `text::class_of` meets its contract: the table says the class of each byte.
 use native.Mathlib.Omega.{arith}
 use Rattle.text.proofs.Reading.{class_is}
-use borrow.Author.Rules.{rules}
 use Rattle.text.proofs.class_of.Goals as goal
 
 pub returns : goal.returns

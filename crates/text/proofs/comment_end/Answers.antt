@@ -2,11 +2,10 @@
 -- is left of the text.
 use mathlib.Core.Path.{◌≡◌, sym, ◌∙◌, ap}
 use mathlib.Core.Bool.{true, false, true≢false}
-use Prim.Native.Nat.{ℕ, ◌+◌, ◌-◌, ◌≤◌}
-use lib.ListN.{length, drop, get_or}
-use Rattle.text.specs.Lexicon.{line_end, skipped, start}
+use Prim.Native.Nat.{ℕ}
+use lib.ListN.{get_or}
+use Rattle.text.specs.Lexicon.{line_end}
 use Rattle.text.proofs.Runs.{skip_end, comment_on, comment_stop, comment_start}
-use borrow.Author.Rules.{rules}
 use native.Mathlib.Omega.{arith}
 use Rattle.text.proofs.comment_end.Goals as goal
 

@@ -1,13 +1,10 @@
 -- `text::comment_end` meets its contract. The loop's invariant: the place, with what is skipped in the comment from there on, is where the token starts. The measure is what
 -- is left of the text.
-use mathlib.Core.Path.{◌≡◌, sym, ◌∙◌, ap}
-use mathlib.Core.Bool.{true, false, true≢false}
-use Prim.Native.Nat.{ℕ, ◌+◌, ◌-◌, ◌≤◌}
-use lib.ListN.{length, drop, get_or}
-use Rattle.text.specs.Lexicon.{line_end, skipped, start}
-use Rattle.text.proofs.Runs.{skip_end, comment_on, comment_stop, comment_start}
-use borrow.Author.Rules.{rules}
-use native.Mathlib.Omega.{arith}
+use mathlib.Core.Path.{◌≡◌}
+use mathlib.Core.Bool.{true}
+use Prim.Native.Nat.{◌+◌, ◌-◌, ◌≤◌}
+use lib.ListN.{length, drop}
+use Rattle.text.specs.Lexicon.{skipped, start}
 use Rattle.text.proofs.comment_end.Given as goal
 
 abbrev pub invariant-loop-i : goal.invariant-loop-i

@@ -1,10 +1,9 @@
 -- `text::grow` meets its contract: a symbol stays one with a letter more; else the table says what each piece grows to, and that is below 16.
-use Prim.Native.Nat.{ℕ, ◌<◌}
+use Prim.Native.Nat.{ℕ}
 use mathlib.Core.Path.{◌≡◌, sym, subst}
 use native.Mathlib.Omega.{arith}
 use Rattle.text.specs.Lexicon.{grown}
 use Rattle.text.proofs.Reading.{grown_is, grown_small, of_letter, symbol_stays}
-use borrow.Author.Rules.{rules}
 use Rattle.text.proofs.grow.Goals as goal
 
 pub returns-then-p-eq10 : goal.returns-then-p-eq10

@@ -1,6 +1,5 @@
 -- `text::kind_of` meets its contract: the table says the kind of each piece.
 use Rattle.text.proofs.Reading.{kind_is}
-use borrow.Author.Rules.{rules}
 use Rattle.text.proofs.kind_of.Goals as goal
 
 pub returns : goal.returns

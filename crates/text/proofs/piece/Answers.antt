@@ -1,16 +1,12 @@
 -- `text::piece` meets its contract. The loop's invariant: the piece read so far, with what follows, is the whole piece from its first place on, in kind and in extent. The measure is
 -- what is left of the text.
-use mathlib.Core.Path.{◌≡◌, refl}
-use mathlib.Core.Logic.{⊎_elim}
-use Prim.Native.Nat.{◌+◌, ◌-◌, ◌<◌}
-use lib.ListN.{length, drop, get_or}
-use Rattle.text.specs.Lexicon.{whole, extent}
+use mathlib.Core.Path.{refl}
+use lib.ListN.{get_or}
 use Rattle.text.proofs.Classes.{class_small}
 use Rattle.text.proofs.Runs.{piece_end, piece_stop, piece_on, piece_more, piece_made}
-use borrow.Author.Rules.{rules}
 use native.Mathlib.Omega.{arith}
 use Rattle.text.proofs.piece.Goals as goal
-use Rattle.text.proofs.piece.Goals.{else-i-test, then-i-test}
+use Rattle.text.proofs.piece.Goals.{else-loop-i-test, then-loop-i-test+then-k-le4}
 
 pub grow-p-requires : goal.grow-p-requires
 grow-p-requires c = record {
@@ -58,4 +54,4 @@ returns c = let s = c.args.s.now in
     let i = c.loop-i.i in
     let p = c.loop-i.p in
     piece_made s i p c.args.f c.kind_of.result c.kind_of.ensures c.loop-i.invariant.1 c.loop-i.invariant.2
-    (elim c.loop-i-test.branch [ then-i-test w ↦ piece_end s i p w.loop-i-test.false | else-i-test w ↦ piece_stop s i p w.0.taken (omega (arith, w.2.ensures, w.3.taken)) ])
+    (elim c.loop-i-test.branch [ else-loop-i-test w ↦ piece_end s i p w.loop-i-test.false | then-loop-i-test+then-k-le4 w ↦ piece_stop s i p w.loop-i-test.true (omega arith) ])

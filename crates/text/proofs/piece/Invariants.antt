@@ -1,14 +1,9 @@
 -- `text::piece` meets its contract. The loop's invariant: the piece read so far, with what follows, is the whole piece from its first place on, in kind and in extent. The measure is
 -- what is left of the text.
-use mathlib.Core.Path.{◌≡◌, refl}
-use mathlib.Core.Logic.{⊎_elim}
+use mathlib.Core.Path.{◌≡◌}
 use Prim.Native.Nat.{◌+◌, ◌-◌, ◌<◌}
-use lib.ListN.{length, drop, get_or}
+use lib.ListN.{length, drop}
 use Rattle.text.specs.Lexicon.{whole, extent}
-use Rattle.text.proofs.Classes.{class_small}
-use Rattle.text.proofs.Runs.{piece_end, piece_stop, piece_on, piece_more, piece_made}
-use borrow.Author.Rules.{rules}
-use native.Mathlib.Omega.{arith}
 use Rattle.text.proofs.piece.Given as goal
 
 abbrev pub invariant-loop-i : goal.invariant-loop-i

@@ -2,19 +2,16 @@
 -- piece that begins with a point or a letter is a symbol, and stays one with each byte that the inner loop passes: the inner invariant is that of `piece`, for a symbol. Where the piece
 -- ends it is the token. The measures are what is left of the text.
 use mathlib.Core.Path.{◌≡◌, refl, sym, ◌∙◌, ap}
-use mathlib.Core.Logic.{⊎_elim}
-use Prim.Native.Nat.{◌+◌, ◌-◌, ◌<◌}
-use lib.ListN.{length, drop, get_or}
-use borrow.Author.Tests.{ltb-true, ltb-false}
-use Rattle.text.specs.Lexicon.{whole, extent, tok, start, token_at}
+use Prim.Native.Nat.{◌<◌}
+use lib.ListN.{drop, get_or}
+use Rattle.text.specs.Lexicon.{whole, extent, tok, token_at}
 use Rattle.text.proofs.Reading.{Unmarked, below_marks, of_letter, symbol_begins, symbol_stays}
 use Rattle.text.proofs.Classes.{class_small, white_of}
 use Rattle.text.proofs.Runs.{white_on, piece_end, piece_stop, piece_on, piece_more, piece_made}
 use Rattle.text.proofs.Standing.{standing, chosen_piece, found}
-use borrow.Author.Rules.{rules}
 use native.Mathlib.Omega.{arith}
 use Rattle.text.proofs.symbol.Goals as goal
-use Rattle.text.proofs.symbol.Goals.{else-c-lt12, else-then-k-eq9, then-c-lt12, then-then-k-eq9}
+use Rattle.text.proofs.symbol.Goals.{else-c-lt12, then-c-lt12+else-c-le4+else-c-lt6+else-c-gt9, then-k-eq9-via-else-k-eq9+then-k-gt11, then-k-eq9-via-then-k-eq9}
 
 pub seek-init : goal.seek-init
 seek-init c = refl
@@ -25,7 +22,7 @@ class_of-k-requires c = c.requires
 pub loop-i-init : goal.loop-i-init
 loop-i-init c =
     let begins : Unmarked 8 c.class_of-k.result = let k = c.class_of-k.result in
-    elim c.then-k-eq9.branch [ then-then-k-eq9 w ↦ below_marks 8 k (omega (arith, w.then-k-eq9.true)) (omega (arith, w.then-k-eq9.true)) | else-then-k-eq9 w ↦ of_letter 8 k (omega arith) (ltb-true 11 k w.1.taken) ] in
+    elim c.then-k-eq9.branch [ then-k-eq9-via-then-k-eq9 w ↦ below_marks 8 k (omega arith) (omega arith) | then-k-eq9-via-else-k-eq9+then-k-gt11 w ↦ of_letter 8 k (omega arith) (omega arith) ] in
     let s = c.args.s.now in
     let f = c.seek.f in
     let k = c.class_of-k.result in
@@ -46,7 +43,7 @@ loop-i-preserved c = let loop = c.loop-i in
     let is = c.class_of-c.ensures in
     let inside = c.loop-i-test.true in
     let small : k < 16 = omega (arith, is, class_small (get_or s i 0)) in
-    let goes_on : Unmarked 5 k = elim c.if-c-lt12.branch [ then-c-lt12 w ↦ below_marks 5 k w.2.left (omega (arith, ltb-false 9 k w.3.left)) | else-c-lt12 w ↦ of_letter 5 k (omega arith) w.if-c-lt12.false ] in (
+    let goes_on : Unmarked 5 k = elim c.if-c-lt12.branch [ then-c-lt12+else-c-le4+else-c-lt6+else-c-gt9 w ↦ below_marks 5 k (omega arith) (omega arith) | else-c-lt12 w ↦ of_letter 5 k (omega arith) w.if-c-lt12.false ] in (
       piece_more s i 10 k 10 _ inside is (omega (arith, goes_on.0)) (sym (symbol_stays k small goes_on)) loop.invariant.0,
       omega (arith, loop.invariant.1, (piece_on s i 10 inside (omega (arith, is, goes_on.0))).1),
     )
@@ -54,7 +51,7 @@ loop-i-preserved c = let loop = c.loop-i in
 pub returns-after-loop-i : goal.returns-after-loop-i
 returns-after-loop-i c =
     let begins : Unmarked 8 c.class_of-k.result = let k = c.class_of-k.result in
-    elim c.then-k-eq9.branch [ then-then-k-eq9 w ↦ below_marks 8 k (omega (arith, w.then-k-eq9.true)) (omega (arith, w.then-k-eq9.true)) | else-then-k-eq9 w ↦ of_letter 8 k (omega arith) (ltb-true 11 k w.1.taken) ] in
+    elim c.then-k-eq9.branch [ then-k-eq9-via-then-k-eq9 w ↦ below_marks 8 k (omega arith) (omega arith) | then-k-eq9-via-else-k-eq9+then-k-gt11 w ↦ of_letter 8 k (omega arith) (omega arith) ] in
     let ended : (whole 10 (drop c.loop-i.i c.args.s.now) ≡ 10) × (extent (drop c.loop-i.i c.args.s.now) ≡ 0) →
     tok 4 c.seek.f c.loop-i.i ≡ token_at c.args.s.now c.args.at = λ end. let s = c.args.s.now in
     let seek = c.seek in
@@ -64,13 +61,13 @@ returns-after-loop-i c =
     let some = (begins).0 in
     piece_made s c.loop-i.i 10 f 4 refl c.loop-i.invariant.0 c.loop-i.invariant.1 end
     ∙ sym (chosen_piece s f k (λ e. omega (arith, e, some)) (λ e. omega (arith, e, some)) (λ e. omega (arith, e, some)))
-    ∙ found s f c.args.at seek.inv k c.seek-test.true class_of.ensures (λ e. omega (arith, e, some)) (λ e. omega (arith, e, some)) in
+    ∙ found s f c.args.at seek.invariant k c.seek-test.true class_of.ensures (λ e. omega (arith, e, some)) (λ e. omega (arith, e, some)) in
     ended (piece_end c.args.s.now c.loop-i.i 10 c.loop-i-test.false)
 
 pub returns-then-c-le4 : goal.returns-then-c-le4
 returns-then-c-le4 c =
     let begins : Unmarked 8 c.class_of-k.result = let k = c.class_of-k.result in
-    elim c.then-k-eq9.branch [ then-then-k-eq9 w ↦ below_marks 8 k (omega (arith, w.then-k-eq9.true)) (omega (arith, w.then-k-eq9.true)) | else-then-k-eq9 w ↦ of_letter 8 k (omega arith) (ltb-true 11 k w.1.taken) ] in
+    elim c.then-k-eq9.branch [ then-k-eq9-via-then-k-eq9 w ↦ below_marks 8 k (omega arith) (omega arith) | then-k-eq9-via-else-k-eq9+then-k-gt11 w ↦ of_letter 8 k (omega arith) (omega arith) ] in
     let ended : (whole 10 (drop c.loop-i.i c.args.s.now) ≡ 10) × (extent (drop c.loop-i.i c.args.s.now) ≡ 0) →
     tok 4 c.seek.f c.loop-i.i ≡ token_at c.args.s.now c.args.at = λ end. let s = c.args.s.now in
     let seek = c.seek in
@@ -80,7 +77,7 @@ returns-then-c-le4 c =
     let some = (begins).0 in
     piece_made s c.loop-i.i 10 f 4 refl c.loop-i.invariant.0 c.loop-i.invariant.1 end
     ∙ sym (chosen_piece s f k (λ e. omega (arith, e, some)) (λ e. omega (arith, e, some)) (λ e. omega (arith, e, some)))
-    ∙ found s f c.args.at seek.inv k c.seek-test.true class_of.ensures (λ e. omega (arith, e, some)) (λ e. omega (arith, e, some)) in
+    ∙ found s f c.args.at seek.invariant k c.seek-test.true class_of.ensures (λ e. omega (arith, e, some)) (λ e. omega (arith, e, some)) in
     ended
     (piece_stop c.args.s.now c.loop-i.i 10 c.loop-i-test.true (omega (arith, c.class_of-c.ensures, c.if-c-le4.true)))
 

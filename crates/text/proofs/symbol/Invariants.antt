@@ -1,18 +1,10 @@
 -- `text::symbol` meets its contract. The outer loop passes over white space as `token` does, so that the token found from place f on is the one asked for, and `token` may tell it. A
 -- piece that begins with a point or a letter is a symbol, and stays one with each byte that the inner loop passes: the inner invariant is that of `piece`, for a symbol. Where the piece
 -- ends it is the token. The measures are what is left of the text.
-use mathlib.Core.Path.{◌≡◌, refl, sym, ◌∙◌, ap}
-use mathlib.Core.Logic.{⊎_elim}
-use Prim.Native.Nat.{◌+◌, ◌-◌, ◌<◌}
-use lib.ListN.{length, drop, get_or}
-use borrow.Author.Tests.{ltb-true, ltb-false}
-use Rattle.text.specs.Lexicon.{whole, extent, tok, start, token_at}
-use Rattle.text.proofs.Reading.{Unmarked, below_marks, of_letter, symbol_begins, symbol_stays}
-use Rattle.text.proofs.Classes.{class_small, white_of}
-use Rattle.text.proofs.Runs.{white_on, piece_end, piece_stop, piece_on, piece_more, piece_made}
-use Rattle.text.proofs.Standing.{standing, chosen_piece, found}
-use borrow.Author.Rules.{rules}
-use native.Mathlib.Omega.{arith}
+use mathlib.Core.Path.{◌≡◌}
+use Prim.Native.Nat.{◌+◌, ◌-◌}
+use lib.ListN.{length, drop}
+use Rattle.text.specs.Lexicon.{whole, extent, start}
 use Rattle.text.proofs.symbol.Given as goal
 
 abbrev pub invariant-loop-i : goal.invariant-loop-i

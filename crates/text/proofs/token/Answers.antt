@@ -1,14 +1,12 @@
 -- `text::token` meets its contract. The loop's invariant: the token found from the place on is the one asked for. The class of the byte there is white space, begins a comment, or
 -- picks the token. The measure is what is left of the text.
 use mathlib.Core.Path.{◌≡◌, refl, sym, ◌∙◌, ap}
-use Prim.Native.Nat.{◌-◌}
-use lib.ListN.{length, get_or}
+use lib.ListN.{get_or}
 use borrow.Author.Tests.{eqb-true}
-use Rattle.text.specs.Lexicon.{start, token_at}
+use Rattle.text.specs.Lexicon.{token_at}
 use Rattle.text.proofs.Classes.{white_of, semicolon_of}
 use Rattle.text.proofs.Runs.{white_on}
 use Rattle.text.proofs.Standing.{chosen, chosen_piece, found, found_end}
-use borrow.Author.Rules.{rules}
 use native.Mathlib.Omega.{arith}
 use Rattle.text.proofs.token.Goals as goal
 
@@ -78,7 +76,7 @@ loop-i-smaller c = let loop-test = c.loop-i-test in
 
 pub loop-i-preserved : goal.loop-i-preserved
 loop-i-preserved c = let loop = c.loop-i in
-    c.comment_end-i.ensures.1 ∙ loop.inv
+    c.comment_end-i.ensures.1 ∙ loop.invariant
 
 pub returns : goal.returns
 returns c = found_end c.args.s.now c.loop-i.i c.args.at c.loop-i.invariant c.loop-i-test.false

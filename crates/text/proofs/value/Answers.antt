@@ -1,10 +1,8 @@
 -- `text::value` meets its contract. The loop's invariant: the number read so far, with the digits that follow, is the whole number, both cut at the cap. The measure is what is left of the
 -- digits.
-use mathlib.Core.Path.{◌≡◌, refl, sym, ◌∙◌}
-use Prim.Native.Nat.{◌+◌, ◌*◌, ◌-◌, ◌≤◌}
+use mathlib.Core.Path.{refl, sym, ◌∙◌}
+use Prim.Native.Nat.{◌+◌, ◌*◌}
 use native.Mathlib.Omega.{arith}
-use borrow.Author.Rules.{rules}
-use Rattle.text.specs.Lexicon.{bytes, cut, number}
 use Rattle.text.proofs.Numbers.{cut_within, number_more, number_end}
 use Rattle.text.proofs.value.Goals as goal
 
