@@ -1,6 +1,5 @@
 -- `words::is_comparison` meets its contract: each operator in turn, from the last to the first.
 use Rattle.words.proofs.Chain.{link}
-use borrow.Author.Rules.{rules}
 use Rattle.words.proofs.is_comparison.Goals as goal
 
 pub same-requires : goal.same-requires

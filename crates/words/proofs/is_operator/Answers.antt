@@ -1,6 +1,5 @@
 -- `words::is_operator` meets its contract: each operator in turn, from the last to the first.
 use Rattle.words.proofs.Chain.{link}
-use borrow.Author.Rules.{rules}
 use Rattle.words.proofs.is_operator.Goals as goal
 
 pub same-requires : goal.same-requires

@@ -6,7 +6,6 @@ use mathlib.Core.Bool.{Bool}
 use native.Mathlib.Omega.{arith}
 use lib.Dec.{T, leb, le→leb}
 use lib.ListN.{length}
-use borrow.Author.Rules.{rules}
 use Rattle.text.specs.Lexicon.{from_to, bytes, same_bytes}
 use Rattle.words.specs.ByLength.{WORDS_TO_3, WORDS_TO_5, WORDS_OF_6, WORDS_TO_9, WORDS_TO_13, WORDS_FROM_14}
 use Rattle.words.specs.Words.{among, reserved}

@@ -1,7 +1,6 @@
 -- `words::words_to_3` meets its contract: each word in turn, from the last to the first.
 use mathlib.Core.Path.{refl}
 use Rattle.words.proofs.Chain.{link}
-use borrow.Author.Rules.{rules}
 use Rattle.words.proofs.words_to_3.Goals as goal
 
 pub same-requires : goal.same-requires
