@@ -8,7 +8,6 @@ use Rattle.meaning.specs.Bounds.{NAME_BYTES}
 use Rattle.text.specs.Lexicon.{bytes}
 use Rattle.text.proofs.Words.{length_bytes}
 use Rattle.names.proofs.Shelves.{linkable, declared}
-use borrow.Author.Rules.{rules}
 use Rattle.names.proofs.declare.Goals as goal
 
 pub push-requires : goal.push-requires

@@ -6,7 +6,6 @@ use Rattle.meaning.specs.Tables.{at}
 use Rattle.text.specs.Lexicon.{bytes}
 use Rattle.names.specs.Names.{hash}
 use Rattle.names.proofs.Links.{linked, link_head, found_all}
-use borrow.Author.Rules.{rules}
 use Rattle.names.proofs.find.Goals as goal
 
 pub follow-requires : goal.follow-requires

@@ -3,11 +3,9 @@ use Prim.Native.Nat.{suc, ◌-◌, ◌≤◌, ◌<◌}
 use native.Mathlib.Omega.{arith}
 use mathlib.Core.Path.{◌≡◌, refl}
 use mathlib.Core.Logic.{inl, inr}
-use borrow.Author.Rules.{rules}
 use Rattle.meaning.specs.Tables.{at}
 use Rattle.text.specs.Lexicon.{bytes}
-use Rattle.names.specs.Names.{LinkOf}
-use Rattle.names.proofs.Links.{Passed, link_next, passed_next}
+use Rattle.names.proofs.Links.{link_next, passed_next}
 use Rattle.names.proofs.Shelves.{shelved_less}
 use Rattle.names.proofs.follow.Goals as goal
 

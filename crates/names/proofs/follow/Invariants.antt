@@ -1,14 +1,8 @@
 -- `names::follow` meets its contract. The loop's invariant: the link leads to a name with the hash sought, and no name passed is the one sought. The measure is the link.
-use Prim.Native.Nat.{suc, ◌-◌, ◌≤◌, ◌<◌}
-use native.Mathlib.Omega.{arith}
-use mathlib.Core.Path.{◌≡◌, refl}
-use mathlib.Core.Logic.{inl, inr}
-use borrow.Author.Rules.{rules}
-use Rattle.meaning.specs.Tables.{at}
+use Prim.Native.Nat.{◌≤◌}
 use Rattle.text.specs.Lexicon.{bytes}
 use Rattle.names.specs.Names.{LinkOf}
-use Rattle.names.proofs.Links.{Passed, link_next, passed_next}
-use Rattle.names.proofs.Shelves.{shelved_less}
+use Rattle.names.proofs.Links.{Passed}
 use Rattle.names.proofs.follow.Given as goal
 
 abbrev pub invariant-loop-l : goal.invariant-loop-l

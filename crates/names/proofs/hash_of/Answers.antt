@@ -1,10 +1,6 @@
 -- `names::hash_of` meets its contract. The loop's invariant: what is hashed so far, with the bytes left, is the hash. The measure is what is left of the bytes.
-use Prim.Native.Nat.{◌-◌, ◌<◌}
 use native.Mathlib.Omega.{arith}
-use mathlib.Core.Path.{◌≡◌, refl, sym, ◌∙◌}
-use borrow.Author.Rules.{rules}
-use Rattle.text.specs.Lexicon.{bytes}
-use Rattle.names.specs.Names.{hash, hashed, BUCKETS}
+use mathlib.Core.Path.{refl, sym, ◌∙◌}
 use Rattle.names.proofs.Hashing.{hashed_first, hashed_none}
 use Rattle.names.proofs.hash_of.Goals as goal
 

@@ -1,11 +1,8 @@
 -- `names::hash_of` meets its contract. The loop's invariant: what is hashed so far, with the bytes left, is the hash. The measure is what is left of the bytes.
-use Prim.Native.Nat.{◌-◌, ◌<◌}
-use native.Mathlib.Omega.{arith}
-use mathlib.Core.Path.{◌≡◌, refl, sym, ◌∙◌}
-use borrow.Author.Rules.{rules}
+use Prim.Native.Nat.{◌<◌}
+use mathlib.Core.Path.{◌≡◌}
 use Rattle.text.specs.Lexicon.{bytes}
 use Rattle.names.specs.Names.{hash, hashed, BUCKETS}
-use Rattle.names.proofs.Hashing.{hashed_first, hashed_none}
 use Rattle.names.proofs.hash_of.Given as goal
 
 abbrev pub invariant-loop-i : goal.invariant-loop-i

@@ -1,10 +1,9 @@
 -- `names::index` meets its contract. The loop's invariant: the names passed have their hashes. The measure is what is left of the names.
-use Prim.Native.Nat.{◌+◌, ◌*◌, ◌-◌, ◌≤◌, ◌<◌}
+use Prim.Native.Nat.{◌+◌, ◌*◌, ◌≤◌, ◌<◌}
 use native.Mathlib.Omega.{arith}
-use mathlib.Core.Path.{◌≡◌, refl, ap, ◌∙◌}
+use mathlib.Core.Path.{refl, ap, ◌∙◌}
 use lib.ListN.{length, length-set}
 use borrow.Author.Count.{below_none}
-use borrow.Author.Rules.{rules}
 use Rattle.meaning.specs.Bounds.{NAME_BYTES}
 use Rattle.meaning.specs.Tables.{at}
 use Rattle.names.specs.Names.{hash, IndexRoom}

@@ -4,7 +4,6 @@ use mathlib.Core.Path.{sym}
 use Rattle.text.specs.Lexicon.{bytes}
 use Rattle.names.proofs.Equal.{same_decides}
 use Rattle.names.proofs.Hashing.{name_bytes}
-use borrow.Author.Rules.{rules}
 use Rattle.names.proofs.is_name.Goals as goal
 
 pub overflow_cast-to : goal.overflow_cast-to
