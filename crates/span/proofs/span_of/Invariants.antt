@@ -1,14 +1,10 @@
 -- `span::span_of` meets its contract. The loop's invariant: what is the span of what is left is the span of the text; at most as many brackets are open as bytes were passed.
 -- The measure is what is left of the text.
 use mathlib.Core.Path.{◌≡◌}
-use mathlib.Core.Logic.{⊎_elim}
 use Prim.Native.Nat.{ℕ, ◌-◌, ◌≤◌}
-use native.Mathlib.Omega.{arith}
 use lib.ListN.{length}
-use borrow.Author.Tests.{eqb-true, eqb-false, not-true, not-false}
-use Rattle.text.proofs.Tokens.{Placed, token_placed}
 use Rattle.span.specs.Span.{span}
-use Rattle.span.proofs.Steps.{IsSpan, span_ends, span_bad, span_closed, span_deeper, span_higher, span_other, span_end, span_begun, span_other_kind, span_late}
+use Rattle.span.proofs.Steps.{IsSpan}
 use Rattle.span.proofs.span_of.Given as goal
 
 abbrev pub invariant-loop-i : goal.invariant-loop-i
