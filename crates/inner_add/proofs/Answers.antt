@@ -1,5 +1,5 @@
 -- From the plan of a new rule to what Add and Trial promise.
-use Prim.Native.Nat.{ℕ, ◌+◌, ◌*◌, ◌-◌, ◌^◌, ◌≤◌, ◌<◌}
+use Prim.Native.Nat.{ℕ, ◌+◌, ◌≤◌, ◌<◌}
 use native.Mathlib.Omega.{arith}
 use native.Mathlib.Decide.{dec_lt}
 use mathlib.Core.Path.{◌≡◌, refl, sym, ◌∙◌, ap, subst}
@@ -27,7 +27,7 @@ use Rattle.chains.specs.Chains.{number, OFF, linked, LentChains}
 use Rattle.chains.proofs.Laws.{chains_lent}
 use Rattle.lent.specs.Promises.{Border}
 use Rattle.inner_watch.proofs.Equal.{tables_equal}
-use Rattle.spread.specs.Ground.{rules, Ground}
+use Rattle.spread.specs.Ground.{rules}
 use Rattle.shortest.specs.Clauses.{Refuted, ReasonIn}
 use Rattle.spread.proofs.Uses.{kept_earliest}
 use Rattle.inner_add.specs.Planning.{Base, NoGains, Raised, Raisable}

@@ -1,21 +1,20 @@
 -- Where all rules speak of steps below e alone, a rule can be tried on these e of n steps: the steps from e on keep their days, which are their earliest still.
-use Prim.Native.Nat.{ℕ, zero, suc, ◌+◌, ◌≤◌, ◌<◌}
+use Prim.Native.Nat.{ℕ, zero, suc, ◌≤◌, ◌<◌}
 use native.Mathlib.Omega.{arith}
 use native.Mathlib.Decide.{dec_lt, dec_le}
 use mathlib.Core.Path.{◌≡◌, refl, sym, ◌∙◌, subst}
-use mathlib.Core.Bool.{Bool, true, false, cond}
+use mathlib.Core.Bool.{Bool, cond}
 use lib.Dec.{ltb}
 use mathlib.Core.List.{List}
 use lib.IntN.{ℤ, pos}
 use borrow.Author.Tests.{eq-eqb, lt-ltb, le-ltb}
-use Rattle.meaning.specs.Rules.{Rule, Keeps, InSteps, InBounds, Earliest, Plan, largest, more, plus, rule}
-use Rattle.meaning.specs.Tables.{Columns, rule_at, at}
+use Rattle.meaning.specs.Rules.{Rule, InSteps, Earliest, Plan, more, plus, rule}
+use Rattle.meaning.specs.Tables.{Columns, at}
 use Rattle.meaning.specs.Promise as promise
 use Rattle.meaning.proofs.LastDay.{largest_beyond}
 use Rattle.meaning.proofs.More.{arrangement_old}
 use Rattle.lent.specs.Lent.{columns}
 use Rattle.spread.specs.Ground.{rules}
-use Rattle.inner_add.specs.Planning.{Base}
 use Rattle.inner_add.specs.Lending.{Holdable}
 use Rattle.inner_add.specs.Fit.{Taken, Tells}
 

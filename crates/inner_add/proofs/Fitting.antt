@@ -1,24 +1,24 @@
 -- Whether a new rule fits, from what the days lack for it and from the spread of that gain.
-use Prim.Native.Nat.{ℕ, ◌+◌, ◌^◌, ◌≤◌, ◌<◌}
+use Prim.Native.Nat.{ℕ, ◌+◌, ◌≤◌, ◌<◌}
 use native.Mathlib.Omega.{arith}
 use native.Mathlib.Decide.{ℕ_discrete}
-use mathlib.Core.Path.{◌≡◌, refl, sym, ◌∙◌, ap, subst}
-use mathlib.Core.Bool.{Bool, true, false, true≢false, false≢true}
+use mathlib.Core.Path.{◌≡◌, refl, sym, subst}
+use mathlib.Core.Bool.{Bool, true, false, true≢false}
 use mathlib.Core.List.{List}
 use lib.ListN.{length}
 use lib.IntN.{ℤ, pos}
-use Rattle.meaning.specs.Rules.{Rule, Keeps, InSteps, Earliest, Fits, more, plus, rule}
+use Rattle.meaning.specs.Rules.{Keeps, InSteps, Earliest, Fits, more, plus, rule}
 use Rattle.meaning.specs.Tables.{at}
 use Rattle.meaning.specs.Reckoning.{up, dn}
 use Rattle.meaning.proofs.More.{more_all}
 use Rattle.meaning.proofs.Theory.{earliest_ext}
-use Rattle.spread.specs.Ground.{rules, Ground}
+use Rattle.spread.specs.Ground.{rules}
 use Rattle.spread.specs.Trace.{Traced}
 use Rattle.spread.specs.Clauses.{alone, Spread}
-use Rattle.spread.specs.Ring.{Reached, Lacks}
+use Rattle.spread.specs.Ring.{Reached}
 use Rattle.spread.proofs.Collecting.{alone_there, alone_elsewhere}
 use Rattle.spread.proofs.Uses.{gains_bounded, kept_earliest, added_earliest, reached_unfit}
-use Rattle.inner_add.specs.Planning.{Lack, Plannable, RulePlanned}
+use Rattle.inner_add.specs.Planning.{Plannable, RulePlanned}
 
 module _ (n : ℕ) (H : ℕ → Type 0) (order : ℕ → ℕ) (k : ℕ) (xs ys : List ℕ) (cs : List ℤ) (days heads nexts gains by : List ℕ) (x y : ℕ) (c : ℤ) (p : Plannable n H order k xs ys cs days heads nexts gains by x y c) where
   -- The steps of the rules held, and of the new rule, are below n.

@@ -10,7 +10,7 @@ use Rattle.meaning.specs.declared.Counts.{Counts}
 use Rattle.meaning.specs.Bounds.{STEPS, RULES, DONE, CONFLICT}
 use Rattle.meaning.specs.Rules.{InBounds, Fits, rule}
 use Rattle.meaning.specs.Tables.{Tables, at, lowest_free}
-use Rattle.meaning.specs.Promise.{Need, needs, First, reply}
+use Rattle.meaning.specs.Promise.{needs, First, reply}
 use Rattle.meaning.specs.Calls.{rules_of, held_in}
 use Rattle.meaning.proofs.Places.{lowest_found, lowest_free_there}
 use Rattle.meaning.proofs.Needs.{AllMet, done_met, first_stops, not_given, obeys_refused}

@@ -1,7 +1,7 @@
 -- Planning a new rule: what the days lack for it, the gains that it asks, and the days with their gains.
 use Rattle.std.specs.Prelude.{ℕ, ◌+◌, ◌^◌, ◌≤◌, ◌<◌, ◌≡◌, Bool, true, false, List, length, ℤ, pos}
 use Rattle.meaning.specs.Bounds.{STEPS, RULES}
-use Rattle.meaning.specs.Rules.{Rule, Keeps, InSteps, InBounds, Earliest, Fits, more, plus, rule}
+use Rattle.meaning.specs.Rules.{Keeps, InSteps, InBounds, Earliest, Fits, more, plus, rule}
 use Rattle.meaning.specs.Tables.{ColumnsRoom, at}
 use Rattle.meaning.specs.Promise.{Past, moved}
 use Rattle.meaning.specs.Reckoning.{up, dn}

@@ -84,7 +84,7 @@ returns-then-added c = let add-one-arg8 = c.add_one-arg-in-loop-i-7-1 in
     }
 
 pub overflow_add-i : goal.overflow_add-i
-overflow_add-i c = omega (arith, c.loop-i-test.true, c.ranges.k.fits)
+overflow_add-i c = omega (arith, c.loop-i-test.true, c.ranges.k)
 
 pub loop-i-smaller : goal.loop-i-smaller
 loop-i-smaller c = let loop-test = c.loop-i-test in

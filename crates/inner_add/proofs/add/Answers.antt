@@ -1,8 +1,6 @@
 -- `inner_add::add`: the test of the rule decides the refusals; where the rule fits it is held under the next number, else the reason is in the list.
-use Prim.Native.Nat.{◌<◌}
 use mir.Syntax.{w32}
 use mir.ValLaws.{to_z-of_z}
-use Rattle.meaning.specs.Bounds.{RULES}
 use Rattle.meaning.specs.Rules.{rule}
 use Rattle.lent.specs.Lent.{columns, held_by}
 use Rattle.chains.specs.Chains.{number}
@@ -10,20 +8,9 @@ use Rattle.chains.proofs.Held.{filled_same}
 use Rattle.inner_add.specs.Lending.{Holdable}
 use Rattle.inner_add.specs.Fit.{Tells}
 use Rattle.inner_add.proofs.Answers.{add_done, add_conflict, ring_before, left_ready, left_unfit}
-use Rattle.inner_add.proofs.Holding.{hold_good, hold_place, hold_ready, add_refused}
+use Rattle.inner_add.proofs.Holding.{hold_place, hold_ready, add_refused}
 use Rattle.inner_add.proofs.Linked.{ready_linked, tells_held}
 use native.Mathlib.Omega.{arith}
-use borrow.Author.Rules.{rules}
-use Rattle.inner_add.proofs.add.Reads as reads
-use Rattle.inner_add.proofs.add.Lts as lts
-use Rattle.inner_add.proofs.fit.Reads as fit-reads
-use Rattle.inner_add.proofs.hold_verdict.Reads as hold-verdict-reads
-use Rattle.inner_add.proofs.one_more.Reads as one-more-reads
-use Rattle.inner_add.proofs.why.Reads as why-reads
-use Rattle.lent.proofs.next_free.Reads as next-free-reads
-use Rattle.meaning.proofs.conflict.Reads as conflict-reads
-use Rattle.meaning.proofs.done.Reads as done-reads
-use Rattle.meaning.proofs.refused.Reads as refused-reads
 use Rattle.inner_add.proofs.add.Goals as goal
 
 pub returns-then-number-gt0 : goal.returns-then-number-gt0
@@ -110,7 +97,7 @@ why-k-requires c =
     hold_ready args.counts args.x args.y args.c c.hold_verdict-number.result (rw (to_z-of_z w32 args.c c.ranges.c) at c.hold_verdict-number.ensures) args.xs.now args.ys.now args.cs.now args.days.now args.levels.now args.heads.now args.nexts.now c.requires.base c.requires.counted
     c.next_free-m.result c.next_free-m.ensures (omega (arith, c.if-number-gt0.false)) in
     let left = (rw (to_z-of_z w32 c.args.c c.ranges.c) at c.fit-fitted.ensures).when_not c.if-fitted.false in
-    rw (to_z-of_z w32 c.args.c c.ranges.c) (left_ready left (ready_linked c.requires.lent_chains (ready)), (left_unfit left, (c.requires.lent_chains.nexts_room, c.requires.in_bounds)))
+    rw (to_z-of_z w32 c.args.c c.ranges.c) (record { holdable = left_ready left (ready_linked c.requires.lent_chains (ready)); fact = left_unfit left; in_bounds = c.requires.lent_chains.nexts_room; in_bounds_2 = c.requires.in_bounds })
 
 pub returns : goal.returns
 returns c =

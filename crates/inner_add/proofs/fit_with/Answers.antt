@@ -1,20 +1,12 @@
 -- `inner_add::fit_with`: the plan of the rule raises the days and the rule is written; or the gain has reached x, and nothing is.
 use Rattle.chains.specs.Chains.{number, linked}
-use Prim.Native.Nat.{◌≤◌, ◌<◌}
-use mathlib.Core.Path.{◌≡◌, refl, sym, ◌∙◌}
-use mathlib.Core.Bool.{true, false, true≢false, false≢true}
+use mathlib.Core.Path.{refl}
+use mathlib.Core.Bool.{true≢false, false≢true}
 use mir.Syntax.{w32}
 use mir.ValLaws.{to_z-of_z}
-use borrow.Author.Tests.{not-true, not-false}
 use Rattle.inner_add.specs.Planning.{RulePlanned}
 use Rattle.inner_add.proofs.Answers.{placed, raisable, taken}
 use native.Mathlib.Omega.{arith}
-use borrow.Author.Rules.{rules}
-use Rattle.inner_add.proofs.fit_with.Reads as reads
-use Rattle.inner_add.proofs.fit_with.Lts as lts
-use Rattle.inner_watch.proofs.write_rule.Reads as write-rule-reads
-use Rattle.inner_add.proofs.plan.Reads as plan-reads
-use Rattle.inner_add.proofs.raise_days.Reads as raise-days-reads
 use Rattle.inner_add.proofs.fit_with.Goals as goal
 
 pub plan-requires : goal.plan-requires
@@ -26,7 +18,7 @@ returns-then-not-plan c = let plan = c.plan in
     let args = c.args in
     let p : RulePlanned args.n (linked args.nexts.now) args.m args.xs.now args.ys.now args.cs.now args.days.now _ _ args.x args.y args.c plan.result
     = rw (to_z-of_z w32 args.c c.ranges.c) at plan.ensures in
-    let not = not-true _ if1.true in
+    let not = if1.true in
     record {
       tells = record {
         when_fits = λ e. absurd (false≢true e);
@@ -43,7 +35,7 @@ raise_days-risen-requires c = let if1 = c.if-not-plan in
     let p : RulePlanned args.n (linked args.nexts.now) args.m args.xs.now args.ys.now args.cs.now args.days.now _ _ args.x args.y args.c plan.result
     = rw (to_z-of_z w32 args.c c.ranges.c) at plan.ensures in
     raisable args.n (linked args.nexts.now) number args.m args.xs.now args.ys.now args.cs.now args.days.now args.heads.now args.nexts.now args.x args.y args.c c.requires.holdable
-    _ (p.earliest (not-false _ if1.false)) args.days.now (omega (arith, plan.auto.gains, c.requires.no_gains.gains_room)) c.requires.holdable.base.ground.days_room
+    _ (p.earliest if1.false) args.days.now (omega (arith, plan.auto.gains, c.requires.no_gains.gains_room)) c.requires.holdable.base.ground.days_room
 
 pub write_rule-requires : goal.write_rule-requires
 write_rule-requires c = placed c.args.xs.now c.args.ys.now c.args.cs.now c.args.m c.requires.holdable.base.columns_room c.requires.holdable.not_full
@@ -60,7 +52,7 @@ returns c = let write-rule = c.write_rule in
       tells = record {
         when_fits = λ e.
             taken args.n (linked args.nexts.now) number args.m args.xs.now args.ys.now args.cs.now args.days.now args.heads.now args.nexts.now args.x args.y args.c c.requires.holdable
-            _ (p.earliest (not-false _ if1.false)) args.last _ _ _ _ raise-days.ensures.raised raise-days.ensures.last_value (rw (to_z-of_z w32 args.c c.ranges.c) at write-rule.ensures);
+            _ (p.earliest if1.false) args.last _ _ _ _ raise-days.ensures.raised raise-days.ensures.last_value (rw (to_z-of_z w32 args.c c.ranges.c) at write-rule.ensures);
         when_not = λ e. absurd (true≢false e);
       };
       reached = λ e. absurd (true≢false e);

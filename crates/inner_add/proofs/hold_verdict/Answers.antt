@@ -10,10 +10,6 @@ use Rattle.meaning.specs.Promise.{needs as needing}
 use Rattle.meaning.specs.Rules.{rule}
 use Rattle.inner_watch.proofs.Verdict.{rule_steps, rule_amount, rule_refused}
 use native.Mathlib.Omega.{arith}
-use borrow.Author.Rules.{rules}
-use Rattle.inner_add.proofs.hold_verdict.Reads as reads
-use Rattle.inner_add.proofs.hold_verdict.Lts as lts
-use Rattle.inner_watch.proofs.rule_verdict.Reads as rule-verdict-reads
 use Rattle.inner_add.proofs.hold_verdict.Goals as goal
 
 pub returns-then-number-gt0 : goal.returns-then-number-gt0

@@ -1,6 +1,4 @@
 -- `inner_add::lack`: the two sides of the test are the rule's, both with BIAS added.
-use Prim.Native.Nat.{◌+◌, ◌<◌}
-use mathlib.Core.Path.{◌≡◌}
 use mir.Syntax.{w32}
 use mir.ValLaws.{to_z-of_z}
 use Rattle.lent.specs.Lent.{Biased}
@@ -8,11 +6,6 @@ use Rattle.meaning.specs.Rules.{rule}
 use Rattle.meaning.specs.Tables.{at}
 use Rattle.meaning.proofs.Whole.{→plan}
 use native.Mathlib.Omega.{arith}
-use borrow.Author.Rules.{rules}
-use Rattle.inner_add.proofs.lack.Reads as reads
-use Rattle.inner_add.proofs.lack.Lts as lts
-use Rattle.lent.proofs.biased.Reads as biased-reads
-use Rattle.lent.proofs.day_at.Reads as day-at-reads
 use Rattle.inner_add.proofs.lack.Goals as goal
 
 pub overflow_add-asked : goal.overflow_add-asked

@@ -1,6 +1,4 @@
 -- `inner_add::one_more` meets its contract: each of its two calls changes one number of the counts.
-use borrow.Author.Rules.{rules}
-use native.Mathlib.Omega.{arith}
 use mathlib.Core.Path.{refl}
 use Rattle.inner_add.proofs.one_more.Goals as goal
 

@@ -1,28 +1,21 @@
 -- `inner_add::plan`: with nothing lacking the days stay; else the gain that is lacking is spread, and x tells whether the rule fits.
 use Rattle.chains.specs.Chains.{number, linked}
-use Prim.Native.Nat.{◌<◌}
-use mathlib.Core.Path.{◌≡◌}
 use mir.Syntax.{w32}
 use mir.ValLaws.{to_z-of_z}
 use Rattle.inner_add.specs.Planning.{Lack}
 use Rattle.inner_add.proofs.Fitting.{fits_at_once, planned}
 use native.Mathlib.Omega.{arith}
-use borrow.Author.Rules.{rules}
 use borrow.Author.Tests.{eqb-true, eqb-false, leb-true, leb-false, ltb-true, ltb-false}
-use Rattle.inner_add.proofs.plan.Reads as reads
-use Rattle.inner_add.proofs.plan.Lts as lts
-use Rattle.inner_add.proofs.lack.Reads as lack-reads
-use Rattle.spread.proofs.spread_one.Reads as spread-one-reads
 use Rattle.inner_add.proofs.plan.Goals as goal
 
 pub returns-then-lacks-eq0 : goal.returns-then-lacks-eq0
-returns-then-lacks-eq0 c = let l : Lack c.args.days.now c.args.x c.args.y c.args.c c.lack-lacks.result = rw (to_z-of_z w32 c.args.c c.ranges.c.fits) at c.lack-lacks.ensures in
+returns-then-lacks-eq0 c = let l : Lack c.args.days.now c.args.x c.args.y c.args.c c.lack-lacks.result = rw (to_z-of_z w32 c.args.c c.ranges.c) at c.lack-lacks.ensures in
     fits_at_once c.args.n (linked c.args.nexts.now) number c.args.m c.args.xs.now c.args.ys.now c.args.cs.now c.args.days.now
     c.args.heads.now c.args.nexts.now c.args.gains.now c.args.by.now c.args.x c.args.y c.args.c
     c.requires (l.none (omega (arith, c.if-lacks-eq0.true))) c.args.by.now
 
 pub spread_one-requires : goal.spread_one-requires
-spread_one-requires c = let l : Lack c.args.days.now c.args.x c.args.y c.args.c c.lack-lacks.result = rw (to_z-of_z w32 c.args.c c.ranges.c.fits) at c.lack-lacks.ensures in record {
+spread_one-requires c = let l : Lack c.args.days.now c.args.x c.args.y c.args.c c.lack-lacks.result = rw (to_z-of_z w32 c.args.c c.ranges.c) at c.lack-lacks.ensures in record {
   ground = c.requires.base.ground;
   askable_alone = record {
     step_in = c.requires.new_in.second_in;
@@ -36,7 +29,7 @@ spread_one-requires c = let l : Lack c.args.days.now c.args.x c.args.y c.args.c 
 
 pub returns : goal.returns
 returns c = let lack = c.lack-lacks in
-    let l : Lack c.args.days.now c.args.x c.args.y c.args.c lack.result = rw (to_z-of_z w32 c.args.c c.ranges.c.fits) at lack.ensures in
+    let l : Lack c.args.days.now c.args.x c.args.y c.args.c lack.result = rw (to_z-of_z w32 c.args.c c.ranges.c) at lack.ensures in
     planned c.args.n (linked c.args.nexts.now) number c.args.m c.args.xs.now c.args.ys.now c.args.cs.now c.args.days.now
     c.args.heads.now c.args.nexts.now c.args.gains.now c.args.by.now c.args.x c.args.y c.args.c
     c.requires lack.result (l.some (omega (arith, c.if-lacks-eq0.false))) _ _ _ (omega (arith, c.spread_one.auto.by, c.requires.no_gains.by_room)) c.spread_one.ensures

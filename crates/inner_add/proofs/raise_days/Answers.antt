@@ -1,18 +1,12 @@
 -- `inner_add::raise_days`: what is raised and counted so far is a `Raised`, and the latest is the last of the days passed, one step more each turn.
-use Prim.Native.Nat.{◌+◌, ◌-◌, ◌^◌, ◌≤◌, ◌<◌}
+use Prim.Native.Nat.{◌+◌, ◌^◌, ◌<◌}
 use mathlib.Core.Path.{◌≡◌, sym, ◌∙◌}
-use mathlib.Core.Logic.{inl, inr, ⊎_elim}
-use lib.ListN.{length, length-set}
-use Rattle.meaning.specs.Rules.{largest}
+use mathlib.Core.Logic.{inl, inr}
+use lib.ListN.{length}
 use Rattle.meaning.specs.Tables.{at}
 use Rattle.meaning.proofs.LastDay.{largest_zeros, largest_set}
-use Rattle.inner_add.specs.Planning.{Raised}
 use Rattle.inner_add.proofs.Raising.{raised_none, raised_more, raised_same}
-use borrow.Author.Rules.{rules}
 use native.Mathlib.Omega.{arith}
-use Rattle.inner_add.proofs.raise_days.Reads as reads
-use Rattle.inner_add.proofs.raise_days.Lts as lts
-use Rattle.lent.proofs.day_at.Reads as day-at-reads
 use Rattle.inner_add.proofs.raise_days.Goals as goal
 use Rattle.inner_add.proofs.raise_days.Goals.{else-gain-gt0, else-latest-day, then-gain-gt0, then-latest-day}
 
@@ -52,8 +46,8 @@ loop-v-preserved c = let day-at = c.day_at in
     let day : day-at.result ≡ at days v = day-at.ensures ∙ so_far.past.kept v (omega arith) in
     let latest =
     largest_set v list (day-at.result + at gains v) inside loop.invariant.3
-    (elim c.if-latest-day.branch [ then-latest-day w ↦ inl (omega (arith, w.if-latest-day.true), w.days-is) | else-latest-day w ↦ inr (omega (arith, w.if-latest-day.false), w.days-is) ]) in
-    elim c.if-gain-gt0.branch [ then-gain-gt0 w ↦ (omega arith, omega (arith, w.days-is), rw (day, w.days-is) (raised_more days gains days list v count place so_far (omega (arith, w.if-gain-gt0.true))), latest) | else-gain-gt0 w ↦ (omega arith, omega (arith, w.days-is), rw (day, w.days-is) (raised_same days gains days list v count place so_far (omega (arith, w.if-gain-gt0.false))), latest) ]
+    (elim c.if-latest-day.branch [ then-latest-day w ↦ inl (omega (arith, w.if-latest-day.true), w.latest-is) | else-latest-day w ↦ inr (omega (arith, w.if-latest-day.false), w.latest-is) ]) in
+    elim c.if-gain-gt0.branch [ then-gain-gt0 w ↦ (omega arith, omega (arith, w.count-is), rw (day, w.count-is) (raised_more days gains days list v count place so_far (omega (arith, w.if-gain-gt0.true))), latest) | else-gain-gt0 w ↦ (omega arith, omega (arith, w.count-is), rw (day, w.count-is) (raised_same days gains days list v count place so_far (omega (arith, w.if-gain-gt0.false))), latest) ]
 
 pub returns : goal.returns
 returns c = let end : c.loop-v.v ≡ c.args.n = omega arith in record {

@@ -1,18 +1,9 @@
 -- `inner_add::raise_days`: what is raised and counted so far is a `Raised`, and the latest is the last of the days passed, one step more each turn.
-use Prim.Native.Nat.{◌+◌, ◌-◌, ◌^◌, ◌≤◌, ◌<◌}
-use mathlib.Core.Path.{◌≡◌, sym, ◌∙◌}
-use mathlib.Core.Logic.{inl, inr, ⊎_elim}
-use lib.ListN.{length, length-set}
+use Prim.Native.Nat.{◌≤◌}
+use mathlib.Core.Path.{◌≡◌}
 use Rattle.meaning.specs.Rules.{largest}
 use Rattle.meaning.specs.Tables.{at}
-use Rattle.meaning.proofs.LastDay.{largest_zeros, largest_set}
 use Rattle.inner_add.specs.Planning.{Raised}
-use Rattle.inner_add.proofs.Raising.{raised_none, raised_more, raised_same}
-use borrow.Author.Rules.{rules}
-use native.Mathlib.Omega.{arith}
-use Rattle.inner_add.proofs.raise_days.Reads as reads
-use Rattle.inner_add.proofs.raise_days.Lts as lts
-use Rattle.lent.proofs.day_at.Reads as day-at-reads
 use Rattle.inner_add.proofs.raise_days.Given as goal
 
 abbrev pub invariant-loop-v : goal.invariant-loop-v

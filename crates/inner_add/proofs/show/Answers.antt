@@ -5,17 +5,11 @@ use mathlib.Core.Bool.{true≢false, false≢true}
 use lib.ListN.{length-replicate}
 use mir.Syntax.{w32}
 use mir.ValLaws.{to_z-of_z}
-use borrow.Author.Tests.{not-true, not-false}
 use Rattle.meaning.specs.Bounds.{STEPS}
 use Rattle.chains.specs.Chains.{number, linked}
 use Rattle.inner_add.specs.Planning.{RulePlanned}
 use Rattle.inner_add.proofs.Answers.{no_gains, raisable, planned_list}
 use native.Mathlib.Omega.{arith}
-use borrow.Author.Rules.{rules}
-use Rattle.inner_add.proofs.show.Reads as reads
-use Rattle.inner_add.proofs.show.Lts as lts
-use Rattle.inner_add.proofs.plan.Reads as plan-reads
-use Rattle.inner_add.proofs.write_days.Reads as write-days-reads
 use Rattle.inner_add.proofs.show.Goals as goal
 
 pub plan-requires : goal.plan-requires

@@ -8,19 +8,9 @@ use Rattle.chains.proofs.Held.{filled_same}
 use Rattle.inner_add.specs.Lending.{Holdable}
 use Rattle.inner_add.specs.Fit.{Shows}
 use Rattle.inner_add.proofs.Answers.{trial_done, trial_conflict}
-use Rattle.inner_add.proofs.Holding.{hold_good, hold_ready, trial_refused}
+use Rattle.inner_add.proofs.Holding.{hold_ready, trial_refused}
 use Rattle.inner_add.proofs.Linked.{ready_linked, shows_held}
 use native.Mathlib.Omega.{arith}
-use borrow.Author.Rules.{rules}
-use Rattle.inner_add.proofs.trial.Reads as reads
-use Rattle.inner_add.proofs.trial.Lts as lts
-use Rattle.inner_add.proofs.hold_verdict.Reads as hold-verdict-reads
-use Rattle.inner_add.proofs.show.Reads as show-reads
-use Rattle.inner_add.proofs.why.Reads as why-reads
-use Rattle.lent.proofs.next_free.Reads as next-free-reads
-use Rattle.meaning.proofs.conflict.Reads as conflict-reads
-use Rattle.meaning.proofs.done.Reads as done-reads
-use Rattle.meaning.proofs.refused.Reads as refused-reads
 use Rattle.inner_add.proofs.trial.Goals as goal
 
 pub returns-then-number-gt0 : goal.returns-then-number-gt0
@@ -50,7 +40,7 @@ show-shown-requires c =
     Holdable args.counts.steps (held_by args.levels.now) number c.next_free-m.result args.xs.now args.ys.now args.cs.now args.days.now args.heads.now args.nexts.now args.x args.y args.c = let args = c.args in
     hold_ready args.counts args.x args.y args.c c.hold_verdict-number.result (rw (to_z-of_z w32 args.c c.ranges.c) at c.hold_verdict-number.ensures) args.xs.now args.ys.now args.cs.now args.days.now args.levels.now args.heads.now args.nexts.now c.requires.base c.requires.counted
     c.next_free-m.result c.next_free-m.ensures (omega (arith, c.if-number-gt0.false)) in
-    rw (to_z-of_z w32 c.args.c c.ranges.c) (ready_linked c.requires.lent_chains (ready), omega (arith, c.requires.both_room.one_room))
+    rw (to_z-of_z w32 c.args.c c.ranges.c) (record { holdable = ready_linked c.requires.lent_chains (ready); in_bounds = omega (arith, c.requires.both_room.one_room) })
 
 pub returns-then-shown : goal.returns-then-shown
 returns-then-shown c =
@@ -89,7 +79,7 @@ why-k-requires c =
     Holdable args.counts.steps (held_by args.levels.now) number c.next_free-m.result args.xs.now args.ys.now args.cs.now args.days.now args.heads.now args.nexts.now args.x args.y args.c = let args = c.args in
     hold_ready args.counts args.x args.y args.c c.hold_verdict-number.result (rw (to_z-of_z w32 args.c c.ranges.c) at c.hold_verdict-number.ensures) args.xs.now args.ys.now args.cs.now args.days.now args.levels.now args.heads.now args.nexts.now c.requires.base c.requires.counted
     c.next_free-m.result c.next_free-m.ensures (omega (arith, c.if-number-gt0.false)) in
-    rw (to_z-of_z w32 c.args.c c.ranges.c) (ready_linked c.requires.lent_chains (ready), ((rw (to_z-of_z w32 c.args.c c.ranges.c) at c.show-shown.ensures).unfit c.if-shown.false, (c.requires.lent_chains.nexts_room, omega (arith, c.requires.both_room.two_room))))
+    rw (to_z-of_z w32 c.args.c c.ranges.c) (record { holdable = ready_linked c.requires.lent_chains (ready); fact = (rw (to_z-of_z w32 c.args.c c.ranges.c) at c.show-shown.ensures).unfit c.if-shown.false; in_bounds = c.requires.lent_chains.nexts_room; in_bounds_2 = omega (arith, c.requires.both_room.two_room) })
 
 pub returns : goal.returns
 returns c =

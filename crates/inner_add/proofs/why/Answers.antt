@@ -4,19 +4,15 @@ use mir.ValLaws.{to_z-of_z}
 use Rattle.chains.specs.Chains.{number, linked}
 use Rattle.inner_add.proofs.Answers.{refuted, ring_short}
 use native.Mathlib.Omega.{arith}
-use borrow.Author.Rules.{rules}
-use Rattle.inner_add.proofs.why.Reads as reads
-use Rattle.inner_add.proofs.why.Lts as lts
-use Rattle.shortest.proofs.reason.Reads as reason-reads
 use Rattle.inner_add.proofs.why.Goals as goal
 
 pub reason-k-requires : goal.reason-k-requires
 reason-k-requires c = let args = c.args in
-    rw (to_z-of_z w32 args.c c.ranges.c) (
-      refuted args.n args.m args.xs.now args.ys.now args.cs.now args.days.now args.heads.now args.nexts.now args.x args.y args.c c.requires.holdable c.requires.fact c.requires.in_bounds
-          args.list.now c.requires.in_bounds_2,
-      c.requires.holdable.base.ground.chained,
-    )
+    rw (to_z-of_z w32 args.c c.ranges.c) (record {
+      refuted = refuted args.n args.m args.xs.now args.ys.now args.cs.now args.days.now args.heads.now args.nexts.now args.x args.y args.c c.requires.holdable c.requires.fact c.requires.in_bounds
+          args.list.now c.requires.in_bounds_2;
+      chains_of = c.requires.holdable.base.ground.chained;
+    })
 
 pub overflow_cast-result : goal.overflow_cast-result
 overflow_cast-result c = let args = c.args in

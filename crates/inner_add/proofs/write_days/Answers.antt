@@ -1,16 +1,7 @@
 -- `inner_add::write_days`: what is written and counted so far is a `Raised`, one step more each turn.
-use Prim.Native.Nat.{◌-◌, ◌≤◌}
-use mathlib.Core.Path.{◌≡◌, sym, subst}
-use mathlib.Core.Logic.{⊎_elim}
-use lib.ListN.{length-set}
-use Rattle.meaning.specs.Tables.{at}
-use Rattle.inner_add.specs.Planning.{Raised}
+use mathlib.Core.Path.{◌≡◌}
 use Rattle.inner_add.proofs.Raising.{raised_none, raised_more, raised_same}
-use borrow.Author.Rules.{rules}
 use native.Mathlib.Omega.{arith}
-use Rattle.inner_add.proofs.write_days.Reads as reads
-use Rattle.inner_add.proofs.write_days.Lts as lts
-use Rattle.lent.proofs.day_at.Reads as day-at-reads
 use Rattle.inner_add.proofs.write_days.Goals as goal
 use Rattle.inner_add.proofs.write_days.Goals.{else-gain-gt0, then-gain-gt0}
 
@@ -27,7 +18,7 @@ pub loop-v-preserved : goal.loop-v-preserved
 loop-v-preserved c = let day-at = c.day_at-day in
     let loop = c.loop-v in
     let place = c.requires.list_room in
-    elim c.if-gain-gt0.branch [ then-gain-gt0 w ↦ (omega arith, omega (arith, w.list-is), rw (day-at.ensures, w.list-is) (raised_more c.args.days.now c.args.gains.now c.args.list.now loop.list loop.v loop.count (omega (arith, place)) loop.invariant.2 (omega (arith, w.if-gain-gt0.true)))) | else-gain-gt0 w ↦ (omega arith, omega (arith, w.list-is), rw (day-at.ensures, w.list-is) (raised_same c.args.days.now c.args.gains.now c.args.list.now loop.list loop.v loop.count (omega (arith, place)) loop.invariant.2 (omega (arith, w.if-gain-gt0.false)))) ]
+    elim c.if-gain-gt0.branch [ then-gain-gt0 w ↦ (omega arith, omega (arith, w.count-is), rw (day-at.ensures, w.count-is) (raised_more c.args.days.now c.args.gains.now c.args.list.now loop.list loop.v loop.count (omega (arith, place)) loop.invariant.2 (omega (arith, w.if-gain-gt0.true)))) | else-gain-gt0 w ↦ (omega arith, omega (arith, w.count-is), rw (day-at.ensures, w.count-is) (raised_same c.args.days.now c.args.gains.now c.args.list.now loop.list loop.v loop.count (omega (arith, place)) loop.invariant.2 (omega (arith, w.if-gain-gt0.false)))) ]
 
 pub returns : goal.returns
 returns c = let end : c.loop-v.v ≡ c.args.n = omega arith in
