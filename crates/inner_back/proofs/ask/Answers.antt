@@ -1,12 +1,9 @@
 -- `inner_back::ask` meets its contract. The loop's invariant: each step passed has the gain that brings its day to k. The measure is what is left of
 -- the steps.
-use Prim.Native.Nat.{◌-◌, ◌≤◌}
-use mathlib.Core.Path.{◌≡◌, refl, ◌∙◌}
-use lib.ListN.{length, length-set}
+use mathlib.Core.Path.{refl, ◌∙◌}
+use lib.ListN.{length-set}
 use borrow.Author.Count.{below_none}
-use Rattle.inner_back.specs.Replan.{Reaches}
 use Rattle.inner_back.proofs.Passing.{reaches_more}
-use borrow.Author.Rules.{rules}
 use native.Mathlib.Omega.{arith}
 use Rattle.inner_back.proofs.ask.Goals as goal
 
@@ -29,9 +26,6 @@ loop-v-preserved c = let gains = c.loop-v.gains in
       reaches_more c.args.k v c.args.days.now gains (omega (arith, v-in, c.loop-v.invariant.0, c.requires.gains_room))
           (c.requires.not_after v v-in) c.loop-v.invariant.2,
     )
-
-pub shape_of-gains : goal.shape_of-gains
-shape_of-gains c = c.loop-v.invariant.0
 
 pub returns : goal.returns
 returns c v v-in = c.loop-v.invariant.2 v (omega (arith, c.loop-v-test.false))

@@ -1,13 +1,9 @@
 -- `inner_back::ask` meets its contract. The loop's invariant: each step passed has the gain that brings its day to k. The measure is what is left of
 -- the steps.
-use Prim.Native.Nat.{◌-◌, ◌≤◌}
-use mathlib.Core.Path.{◌≡◌, refl, ◌∙◌}
-use lib.ListN.{length, length-set}
-use borrow.Author.Count.{below_none}
+use Prim.Native.Nat.{◌≤◌}
+use mathlib.Core.Path.{◌≡◌}
+use lib.ListN.{length}
 use Rattle.inner_back.specs.Replan.{Reaches}
-use Rattle.inner_back.proofs.Passing.{reaches_more}
-use borrow.Author.Rules.{rules}
-use native.Mathlib.Omega.{arith}
 use Rattle.inner_back.proofs.ask.Given as goal
 
 abbrev pub invariant-loop-v : goal.invariant-loop-v

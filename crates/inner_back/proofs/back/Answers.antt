@@ -9,15 +9,6 @@ use Rattle.meaning.proofs.Places.{taken_at_most}
 use Rattle.chains.proofs.Laws.{lent_own}
 use Rattle.inner_back.proofs.Dropping.{freeable, plannable_left, earliest_left, planned_left}
 use native.Mathlib.Omega.{arith}
-use borrow.Author.Rules.{rules}
-use Rattle.inner_back.proofs.back.Reads as reads
-use Rattle.inner_back.proofs.back.Lts as lts
-use Rattle.inner_back.proofs.free_above.Reads as free-above-reads
-use Rattle.inner_back.proofs.replan.Reads as replan-reads
-use Rattle.meaning.proofs.done.Reads as done-reads
-use Rattle.meaning.proofs.marks_now.Reads as marks-now-reads
-use Rattle.meaning.proofs.refused.Reads as refused-reads
-use Rattle.meaning.proofs.rules_now.Reads as rules-now-reads
 use Rattle.inner_back.proofs.back.Goals as goal
 
 pub returns-then-counts-eq0 : goal.returns-then-counts-eq0
@@ -42,19 +33,7 @@ replan-last-requires c = let free = c.free_above-left in
 
 pub overflow_cast-left : goal.overflow_cast-left
 overflow_cast-left c = let free-above = c.free_above-left in
-    omega (arith, free-above.ensures.1.0, taken_at_most RULES free-above.last.1.1.1.1.0)
-
-pub shape_of-levels : goal.shape_of-levels
-shape_of-levels c = let free-above = c.free_above-left in
-    free-above.kept.1.1.1.1.0
-
-pub shape_of-heads : goal.shape_of-heads
-shape_of-heads c = let free-above = c.free_above-left in
-    free-above.kept.1.1.1.1.1.0
-
-pub shape_of-nexts : goal.shape_of-nexts
-shape_of-nexts c = let free-above = c.free_above-left in
-    free-above.kept.1.1.1.1.1.1.0
+    omega (arith, free-above.ensures.value, taken_at_most RULES free-above.new.levels)
 
 pub returns : goal.returns
 returns c = let free = c.free_above-left in

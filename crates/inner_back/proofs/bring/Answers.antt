@@ -1,15 +1,12 @@
 -- `inner_back::bring` meets its contract. The loop's invariant: each day passed is brought, the others are as before, and the latest is the last of those
 -- passed. The measure is what is left of the steps.
-use Prim.Native.Nat.{◌+◌, ◌-◌, ◌^◌, ◌≤◌, ◌<◌}
+use Prim.Native.Nat.{◌+◌, ◌^◌, ◌≤◌, ◌<◌}
 use mathlib.Core.Path.{◌≡◌, sym}
-use mathlib.Core.Logic.{inl, inr, ⊎_elim}
+use mathlib.Core.Logic.{inl, inr}
 use lib.ListN.{length}
-use Rattle.meaning.specs.Rules.{largest}
 use Rattle.meaning.specs.Tables.{at}
 use Rattle.meaning.proofs.LastDay.{largest_zeros, largest_set}
-use Rattle.inner_back.specs.Replan.{Brought}
 use Rattle.inner_back.proofs.Passing.{brought_none, brought_more}
-use borrow.Author.Rules.{rules}
 use native.Mathlib.Omega.{arith}
 use Rattle.inner_back.proofs.bring.Goals as goal
 use Rattle.inner_back.proofs.bring.Goals.{else-latest-day, then-latest-day}
@@ -61,11 +58,8 @@ loop-v-preserved c = let v-in = c.loop-v-test.true in
       omega (arith, v-in),
       brought_more passed inside _ (omega (arith, c.day_at.ensures)),
       largest_set loop.v loop.days _ inside loop.invariant.2
-          (elim c.if-latest-day.branch [ then-latest-day w ↦ inl (omega (arith, w.if-latest-day.true), w.days-is) | else-latest-day w ↦ inr (omega (arith, w.if-latest-day.false), w.days-is) ]),
+          (elim c.if-latest-day.branch [ then-latest-day w ↦ inl (omega (arith, w.if-latest-day.true), w.latest-is) | else-latest-day w ↦ inr (omega (arith, w.if-latest-day.false), w.latest-is) ]),
     )
-
-pub shape_of-days : goal.shape_of-days
-shape_of-days c = c.loop-v.invariant.1.past.same_length
 
 pub returns : goal.returns
 returns c = let all : c.loop-v.v ≡ c.args.n = omega (arith, c.loop-v.invariant.0, c.loop-v-test.false) in record {

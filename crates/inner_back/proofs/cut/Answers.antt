@@ -1,9 +1,7 @@
 -- `inner_back::cut` meets its contract. The loop's invariant: every place from number i on has a level above k. The measure is i.
-use Prim.Native.Nat.{ℕ, ◌+◌, ◌-◌, ◌≤◌, ◌<◌}
-use Rattle.meaning.specs.Tables.{at}
+use Prim.Native.Nat.{◌-◌}
 use Rattle.inner_back.proofs.Newest.{cut_here, cut_all, high_more}
 use native.Mathlib.Omega.{arith}
-use borrow.Author.Rules.{rules}
 use Rattle.inner_back.proofs.cut.Goals as goal
 
 pub loop-i-init : goal.loop-i-init

@@ -1,9 +1,6 @@
 -- `inner_back::cut` meets its contract. The loop's invariant: every place from number i on has a level above k. The measure is i.
-use Prim.Native.Nat.{ℕ, ◌+◌, ◌-◌, ◌≤◌, ◌<◌}
+use Prim.Native.Nat.{ℕ, ◌+◌, ◌≤◌, ◌<◌}
 use Rattle.meaning.specs.Tables.{at}
-use Rattle.inner_back.proofs.Newest.{cut_here, cut_all, high_more}
-use native.Mathlib.Omega.{arith}
-use borrow.Author.Rules.{rules}
 use Rattle.inner_back.proofs.cut.Given as goal
 
 abbrev pub invariant-loop-i : goal.invariant-loop-i

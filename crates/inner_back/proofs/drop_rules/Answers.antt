@@ -1,13 +1,8 @@
 -- `inner_back::drop_rules` meets its contract. The loop's invariant: the chains are those of the first i rules. The measure is the number of rules that are
 -- still to be taken off.
-use Prim.Native.Nat.{◌-◌, ◌≤◌}
 use mathlib.Core.Path.{◌≡◌, refl, ◌∙◌}
-use lib.ListN.{length}
-use Rattle.lent.specs.Lent.{first}
-use Rattle.chains.specs.Chains.{LentChains}
 use Rattle.inner_back.proofs.Unlinking.{linkable, one_fewer}
 use native.Mathlib.Omega.{arith}
-use borrow.Author.Rules.{rules}
 use Rattle.inner_back.proofs.drop_rules.Goals as goal
 
 pub loop-i-init : goal.loop-i-init
@@ -26,12 +21,6 @@ loop-i-preserved c = let loop = c.loop-i in
       drop-last.auto.heads ∙ loop.invariant.3,
       drop-last.auto.nexts ∙ loop.invariant.4,
     )
-
-pub shape_of-heads : goal.shape_of-heads
-shape_of-heads c = c.loop-i.invariant.3
-
-pub shape_of-nexts : goal.shape_of-nexts
-shape_of-nexts c = c.loop-i.invariant.4
 
 pub returns : goal.returns
 returns c = let all : c.loop-i.i ≡ c.args.k = omega (arith, c.loop-i.invariant.0, c.loop-i-test.false) in

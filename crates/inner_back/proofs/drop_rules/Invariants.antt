@@ -1,13 +1,10 @@
 -- `inner_back::drop_rules` meets its contract. The loop's invariant: the chains are those of the first i rules. The measure is the number of rules that are
 -- still to be taken off.
 use Prim.Native.Nat.{◌-◌, ◌≤◌}
-use mathlib.Core.Path.{◌≡◌, refl, ◌∙◌}
+use mathlib.Core.Path.{◌≡◌}
 use lib.ListN.{length}
 use Rattle.lent.specs.Lent.{first}
 use Rattle.chains.specs.Chains.{LentChains}
-use Rattle.inner_back.proofs.Unlinking.{linkable, one_fewer}
-use native.Mathlib.Omega.{arith}
-use borrow.Author.Rules.{rules}
 use Rattle.inner_back.proofs.drop_rules.Given as goal
 
 abbrev pub invariant-loop-i : goal.invariant-loop-i

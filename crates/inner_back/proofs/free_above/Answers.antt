@@ -1,14 +1,6 @@
 -- `inner_back::free_above` meets its contract: where the first places are held, and those above k are the newest, dropping these leaves what freeing all above k does; else the places are sifted.
 use Rattle.inner_back.proofs.Newest.{few, none_behind, droppable, newest_freed}
 use native.Mathlib.Omega.{arith}
-use borrow.Author.Rules.{rules}
-use Rattle.inner_back.proofs.free_above.Reads as reads
-use Rattle.inner_back.proofs.free_above.Lts as lts
-use Rattle.inner_back.proofs.cut.Reads as cut-reads
-use Rattle.inner_back.proofs.drop_newest.Reads as drop-newest-reads
-use Rattle.inner_back.proofs.sift_all.Reads as sift-all-reads
-use Rattle.lent.proofs.all_held.Reads as all-held-reads
-use Rattle.lent.proofs.none_above.Reads as none-above-reads
 use Rattle.inner_back.proofs.free_above.Goals as goal
 
 pub all_held-requires : goal.all_held-requires
@@ -29,11 +21,21 @@ none_above-requires c = record {
 pub drop_newest-requires : goal.drop_newest-requires
 drop_newest-requires c = let all_held = c.all_held in
     let held = all_held.ensures.so c.if-all_held.true in
-    (c.cut-left.ensures.within, droppable c.requires.freeable held (none_behind c.requires.freeable held) c.requires.lent_chains)
+    let drop = droppable c.requires.freeable held (none_behind c.requires.freeable held) c.requires.lent_chains in record {
+      c_le_m = c.cut-left.ensures.within;
+      lent_chains = drop.0;
+      by_index = drop.1.0;
+      m_in_bounds = drop.1.1.0;
+      m_in_bounds_2 = drop.1.1.1;
+    }
 
 pub returns-then-none_above : goal.returns-then-none_above
 returns-then-none_above c = let none_above = c.none_above in
     let all_held = c.all_held in
     let freeable = c.requires.freeable in
     let held = all_held.ensures.so c.if-all_held.true in
-    newest_freed (few freeable) held (none_behind freeable held) c.cut-left.ensures (none_above.ensures.so c.if-none_above.true) c.drop_newest.ensures.freed_from c.drop_newest.ensures.lent_chains_2
+    let freed = newest_freed (few freeable) held (none_behind freeable held) c.cut-left.ensures (none_above.ensures.so c.if-none_above.true) c.drop_newest.ensures.freed_from c.drop_newest.ensures.lent_chains_2 in record {
+      levels_after = freed.0;
+      value = freed.1.0;
+      lent_chains_2 = freed.1.1;
+    }

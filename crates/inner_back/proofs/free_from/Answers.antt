@@ -1,10 +1,7 @@
 -- `inner_back::free_from` meets its contract. The loop's invariant: the places from c up to i are freed, and no others. The measure is the number of places left.
-use Prim.Native.Nat.{◌-◌, ◌≤◌}
 use mathlib.Core.Path.{◌≡◌}
-use Rattle.inner_back.specs.Freeing.{FreedFrom}
 use Rattle.inner_back.proofs.Newest.{freed_first, freed_more}
 use native.Mathlib.Omega.{arith}
-use borrow.Author.Rules.{rules}
 use Rattle.inner_back.proofs.free_from.Goals as goal
 
 pub loop-i-init : goal.loop-i-init
@@ -16,9 +13,6 @@ bounds-levels-i c = omega (arith, c.loop-i-test.true, c.loop-i.invariant.2.same_
 pub loop-i-preserved : goal.loop-i-preserved
 loop-i-preserved c = let inv = c.loop-i.invariant in
     (omega (arith, inv.0), omega (arith, c.loop-i-test.true), freed_more inv.0 inv.2)
-
-pub shape_of-levels : goal.shape_of-levels
-shape_of-levels c = c.loop-i.invariant.2.same_length
 
 pub returns : goal.returns
 returns c = let all : c.loop-i.i ≡ c.args.m = omega (arith, c.loop-i.invariant.1, c.loop-i-test.false) in

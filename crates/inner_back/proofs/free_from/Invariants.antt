@@ -1,10 +1,6 @@
 -- `inner_back::free_from` meets its contract. The loop's invariant: the places from c up to i are freed, and no others. The measure is the number of places left.
-use Prim.Native.Nat.{◌-◌, ◌≤◌}
-use mathlib.Core.Path.{◌≡◌}
+use Prim.Native.Nat.{◌≤◌}
 use Rattle.inner_back.specs.Freeing.{FreedFrom}
-use Rattle.inner_back.proofs.Newest.{freed_first, freed_more}
-use native.Mathlib.Omega.{arith}
-use borrow.Author.Rules.{rules}
 use Rattle.inner_back.proofs.free_from.Given as goal
 
 abbrev pub invariant-loop-i : goal.invariant-loop-i

@@ -3,10 +3,6 @@ use Prim.Native.Nat.{ℕ}
 use lib.ListN.{length-replicate}
 use Rattle.meaning.specs.Bounds.{STEPS}
 use native.Mathlib.Omega.{arith}
-use borrow.Author.Rules.{rules}
-use Rattle.inner_back.proofs.plan.Reads as reads
-use Rattle.inner_back.proofs.plan.Lts as lts
-use Rattle.inner_back.proofs.plan_with.Reads as plan-with-reads
 use Rattle.inner_back.proofs.plan.Goals as goal
 
 pub plan_with-requires : goal.plan_with-requires

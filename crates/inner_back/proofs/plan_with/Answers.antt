@@ -1,5 +1,4 @@
 -- `inner_back::plan_with` meets its contract: what each call needs, and the return, are laws of `Replanning`.
-use mathlib.Core.Path.{◌∙◌}
 use Rattle.inner_back.proofs.Replanning.{ground, askable, bringable, planned}
 use native.Mathlib.Omega.{arith}
 use Rattle.meaning.specs.Tables.{at}
@@ -24,17 +23,6 @@ spread-requires c = let chains = c.requires.lent_chains in
 pub bring-requires : goal.bring-requires
 bring-requires c = bringable c.requires.plannable c.ask.ensures c.spread.ensures c.requires.last_value.1
     (omega (arith, c.spread.auto.gains, c.ask.auto.gains, c.requires.plan_room.gains_room))
-
-pub shape_of-days : goal.shape_of-days
-shape_of-days c = c.bring.auto.days
-
-pub shape_of-gains : goal.shape_of-gains
-shape_of-gains c = let ask = c.ask in
-    c.spread.auto.gains ∙ ask.kept.1.1.1.0
-
-pub shape_of-by : goal.shape_of-by
-shape_of-by c = let spread = c.spread in
-    spread.kept.1.1.1.1.1.1.1.1.1.0
 
 pub returns : goal.returns
 returns c = record {

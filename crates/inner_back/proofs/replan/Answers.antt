@@ -1,5 +1,4 @@
 -- `inner_back::replan` meets its contract: the days stay where nothing is loose; else the rules on the chains, which the days keep, are planned.
-use borrow.Author.Tests.{not-true}
 use Rattle.meaning.proofs.Lists.{past_refl}
 use Rattle.inner_back.proofs.replan.Goals as goal
 
@@ -15,9 +14,6 @@ plan-requires c = record {
   lent_chains = c.requires.lent_chains;
   last_value = c.requires.last_value;
 }
-
-pub shape_of-days : goal.shape_of-days
-shape_of-days c = c.plan.auto.days
 
 pub returns : goal.returns
 returns c = c.plan.ensures

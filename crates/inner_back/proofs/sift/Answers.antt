@@ -2,10 +2,6 @@
 use mathlib.Core.Path.{refl}
 use mathlib.Core.Logic.{inl, inr}
 use native.Mathlib.Omega.{arith}
-use borrow.Author.Rules.{rules}
-use Rattle.inner_back.proofs.sift.Reads as reads
-use Rattle.inner_back.proofs.sift.Lts as lts
-use Rattle.chains.proofs.push.Reads as push-reads
 use Rattle.inner_back.proofs.sift.Goals as goal
 
 pub overflow_cast-levels : goal.overflow_cast-levels

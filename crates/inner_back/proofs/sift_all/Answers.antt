@@ -1,20 +1,15 @@
 -- `inner_back::sift_all` meets its contract. The loop's invariant: the places passed are sifted, as `Sifting` says. The measure is the number of places that
 -- are not passed.
-use Prim.Native.Nat.{◌-◌, ◌≤◌, ◌<◌}
+use Prim.Native.Nat.{◌≤◌, ◌<◌}
 use mathlib.Core.Path.{◌≡◌, refl, ◌∙◌, ap}
-use mathlib.Core.Logic.{⊎_elim}
 use lib.ListN.{length}
 use Rattle.meaning.specs.Bounds.{RULES}
 use Rattle.meaning.specs.Tables.{at, taken}
 use Rattle.meaning.proofs.Places.{taken_at_most, freed_length}
-use Rattle.inner_back.proofs.Sifting.{Sifting, sifting_none, not_yet, place_left, sifting_free, sifting_more, sifted_one, sifted_levels, sifted_left, sifted_chains}
-use borrow.Author.Rules.{rules}
+use Rattle.inner_back.proofs.Sifting.{sifting_none, not_yet, place_left, sifting_free, sifting_more, sifted_one, sifted_levels, sifted_left, sifted_chains}
 use native.Mathlib.Omega.{arith}
-use Rattle.inner_back.proofs.sift_all.Reads as reads
-use Rattle.inner_back.proofs.sift_all.Lts as lts
-use Rattle.chains.proofs.clear.Reads as clear_reads
-use Rattle.inner_back.proofs.sift.Reads as sift-reads
 use Rattle.inner_back.proofs.sift_all.Goals as goal
+use Rattle.inner_back.proofs.sift_all.Goals.{then-levels-i-ne0, else-levels-i-ne0}
 
 pub clear-requires : goal.clear-requires
 clear-requires c = c.requires.lent_chains.heads_room
@@ -65,30 +60,19 @@ pub loop-seen-preserved : goal.loop-seen-preserved
 loop-seen-preserved c =
     let inside : c.loop-seen.i < RULES = place_left c.loop-seen.invariant.0 (omega (arith, c.loop-seen-test.true, c.requires.freeable.counted)) in
     let loop = c.loop-seen in
-    ⊎_elim
-    (λ w.
-    let some : 0 < at loop.levels loop.i = omega (arith, w.0.taken) in
-    let sift = w.4 in
-    rw (w.11, w.12, w.13, w.14, w.15) (
-      sifting_more loop.invariant.0 (inside) some
-          (c.requires.freeable.firsts_in loop.i (inside, omega (arith, some, not_yet loop.invariant.0 loop.i (omega arith))))
-          (omega (arith, inside, loop.invariant.2, c.requires.lent_chains.nexts_room)) sift.ensures,
-      sift.kept.1.1.1.0 ∙ loop.invariant.1,
-      sift.kept.1.1.1.1.0 ∙ loop.invariant.2,
-    ))
-    (λ w. rw (w.1, w.2, w.3, w.4, w.5) (sifting_free loop.invariant.0 (inside) w.0.left, loop.invariant.1, loop.invariant.2))
-    c.if-levels-i-ne0.branch
-
-pub shape_of-levels : goal.shape_of-levels
-shape_of-levels c =
-    let levels_length : length c.loop-seen.levels ≡ length c.args.levels.now = ap length c.loop-seen.invariant.0.levels_are ∙ freed_length c.loop-seen.i c.args.k c.args.levels.now in
-    levels_length
-
-pub shape_of-heads : goal.shape_of-heads
-shape_of-heads c = c.loop-seen.invariant.1 ∙ c.clear.auto.heads
-
-pub shape_of-nexts : goal.shape_of-nexts
-shape_of-nexts c = c.loop-seen.invariant.2
+    elim c.if-levels-i-ne0.branch [
+      | then-levels-i-ne0 w ↦
+          let some : 0 < at loop.levels loop.i = omega (arith, w.if-levels-i-ne0.true) in
+          let sift = w.sift-left in
+          rw (w.levels-is, w.heads-is, w.nexts-is, w.seen-is, w.left-is) (
+            sifting_more loop.invariant.0 inside some
+                (c.requires.freeable.firsts_in loop.i (inside, omega (arith, some, not_yet loop.invariant.0 loop.i (omega arith))))
+                (omega (arith, inside, loop.invariant.2, c.requires.lent_chains.nexts_room)) sift.ensures,
+            sift.auto.heads ∙ loop.invariant.1,
+            sift.auto.nexts ∙ loop.invariant.2,
+          )
+      | else-levels-i-ne0 w ↦ rw (w.levels-is, w.heads-is, w.nexts-is, w.seen-is, w.left-is) (sifting_free loop.invariant.0 inside w.if-levels-i-ne0.false, loop.invariant.1, loop.invariant.2)
+    ]
 
 pub returns : goal.returns
 returns c =

@@ -9,16 +9,6 @@ use Rattle.meaning.proofs.Needs.{obeys_done, obeys_refused}
 use Rattle.meaning.proofs.Places.{held_counted}
 use Rattle.inner_back.proofs.Dropping.{dated, kept, amendable, chains_without, plannable_without, earliest_without, planned_without}
 use native.Mathlib.Omega.{arith}
-use borrow.Author.Rules.{rules}
-use Rattle.inner_back.proofs.withdraw.Reads as reads
-use Rattle.inner_back.proofs.withdraw.Lts as lts
-use Rattle.chains.proofs.remove.Reads as remove-reads
-use Rattle.inner_back.proofs.replan.Reads as replan-reads
-use Rattle.lent.proofs.slack.Reads as slack-reads
-use Rattle.meaning.proofs.done.Reads as done-reads
-use Rattle.meaning.proofs.last_now.Reads as last-now-reads
-use Rattle.meaning.proofs.refused.Reads as refused-reads
-use Rattle.meaning.proofs.rules_now.Reads as rules-now-reads
 use Rattle.inner_back.proofs.withdraw.Goals as goal
 
 pub returns-then-i-ge-RULES : goal.returns-then-i-ge-RULES
@@ -68,14 +58,6 @@ overflow_sub-left c =
     let border = c.requires.border in
     let is_held_lem = is_held_at in
     omega (arith, held_counted _ _ border.sound is_held_lem)
-
-pub shape_of-heads : goal.shape_of-heads
-shape_of-heads c = let remove = c.remove in
-    remove.kept.1.1.0
-
-pub shape_of-nexts : goal.shape_of-nexts
-shape_of-nexts c = let remove = c.remove in
-    remove.kept.1.1.1.0
 
 pub returns : goal.returns
 returns c =
