@@ -7,13 +7,6 @@ use Rattle.inner_split.proofs.Judging.{judged_held}
 use Rattle.inner_split.proofs.Picking.{picked_decided}
 use Rattle.inner_split.proofs.Standing.{ground, near, buildable, chains_by, watching}
 use native.Mathlib.Omega.{arith}
-use borrow.Author.Rules.{rules}
-use Rattle.inner_split.proofs.consequences.Reads as reads
-use Rattle.inner_split.proofs.consequences.Lts as lts
-use Rattle.chains.proofs.build.Reads as build-reads
-use Rattle.meaning.proofs.done.Reads as done-reads
-use Rattle.inner_split.proofs.judge_all.Reads as judge-all-reads
-use Rattle.inner_split.proofs.pick.Reads as pick-reads
 use Rattle.inner_split.proofs.consequences.Goals as goal
 
 pub build-requires : goal.build-requires
@@ -62,13 +55,6 @@ overflow_cast-in_all c = omega (arith, c.pick-in_all.ensures.at_most, c.requires
 
 pub overflow_cast-in_none : goal.overflow_cast-in_none
 overflow_cast-in_none c = omega (arith, c.pick-in_none.ensures.at_most, c.requires.border.sound.counts_in.watched_in)
-
-pub shape_of-one : goal.shape_of-one
-shape_of-one c = let pick = c.pick-in_all in
-    pick.kept.1.1.0
-
-pub shape_of-two : goal.shape_of-two
-shape_of-two c = c.pick-in_none.auto.list
 
 pub returns : goal.returns
 returns c = let a = c.args in

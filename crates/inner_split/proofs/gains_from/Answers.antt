@@ -1,9 +1,7 @@
 -- `inner_split::gains_from` meets its contract: no step has a gain once they are cleared, and a spread with no goal tells.
 use Rattle.chains.specs.Chains.{linked}
-use mathlib.Core.Path.{◌∙◌}
 use Rattle.inner_split.proofs.Telling.{spread_tells}
 use native.Mathlib.Omega.{arith}
-use borrow.Author.Rules.{rules}
 use Rattle.inner_split.proofs.gains_from.Goals as goal
 
 pub spread_one-requires : goal.spread_one-requires
@@ -18,15 +16,6 @@ spread_one-requires c = let clear = c.clear in record {
     by_room = c.requires.n_in_bounds_2;
   };
 }
-
-pub shape_of-gains : goal.shape_of-gains
-shape_of-gains c = let spread-one = c.spread_one in
-    let clear = c.clear in
-    spread-one.auto.gains ∙ clear.auto.gains
-
-pub shape_of-by : goal.shape_of-by
-shape_of-by c = let spread-one = c.spread_one in
-    spread-one.auto.by
 
 pub returns : goal.returns
 returns c = let spread-one = c.spread_one in

@@ -1,6 +1,5 @@
 -- `inner_split::holds` meets its contract: the test compares the two sides of the rule, both with 2147483648 added.
 use native.Mathlib.Omega.{arith}
-use borrow.Author.Rules.{rules}
 use Rattle.inner_split.proofs.holds.Goals as goal
 
 pub carried-reach-requires : goal.carried-reach-requires

@@ -33,9 +33,7 @@ pub number_at-requires-2 : goal.number_at-requires-2
 number_at-requires-2 c = omega (arith, c.requires.watching.by_second.heads_room, c.requires.a_lt_n)
 
 pub overflow_add-number_at : goal.overflow_add-number_at
-overflow_add-number_at c = let shared-slice-known10 = c.shared_slice_known-10-1 in
-    let shared-slice-known8 = c.shared_slice_known-8-1 in
-    omega (arith, c.number_at.ensures, c.number_at-2.ensures, c.type_inv.wxheads c.args.a, c.type_inv.wyheads c.args.a)
+overflow_add-number_at c = omega (arith, c.number_at.ensures, c.number_at-2.ensures, c.type_inv.wxheads c.args.a, c.type_inv.wyheads c.args.a)
 
 pub returns-then-number_at-eq0 : goal.returns-then-number_at-eq0
 returns-then-number_at-eq0 c = let a = c.args in
@@ -82,21 +80,6 @@ judge_seconds-requires c = let gains-from = c.gains_from in
       a_lt_n = c.requires.a_lt_n;
       w_in_bounds = c.requires.places.never_room;
     }
-
-pub shape_of-gains : goal.shape_of-gains
-shape_of-gains c = let gains-from = c.gains_from in
-    gains-from.kept.1.1.1.1.1.1.1.1.0
-
-pub shape_of-by : goal.shape_of-by
-shape_of-by c = let gains-from = c.gains_from in
-    gains-from.kept.1.1.1.1.1.1.1.1.1.0
-
-pub shape_of-always : goal.shape_of-always
-shape_of-always c = let judge-firsts = c.judge_firsts in
-    judge-firsts.auto.always
-
-pub shape_of-never : goal.shape_of-never
-shape_of-never c = c.judge_seconds.auto.never
 
 pub returns : goal.returns
 returns c = let judge-firsts = c.judge_firsts in

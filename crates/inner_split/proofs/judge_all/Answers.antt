@@ -1,11 +1,7 @@
 -- `inner_split::judge_all` meets its contract. The loop's invariant: verdicts have been passed on every watched rule of the steps passed. The measure is
 -- what is left of the steps.
-use Rattle.chains.specs.Chains.{linked}
-use Prim.Native.Nat.{◌-◌, ◌≤◌}
-use mathlib.Core.Path.{◌≡◌, refl, ◌∙◌}
-use lib.ListN.{length}
-use Rattle.inner_split.specs.Clauses.{InAll, InNone}
-use Rattle.inner_split.proofs.Judging.{DecidedBelow, below_judged}
+use mathlib.Core.Path.{refl, ◌∙◌}
+use Rattle.inner_split.proofs.Judging.{below_judged}
 use native.Mathlib.Omega.{arith}
 use Rattle.inner_split.proofs.judge_all.Goals as goal
 
@@ -35,14 +31,6 @@ judge-requires c = let loop-test = c.loop-a-test in
       a_lt_n = loop-test.true;
     }
 
-pub overflow_step-a : goal.overflow_step-a
-overflow_step-a c = let loop-test = c.loop-a-test in
-    omega (arith, loop-test.true, c.requires.ground.steps_in)
-
-pub loop-a-smaller : goal.loop-a-smaller
-loop-a-smaller c = let loop-test = c.loop-a-test in
-    omega (arith, loop-test.taken)
-
 pub loop-a-preserved : goal.loop-a-preserved
 loop-a-preserved c = let judge = c.judge in
     let loop-test = c.loop-a-test in
@@ -56,18 +44,6 @@ loop-a-preserved c = let judge = c.judge in
       below_judged _ a.w a.wxs.now loop.a loop.always judge.new.always loop.invariant.5 judge.ensures.in_all,
       below_judged _ a.w a.wys.now loop.a loop.never judge.new.never loop.invariant.6 judge.ensures.in_none,
     )
-
-pub shape_of-gains : goal.shape_of-gains
-shape_of-gains c = c.loop-a.invariant.0
-
-pub shape_of-by : goal.shape_of-by
-shape_of-by c = c.loop-a.invariant.1
-
-pub shape_of-always : goal.shape_of-always
-shape_of-always c = c.loop-a.invariant.2
-
-pub shape_of-never : goal.shape_of-never
-shape_of-never c = c.loop-a.invariant.3
 
 pub returns : goal.returns
 returns c = let in_bounds = c.requires.watching.in_bounds in

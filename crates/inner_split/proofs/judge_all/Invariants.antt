@@ -1,12 +1,11 @@
 -- `inner_split::judge_all` meets its contract. The loop's invariant: verdicts have been passed on every watched rule of the steps passed. The measure is
 -- what is left of the steps.
 use Rattle.chains.specs.Chains.{linked}
-use Prim.Native.Nat.{◌-◌, ◌≤◌}
-use mathlib.Core.Path.{◌≡◌, refl, ◌∙◌}
+use Prim.Native.Nat.{◌≤◌}
+use mathlib.Core.Path.{◌≡◌}
 use lib.ListN.{length}
 use Rattle.inner_split.specs.Clauses.{InAll, InNone}
-use Rattle.inner_split.proofs.Judging.{DecidedBelow, below_judged}
-use native.Mathlib.Omega.{arith}
+use Rattle.inner_split.proofs.Judging.{DecidedBelow}
 use Rattle.inner_split.proofs.judge_all.Given as goal
 
 abbrev pub invariant-loop-a : goal.invariant-loop-a

@@ -1,15 +1,9 @@
 -- `inner_split::judge_firsts` meets its contract. The loop's invariant: verdicts have been passed on the watched rules of a from the link on. The measure is
 -- the link.
-use Rattle.chains.proofs.Laws.{next_in}
-use Prim.Native.Nat.{◌-◌, ◌<◌}
-use mathlib.Core.Path.{ap}
 use Rattle.meaning.specs.Tables.{at}
 use Rattle.spread.specs.Ground.{rules}
 use Rattle.inner_split.specs.Carries.{Carries}
-use Rattle.inner_split.proofs.Testing.{carries_within}
-use Rattle.inner_split.proofs.Judging.{verdict_same, Along, along_head, along_next, along_end}
-use borrow.Author.Rules.{rules}
-use native.Mathlib.Omega.{arith}
+use Rattle.inner_split.proofs.Judging.{Along}
 use Rattle.inner_split.proofs.judge_firsts.Given as goal
 
 abbrev pub invariant-loop-link : goal.invariant-loop-link

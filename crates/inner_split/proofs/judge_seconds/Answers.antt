@@ -3,12 +3,9 @@
 use Rattle.chains.proofs.Laws.{next_in}
 use Prim.Native.Nat.{◌-◌, ◌<◌}
 use mathlib.Core.Path.{ap}
-use Rattle.meaning.specs.Rules.{negation}
 use Rattle.meaning.specs.Tables.{at}
-use Rattle.spread.specs.Ground.{rules}
-use Rattle.inner_split.specs.Carries.{Carries}
 use Rattle.inner_split.proofs.Testing.{carries_broken}
-use Rattle.inner_split.proofs.Judging.{verdict_same, Along, along_head, along_next, along_end}
+use Rattle.inner_split.proofs.Judging.{verdict_same, along_head, along_next, along_end}
 use native.Mathlib.Omega.{arith}
 use Rattle.inner_split.proofs.judge_seconds.Goals as goal
 
@@ -16,8 +13,7 @@ pub day_at-far-requires : goal.day_at-far-requires
 day_at-far-requires c = (c.requires.judgeable.gained c.args.a c.requires.a_lt_n).day_place
 
 pub overflow_add-far : goal.overflow_add-far
-overflow_add-far c = let shared-slice-known3 = c.shared_slice_known-3-1 in
-    omega (arith, c.day_at-far.ensures, c.type_inv.days c.args.a)
+overflow_add-far c = omega (arith, c.day_at-far.ensures, c.type_inv.days c.args.a)
 
 pub number_at-link-requires : goal.number_at-link-requires
 number_at-link-requires c = omega (arith, c.requires.chains_by.heads_room, c.requires.a_lt_n)
@@ -28,7 +24,6 @@ loop-link-init c = let a = c.args in
 
 pub breaks-requires : goal.breaks-requires
 breaks-requires c = let day-at = c.day_at-far in
-    let shared-slice-known3 = c.shared_slice_known-3-1 in
     let pre = c.requires.judgeable in
     let j-in : c.loop-link.link - 1 < c.args.w = c.loop-link.invariant.linked.held (c.loop-link.link - 1) (omega (arith, c.loop-link-test.true)) in record {
       testable = record {
@@ -65,9 +60,6 @@ loop-link-preserved c = let loop = c.loop-link in
     (carries_broken a.wxs.now a.wys.now a.wcs.now a.days.now a.gains.now _ (loop.link - 1) (omega (arith, day-at.ensures, ap (at a.days.now) own)))
     c.breaks.ensures)
     loop.invariant
-
-pub shape_of-never : goal.shape_of-never
-shape_of-never c = c.loop-link.invariant.long
 
 pub returns : goal.returns
 returns c = let a = c.args in

@@ -1,14 +1,13 @@
 -- `inner_split::pick` meets its contract. The loop's invariant: the numbers passed whose verdict is yes are listed. The measure is what is left of the
 -- numbers.
-use Prim.Native.Nat.{ℕ, ◌+◌, ◌-◌, ◌≤◌, ◌<◌}
+use Prim.Native.Nat.{ℕ, ◌+◌, ◌<◌}
 use mathlib.Core.Path.{◌≡◌, subst}
-use mathlib.Core.Logic.{◌⊎◌, inl, inr, ⊎_elim}
+use mathlib.Core.Logic.{◌⊎◌, inl, inr}
 use mathlib.Core.List.{List}
 use lib.ListN.{length, set}
 use Rattle.meaning.specs.Tables.{at}
 use Rattle.inner_split.specs.Verdicts.{Picked}
 use Rattle.inner_split.proofs.Picking.{picked_none, picked_take, picked_leave}
-use borrow.Author.Rules.{rules}
 use native.Mathlib.Omega.{arith}
 use Rattle.inner_split.proofs.pick.Goals as goal
 use Rattle.inner_split.proofs.pick.Goals.{else-verdicts-j-ne0, then-verdicts-j-ne0}
@@ -45,9 +44,6 @@ loop-j-preserved c = let loop-test = c.loop-j-test in
           (omega (arith, loop-test.true, loop.invariant.1.at_most, loop.invariant.1.filled.past.same_length, c.requires.w_in_bounds_2))
           (elim c.if-verdicts-j-ne0.branch [ then-verdicts-j-ne0 w ↦ inl (omega (arith, w.if-verdicts-j-ne0.true), w.list-is, w.k-is) | else-verdicts-j-ne0 w ↦ inr (omega (arith, w.if-verdicts-j-ne0.false), w.list-is, w.k-is) ]),
     )
-
-pub shape_of-list : goal.shape_of-list
-shape_of-list c = c.loop-j.invariant.1.filled.past.same_length
 
 pub returns : goal.returns
 returns c = let all : c.loop-j.j ≡ c.args.w = omega (arith, c.loop-j.invariant.0, c.loop-j-test.false) in
