@@ -1,11 +1,8 @@
 -- `levels::copy_days` meets its contract. The loop's invariant: the days passed are copied, and the other places are as before. The measure is what is
 -- left of the days.
-use Prim.Native.Nat.{◌-◌, ◌≤◌}
 use mathlib.Core.Path.{◌≡◌}
-use Rattle.levels.specs.Levels.{Copied}
 use Rattle.levels.proofs.Copying.{copied_none, copied_more}
 use native.Mathlib.Omega.{arith}
-use borrow.Author.Rules.{rules}
 use Rattle.levels.proofs.copy_days.Goals as goal
 
 pub loop-v-init : goal.loop-v-init
@@ -19,9 +16,6 @@ bounds-to-b c = omega (arith, c.loop-v.invariant.1.same_length)
 
 pub loop-v-preserved : goal.loop-v-preserved
 loop-v-preserved c = (omega arith, copied_more c.loop-v.invariant.1 (omega (arith, c.loop-v.invariant.1.same_length)))
-
-pub shape_of-to : goal.shape_of-to
-shape_of-to c = c.loop-v.invariant.1.same_length
 
 pub returns : goal.returns
 returns c = let all : c.loop-v.v ≡ c.args.n = omega (arith, c.loop-v.invariant.0, c.loop-v-test.false) in

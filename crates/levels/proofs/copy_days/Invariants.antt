@@ -1,11 +1,7 @@
 -- `levels::copy_days` meets its contract. The loop's invariant: the days passed are copied, and the other places are as before. The measure is what is
 -- left of the days.
-use Prim.Native.Nat.{◌-◌, ◌≤◌}
-use mathlib.Core.Path.{◌≡◌}
+use Prim.Native.Nat.{◌≤◌}
 use Rattle.levels.specs.Levels.{Copied}
-use Rattle.levels.proofs.Copying.{copied_none, copied_more}
-use native.Mathlib.Omega.{arith}
-use borrow.Author.Rules.{rules}
 use Rattle.levels.proofs.copy_days.Given as goal
 
 abbrev pub invariant-loop-v : goal.invariant-loop-v

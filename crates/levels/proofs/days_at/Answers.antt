@@ -1,13 +1,6 @@
 -- `levels::days_at` meets its contract: where the days are kept the copy is the earliest plan and the row has its last day; else the rules that stay are planned.
 use Rattle.levels.proofs.Popping.{kept_places, plan_kept, last_kept}
 use native.Mathlib.Omega.{arith}
-use borrow.Author.Rules.{rules}
-use Rattle.levels.proofs.days_at.Reads as reads
-use Rattle.levels.proofs.days_at.Lts as lts
-use Rattle.inner_back.proofs.replan.Reads as replan-reads
-use Rattle.levels.proofs.copy_days.Reads as copy-days-reads
-use Rattle.levels.proofs.holds.Reads as holds-reads
-use Rattle.levels.proofs.row_of.Reads as row-of-reads
 use Rattle.levels.proofs.days_at.Goals as goal
 
 pub copy_days-requires : goal.copy_days-requires

@@ -2,7 +2,6 @@
 use Prim.Native.Nat.{◌+◌}
 use native.Mathlib.Omega.{arith}
 use borrow.Author.Tests.{ltb-true, ltb-false}
-use borrow.Author.Rules.{rules}
 use Rattle.levels.specs.Levels.{LAST}
 use Rattle.levels.proofs.has_row.Goals as goal
 

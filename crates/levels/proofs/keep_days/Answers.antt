@@ -2,7 +2,6 @@
 use native.Mathlib.Omega.{arith}
 use lib.ListN.{length-set}
 use Rattle.levels.proofs.Filing.{filed_by}
-use borrow.Author.Rules.{rules}
 use Rattle.levels.proofs.keep_days.Goals as goal
 
 pub bounds-kept-row-2 : goal.bounds-kept-row-2

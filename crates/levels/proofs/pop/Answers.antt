@@ -9,14 +9,6 @@ use Rattle.inner_back.proofs.Dropping.{freeable, plannable_left, earliest_left, 
 use Rattle.levels.proofs.Laws.{popped_none}
 use Rattle.levels.proofs.Popping.{kept_left, popped_by}
 use native.Mathlib.Omega.{arith}
-use borrow.Author.Rules.{rules}
-use Rattle.levels.proofs.pop.Reads as reads
-use Rattle.levels.proofs.pop.Lts as lts
-use Rattle.levels.proofs.days_at.Reads as days-at-reads
-use Rattle.levels.proofs.free.Reads as free-reads
-use Rattle.meaning.proofs.last_now.Reads as last-now-reads
-use Rattle.meaning.proofs.marks_now.Reads as marks-now-reads
-use Rattle.meaning.proofs.rules_now.Reads as rules-now-reads
 use Rattle.levels.proofs.pop.Goals as goal
 
 pub returns-then-n-eq0 : goal.returns-then-n-eq0
@@ -47,7 +39,7 @@ days_at-last-requires c = let free = c.free-left in
 
 pub overflow_cast-left : goal.overflow_cast-left
 overflow_cast-left c = let free = c.free-left in
-    omega (arith, free.ensures.1.0, taken_at_most RULES free.last.1.1.1.1.0)
+    omega (arith, free.ensures.value, taken_at_most RULES free.new.levels)
 
 pub overflow_cast-k-2 : goal.overflow_cast-k-2
 overflow_cast-k-2 c = omega (arith, c.requires.border.sound.counts_in.marks_in)
@@ -58,4 +50,7 @@ returns c = let days-at = c.days_at-last in
     let t = unwatched c.args.counts c.args.xs.now c.args.ys.now c.args.cs.now c.args.days.now c.args.levels.now in
     let chains = free.ensures.lent_chains_2 in
     rw (c.last_now.ensures, c.marks_now.ensures, c.rules_now.ensures)
-    (popped_by c.args.n t free.ensures.levels_after free.ensures.value days-at.ensures.value (planned_left c.requires.border _ free.ensures.levels_after chains days-at.ensures.planned), chains)
+    (record {
+      popped = popped_by c.args.n t free.ensures.levels_after free.ensures.value days-at.ensures.value (planned_left c.requires.border _ free.ensures.levels_after chains days-at.ensures.planned);
+      lent_chains_2 = chains;
+    })

@@ -1,10 +1,7 @@
 -- `levels::push` meets its contract. The loop's invariant: the days of the marks passed are kept. The measure is the number of marks left.
-use Prim.Native.Nat.{◌+◌, ◌-◌, ◌≤◌}
 use mathlib.Core.Path.{refl}
-use mathlib.Core.Logic.{⊎_elim}
-use Rattle.levels.proofs.Pushing.{KeptFrom, kept_none, kept_skip, kept_more, keeps_days}
+use Rattle.levels.proofs.Pushing.{kept_none, kept_skip, kept_more, keeps_days}
 use native.Mathlib.Omega.{arith}
-use borrow.Author.Rules.{rules}
 use Rattle.levels.proofs.push.Goals as goal
 use Rattle.levels.proofs.push.Goals.{else-has_row, then-has_row}
 
@@ -26,9 +23,9 @@ loop-k-preserved c = let turn = c.loop-k in (
   elim c.if-has_row.branch [ then-has_row w ↦ rw w.kept-is (kept_more turn.invariant.2 turn.invariant.0 c.requires.steps_bound w.keep_days.ensures) | else-has_row w ↦ rw w.kept-is (kept_skip turn.invariant.2 (c.has_row.ensures.not_so w.if-has_row.false)) ],
 )
 
-pub shape_of-kept : goal.shape_of-kept
-shape_of-kept c = c.loop-k.invariant.2.same_length
-
 pub returns : goal.returns
 returns c = let turn = c.loop-k in
-    rw c.marks_now.ensures (refl, keeps_days c.args.n {c = c.args.counts} (omega (arith, turn.invariant.1, c.loop-k-test.false)) turn.invariant.2)
+    rw c.marks_now.ensures (record {
+      value = refl;
+      keeps_days = keeps_days c.args.n {c = c.args.counts} (omega (arith, turn.invariant.1, c.loop-k-test.false)) turn.invariant.2;
+    })

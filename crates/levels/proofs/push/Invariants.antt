@@ -1,10 +1,6 @@
 -- `levels::push` meets its contract. The loop's invariant: the days of the marks passed are kept. The measure is the number of marks left.
-use Prim.Native.Nat.{◌+◌, ◌-◌, ◌≤◌}
-use mathlib.Core.Path.{refl}
-use mathlib.Core.Logic.{⊎_elim}
-use Rattle.levels.proofs.Pushing.{KeptFrom, kept_none, kept_skip, kept_more, keeps_days}
-use native.Mathlib.Omega.{arith}
-use borrow.Author.Rules.{rules}
+use Prim.Native.Nat.{◌+◌, ◌≤◌}
+use Rattle.levels.proofs.Pushing.{KeptFrom}
 use Rattle.levels.proofs.push.Given as goal
 
 abbrev pub invariant-loop-k : goal.invariant-loop-k
