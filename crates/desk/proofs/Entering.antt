@@ -1,5 +1,5 @@
 -- What the number of the first test says: 0 that the tables have room and are sound, and the gap table is right; any other is the number that the call gives, whatever it asks for behind.
-use Prim.Native.Nat.{ℕ, ◌≤◌, ◌<◌}
+use Prim.Native.Nat.{ℕ, ◌<◌}
 use native.Mathlib.Omega.{arith}
 use mathlib.Core.Path.{◌≡◌}
 use mathlib.Core.Bool.{Bool, true, false}

@@ -1,24 +1,24 @@
 -- From what a call does to the tables and to the gap table by itself to what it promises of both.
-use Prim.Native.Nat.{ℕ, suc, ◌+◌, ◌≤◌, ◌<◌}
+use Prim.Native.Nat.{ℕ, suc, ◌+◌}
 use native.Mathlib.Omega.{arith}
-use mathlib.Core.Path.{◌≡◌, refl, sym, ◌∙◌, subst}
-use mathlib.Core.List.{List, []}
-use mathlib.Core.Logic.{◌⊎◌, inl, inr}
+use mathlib.Core.Path.{◌≡◌, refl, sym, subst}
+use mathlib.Core.List.{List}
+use mathlib.Core.Logic.{inl, inr}
 use lib.IntN.{ℤ, pos, negsuc, neg_ℤ}
 use Rattle.meaning.specs.declared.Counts.{Counts}
-use Rattle.meaning.specs.Bounds.{RULES, YARD_STEPS, NO_LIMIT, DONE}
-use Rattle.meaning.specs.Rules.{Rule, InSteps, InAmount}
-use Rattle.meaning.specs.Tables.{Tables, Room, Sound, at}
+use Rattle.meaning.specs.Bounds.{NO_LIMIT, DONE}
+use Rattle.meaning.specs.Rules.{Rule}
+use Rattle.meaning.specs.Tables.{Tables}
 use Rattle.meaning.specs.Promise.{Given, First}
 use Rattle.meaning.specs.Calls.{with_list, rules_of, held_in, add_meaning}
 use Rattle.meaning.specs.Runs.{Call, Made}
 use Rattle.meaning.proofs.Needs.{AllMet, done_met}
 use Rattle.meaning.proofs.Needs as goal
-use Rattle.meaning.proofs.Sequences.{Kept, call_keeps}
+use Rattle.meaning.proofs.Sequences.{call_keeps}
 use Rattle.lent.specs.Lent.{tables}
 use Rattle.lent.specs.Idle.{unwatched}
 use Rattle.lent.specs.Promises.{Border}
-use Rattle.gaps.specs.Gaps.{Gaps, cell, Limit, NoLimit, Says, InYard, Right, Remade}
+use Rattle.gaps.specs.Gaps.{Gaps, Limit, Says, InYard, Right, Remade}
 use Rattle.gaps.specs.Beside.{GapTold}
 use Rattle.gaps.specs.Promises.{kind_of, size_of}
 use Rattle.gaps.specs.Slacks.{Raised}
@@ -38,7 +38,7 @@ module _ (counts : Counts) (xs ys : List ℕ) (cs : List ℤ) (days levels wxs w
 
 module _ (r : Rule) (t u : Tables) (l l' : List ℕ) (g : Given) (a b : Gaps) (made : Made (Call.adds r l l') t g u) (right : Right t a) (done : g.number ≡ DONE) where
   met : AllMet (add_meaning r (with_list t l)).asks
-  met = done_met DONE g.number (add_meaning r (with_list t l)).asks (goal.overflow-add-rises r (with_list t l)) made.first_unmet done
+  met = done_met DONE g.number (add_meaning r (with_list t l)).asks (goal.add_rises r (with_list t l)) made.first_unmet done
 
   -- The rule can be brought into the gap table.
   pub add_raisable : Raisable t.counts.steps r.first r.second r.amount a

@@ -1,6 +1,5 @@
 -- `desk::add`: the first test decides the refusals that all calls share; the rest is `inner_add::add`.
 use Prim.Native.Nat.{ℕ}
-use mathlib.Core.Path.{refl}
 use lib.ListN.{length-replicate}
 use Rattle.meaning.specs.Bounds.{STEPS, RULES}
 use mir.Syntax.{w32}
@@ -14,13 +13,6 @@ use Rattle.lent.specs.Lent.{tables}
 use Rattle.gaps.proofs.Lifting.{lift_remaking}
 use Rattle.desk.proofs.Gapping.{add_raisable, add_remade}
 use native.Mathlib.Omega.{arith}
-use borrow.Author.Rules.{rules}
-use Rattle.desk.proofs.add.Reads as reads
-use Rattle.desk.proofs.add.Lts as lts
-use Rattle.desk.proofs.has.Reads as has-reads
-use Rattle.desk.proofs.verdict.Reads as verdict-reads
-use Rattle.meaning.proofs.refused.Reads as refused-reads
-use Rattle.inner_add.proofs.add.Reads as add_reads
 use Rattle.desk.proofs.add.Goals as goal
 
 pub verdict-number-requires : goal.verdict-number-requires

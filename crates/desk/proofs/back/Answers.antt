@@ -12,12 +12,6 @@ use Rattle.lent.proofs.Watching.{idle_border}
 use Rattle.gaps.proofs.Lifting.{lift_remaking}
 use Rattle.desk.proofs.Gapping.{still_border, remade_watching}
 use native.Mathlib.Omega.{arith}
-use borrow.Author.Rules.{rules}
-use Rattle.desk.proofs.back.Reads as reads
-use Rattle.desk.proofs.back.Lts as lts
-use Rattle.desk.proofs.verdict.Reads as verdict-reads
-use Rattle.inner_back.proofs.back.Reads as back-reads
-use Rattle.meaning.proofs.refused.Reads as refused-reads
 use Rattle.desk.proofs.back.Goals as goal
 
 pub verdict-number-requires : goal.verdict-number-requires

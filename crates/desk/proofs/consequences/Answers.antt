@@ -1,6 +1,6 @@
 -- `desk::consequences`: the first test decides the refusals; the rest is `inner_split::consequences`.
 use Prim.Native.Nat.{ℕ}
-use mathlib.Core.Path.{◌≡◌, refl}
+use mathlib.Core.Path.{◌≡◌}
 use lib.ListN.{length-replicate}
 use Rattle.meaning.specs.Bounds.{STEPS, RULES}
 use Rattle.desk.proofs.Entering.{entered, right_entered, lists_entered, refused_with_two}
@@ -9,13 +9,6 @@ use Rattle.meaning.specs.Calls.{with_lists, consequences_meaning}
 use Rattle.lent.specs.Lent.{tables}
 use Rattle.gaps.proofs.Lifting.{lift_leaving}
 use native.Mathlib.Omega.{arith}
-use borrow.Author.Rules.{rules}
-use Rattle.desk.proofs.consequences.Reads as reads
-use Rattle.desk.proofs.consequences.Lts as lts
-use Rattle.desk.proofs.both_have.Reads as both-have-reads
-use Rattle.desk.proofs.verdict.Reads as verdict-reads
-use Rattle.meaning.proofs.refused.Reads as refused-reads
-use Rattle.inner_split.proofs.consequences.Reads as consequences-reads
 use Rattle.desk.proofs.consequences.Goals as goal
 
 pub verdict-number-requires : goal.verdict-number-requires

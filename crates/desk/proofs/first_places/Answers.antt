@@ -1,10 +1,6 @@
 -- `desk::first_places`: a part from place 0 on, as long as was asked for, or as the list is.
 use Rattle.desk.proofs.Parts.{from_start, whole_part, all_of_it}
 use mathlib.Core.Path.{refl}
-use native.Mathlib.Omega.{arith}
-use borrow.Author.Rules.{rules}
-use Rattle.desk.proofs.first_places.Reads as reads
-use Rattle.desk.proofs.first_places.Lts as lts
 use Rattle.desk.proofs.first_places.Goals as goal
 
 pub returns-then-n-k : goal.returns-then-n-k

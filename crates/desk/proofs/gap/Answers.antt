@@ -1,7 +1,7 @@
 -- `desk::gap` meets its contract: the first test and the pair decide the refusals; the cell of a right gap table says what is so.
 use Prim.Native.Nat.{ℕ}
 use mathlib.Core.Path.{refl, sym, subst}
-use mathlib.Core.Logic.{inl, inr}
+use mathlib.Core.Logic.{inr}
 use lib.ListN.{length-replicate}
 use mir.Syntax.{w64}
 use mir.ValLaws.{to_z-of_z}
@@ -17,13 +17,6 @@ use Rattle.desk.specs.Yard.{pair_needs}
 use Rattle.desk.proofs.Entering.{entered, right_entered, refused_alone}
 use Rattle.desk.proofs.Gapping.{pair_met, told_none, told_limit}
 use native.Mathlib.Omega.{arith}
-use borrow.Author.Rules.{rules}
-use Rattle.desk.proofs.gap.Reads as reads
-use Rattle.desk.proofs.gap.Lts as lts
-use Rattle.desk.proofs.pair_verdict.Reads as pair-verdict-reads
-use Rattle.desk.proofs.verdict.Reads as verdict-reads
-use Rattle.gaps.proofs.gap_reply.Reads as gap-reply-reads
-use Rattle.yard.proofs.cell_at.Reads as cell-at-reads
 use Rattle.desk.proofs.gap.Goals as goal
 
 pub verdict-number-requires : goal.verdict-number-requires
@@ -58,14 +51,14 @@ pub returns-then-limit-eq-NO_LIMIT : goal.returns-then-limit-eq-NO_LIMIT
 returns-then-limit-eq-NO_LIMIT c =
     let lent_at : Tables = tables c.args.counts c.args.xs.now c.args.ys.now c.args.cs.now c.args.days.now c.args.levels.now
     c.args.wxs.now c.args.wys.now c.args.wcs.now in
-    let at-cell = c.Cell-at in
+    let at-cell = c.cell_at-limit in
     let there = pair_met _ _ _ _ c.pair_verdict-unfit.ensures (omega (arith, c.if-unfit-gt0.false)) in
     let border = entered _ _ _ _ _ _ c.verdict-number.ensures (omega (arith, c.if-number-gt0.false)) in
     let right = right_entered _ _ _ _ _ _ c.verdict-number.ensures (omega (arith, c.if-number-gt0.false)) in
     let says = subst (Says (rules_of (lent_at)) (held_in (lent_at)) c.args.x c.args.y) (sym at-cell.ensures) (right c.args.x c.args.y there) in
     rw c.gap_reply-then-limit-eq-NO_LIMIT.ensures
     (record {
-      obeys = obeys_done _ _ 0 0 _ (border.room, (border.sound, (right, (there.one_yard, ((there.row_in, there.column_in), tt))))) (told_none c.args.x c.args.y (lent_at) at-cell.result (is_no_limit at-cell.result (record { sfits = at-cell.type-inv }) c.if-limit-eq-NO_LIMIT.true) says, refl);
+      obeys = obeys_done _ _ 0 0 _ (border.room, (border.sound, (right, (there.one_yard, ((there.row_in, there.column_in), tt))))) (told_none c.args.x c.args.y (lent_at) at-cell.result (is_no_limit at-cell.result (record { sfits = at-cell.type_inv }) c.if-limit-eq-NO_LIMIT.true) says, refl);
       flag = omega arith;
     })
 
@@ -73,12 +66,12 @@ pub returns : goal.returns
 returns c =
     let lent_at : Tables = tables c.args.counts c.args.xs.now c.args.ys.now c.args.cs.now c.args.days.now c.args.levels.now
     c.args.wxs.now c.args.wys.now c.args.wcs.now in
-    let at-cell = c.Cell-at in
+    let at-cell = c.cell_at-limit in
     let there = pair_met _ _ _ _ c.pair_verdict-unfit.ensures (omega (arith, c.if-unfit-gt0.false)) in
     let border = entered _ _ _ _ _ _ c.verdict-number.ensures (omega (arith, c.if-number-gt0.false)) in
     let right = right_entered _ _ _ _ _ _ c.verdict-number.ensures (omega (arith, c.if-number-gt0.false)) in
     let says = subst (Says (rules_of (lent_at)) (held_in (lent_at)) c.args.x c.args.y) (sym at-cell.ensures) (right c.args.x c.args.y there) in
-    rw (c.gap_reply-2.ensures, to_z-of_z w64 at-cell.result (record { sfits = at-cell.type-inv }))
+    rw (c.gap_reply-2.ensures, to_z-of_z w64 at-cell.result (record { sfits = at-cell.type_inv }))
     (record {
       obeys = obeys_done _ _ (kind_of at-cell.result) (size_of at-cell.result) _ (border.room, (border.sound, (right, (there.one_yard, ((there.row_in, there.column_in), tt))))) (told_limit c.args.x c.args.y (lent_at) at-cell.result (not_no_limit at-cell.result c.if-limit-eq-NO_LIMIT.false) says, refl);
       flag = omega arith;

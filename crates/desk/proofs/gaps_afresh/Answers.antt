@@ -1,10 +1,5 @@
 -- `desk::gaps_afresh` meets its contract: by the number.
 use mathlib.Core.Path.{refl}
-use borrow.Author.Rules.{rules}
-use native.Mathlib.Omega.{arith}
-use Rattle.desk.proofs.gaps_afresh.Reads as reads
-use Rattle.desk.proofs.gaps_afresh.Lts as lts
-use Rattle.yard.proofs.remake.Reads as remake-reads
 use Rattle.desk.proofs.gaps_afresh.Goals as goal
 
 pub remake-requires : goal.remake-requires

@@ -2,16 +2,11 @@
 use mathlib.Core.Path.{refl}
 use mir.Syntax.{w32}
 use mir.ValLaws.{to_z-of_z}
-use borrow.Author.Rules.{rules}
-use native.Mathlib.Omega.{arith}
-use Rattle.desk.proofs.gaps_raised.Reads as reads
-use Rattle.desk.proofs.gaps_raised.Lts as lts
-use Rattle.yard.proofs.raise.Reads as raise-reads
 use Rattle.desk.proofs.gaps_raised.Goals as goal
 
 pub raise-requires : goal.raise-requires
 raise-requires c = let raisable = c.requires c.if-number-eq0.true in
-    rw (to_z-of_z w32 c.args.c c.ranges.c) (raisable.first_in, (raisable.second_in, (raisable.amount_in, raisable.near)))
+    rw (to_z-of_z w32 c.args.c c.ranges.c) (record { x_lt_n = raisable.first_in; y_lt_n = raisable.second_in; in_amount = raisable.amount_in; by_index = raisable.near })
 
 pub returns-then-number-eq0 : goal.returns-then-number-eq0
 returns-then-number-eq0 c = record { when_done = λ e. rw (to_z-of_z w32 c.args.c c.ranges.c) at c.raise.ensures; else_stays = λ no. absurd (no c.if-number-eq0.true) }

@@ -1,10 +1,7 @@
 -- `desk::has` meets its contract: the answer is the comparison.
 use lib.ListN.{length}
 use borrow.Author.Tests.{leb-true, leb-false}
-use borrow.Author.Rules.{rules}
 use native.Mathlib.Omega.{arith}
-use Rattle.desk.proofs.has.Reads as reads
-use Rattle.desk.proofs.has.Lts as lts
 use Rattle.desk.proofs.has.Goals as goal
 
 pub returns : goal.returns

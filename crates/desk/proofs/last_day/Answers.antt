@@ -6,7 +6,6 @@ use Rattle.meaning.specs.Bounds.{STEPS, RULES}
 use Rattle.meaning.proofs.Needs.{obeys_done}
 use Rattle.desk.proofs.Entering.{entered, right_entered, refused_alone}
 use native.Mathlib.Omega.{arith}
-use borrow.Author.Rules.{rules}
 use Rattle.desk.proofs.last_day.Goals as goal
 
 pub verdict-number-requires : goal.verdict-number-requires

@@ -9,12 +9,6 @@ use Rattle.meaning.specs.Calls.{mark_meaning}
 use Rattle.lent.specs.Lent.{tables}
 use Rattle.gaps.proofs.Lifting.{lift_leaving}
 use native.Mathlib.Omega.{arith}
-use borrow.Author.Rules.{rules}
-use Rattle.desk.proofs.mark.Reads as reads
-use Rattle.desk.proofs.mark.Lts as lts
-use Rattle.desk.proofs.verdict.Reads as verdict-reads
-use Rattle.inner_watch.proofs.mark.Reads as mark-reads
-use Rattle.meaning.proofs.refused.Reads as refused-reads
 use Rattle.desk.proofs.mark.Goals as goal
 
 pub verdict-number-requires : goal.verdict-number-requires

@@ -3,7 +3,6 @@ use Prim.Native.Nat.{ℕ, ◌<◌}
 use mathlib.Core.Path.{◌≡◌, refl}
 use mathlib.Core.List.{List}
 use mathlib.Core.Logic.{inl, inr}
-use borrow.Author.Tests.{not-true, not-false}
 use Rattle.meaning.specs.Bounds.{RULES, SHORT, STEP}
 use Rattle.meaning.specs.Tables.{Tables, at, steps_alone}
 use Rattle.meaning.specs.Promise.{Past}
@@ -15,16 +14,6 @@ use Rattle.lent.specs.Lent.{tables}
 use Rattle.sound.proofs.Opened.{opened_days}
 use Rattle.meaning.proofs.Needs.{obeys_done, obeys_refused}
 use native.Mathlib.Omega.{arith}
-use borrow.Author.Rules.{rules}
-use Rattle.desk.proofs.open.Reads as reads
-use Rattle.desk.proofs.open.Lts as lts
-use Rattle.inner_watch.proofs.clear_days.Reads as clear-days-reads
-use Rattle.inner_watch.proofs.free_all.Reads as free-all-reads
-use Rattle.meaning.proofs.done.Reads as done-reads
-use Rattle.meaning.proofs.refused.Reads as refused-reads
-use Rattle.meaning.proofs.steps_alone.Reads as steps-alone-reads
-use Rattle.sound.proofs.has_room.Reads as has-room-reads
-use Rattle.yard.proofs.remake.Reads as remake-reads
 use Rattle.desk.proofs.open.Goals as goal
 
 -- What Open leaves, from what clears the days and frees the places.

@@ -1,10 +1,7 @@
 -- `desk::pair_verdict` meets its contract: each test is one need.
 use mathlib.Core.Path.{refl}
 use mathlib.Core.Logic.{inl, inr}
-use borrow.Author.Rules.{rules}
 use native.Mathlib.Omega.{arith}
-use Rattle.desk.proofs.pair_verdict.Reads as reads
-use Rattle.desk.proofs.pair_verdict.Lts as lts
 use Rattle.desk.proofs.pair_verdict.Goals as goal
 
 pub returns-then-steps-gt-YARD_STEPS : goal.returns-then-steps-gt-YARD_STEPS

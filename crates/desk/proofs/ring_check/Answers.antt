@@ -18,15 +18,6 @@ use Rattle.lent.specs.Lent.{tables}
 use Rattle.inner_watch.proofs.Verdict.{rule_steps, rule_amount, rule_refused, rule_no_conflict}
 use Rattle.desk.proofs.Entering.{entered, right_entered, refused_alone}
 use native.Mathlib.Omega.{arith}
-use borrow.Author.Rules.{rules}
-use Rattle.desk.proofs.ring_check.Reads as reads
-use Rattle.desk.proofs.ring_check.Lts as lts
-use Rattle.desk.proofs.verdict.Reads as verdict-reads
-use Rattle.inner_watch.proofs.rule_verdict.Reads as rule-verdict-reads
-use Rattle.lent.proofs.next_free.Reads as next-free-reads
-use Rattle.meaning.proofs.done.Reads as done-reads
-use Rattle.meaning.proofs.refused.Reads as refused-reads
-use Rattle.ringcheck.proofs.is_ring.Reads as is-ring-reads
 use Rattle.desk.proofs.ring_check.Goals as goal
 
 -- The next number is not held.

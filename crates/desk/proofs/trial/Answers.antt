@@ -1,6 +1,5 @@
 -- `desk::trial`: the first test decides the refusals that all calls share; the rest is `inner_add::trial`.
 use Prim.Native.Nat.{ℕ}
-use mathlib.Core.Path.{refl}
 use lib.ListN.{length-replicate}
 use Rattle.meaning.specs.Bounds.{STEPS, RULES}
 use mir.Syntax.{w32}
@@ -13,13 +12,6 @@ use Rattle.meaning.specs.Calls.{with_lists, trial_meaning}
 use Rattle.lent.specs.Lent.{tables}
 use Rattle.gaps.proofs.Lifting.{lift_leaving}
 use native.Mathlib.Omega.{arith}
-use borrow.Author.Rules.{rules}
-use Rattle.desk.proofs.trial.Reads as reads
-use Rattle.desk.proofs.trial.Lts as lts
-use Rattle.desk.proofs.both_have.Reads as both-have-reads
-use Rattle.desk.proofs.verdict.Reads as verdict-reads
-use Rattle.meaning.proofs.refused.Reads as refused-reads
-use Rattle.inner_add.proofs.trial.Reads as trial-reads
 use Rattle.desk.proofs.trial.Goals as goal
 
 pub verdict-number-requires : goal.verdict-number-requires

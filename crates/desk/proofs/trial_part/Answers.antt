@@ -1,9 +1,4 @@
 -- `desk::trial_part`: the number of the reply tells which list to hand back a part of, and the step count or the value how much.
-use native.Mathlib.Omega.{arith}
-use borrow.Author.Rules.{rules}
-use Rattle.desk.proofs.trial_part.Reads as reads
-use Rattle.desk.proofs.trial_part.Lts as lts
-use Rattle.desk.proofs.first_places.Reads as first-places-reads
 use Rattle.desk.proofs.trial_part.Goals as goal
 
 pub returns-then-reply-eq0 : goal.returns-then-reply-eq0

@@ -2,14 +2,8 @@
 use mathlib.Core.Path.{refl, sym, ◌∙◌}
 use mathlib.Core.Bool.{true≢false}
 use mathlib.Core.Logic.{inl, inr}
-use borrow.Author.Tests.{not-true, not-false}
 use Rattle.lent.proofs.Watching.{idle_border}
 use native.Mathlib.Omega.{arith}
-use borrow.Author.Rules.{rules}
-use Rattle.desk.proofs.verdict.Reads as reads
-use Rattle.desk.proofs.verdict.Lts as lts
-use Rattle.sound.proofs.has_room.Reads as has-room-reads
-use Rattle.sound.proofs.is_sound.Reads as is-sound-reads
 use Rattle.desk.proofs.verdict.Goals as goal
 
 pub returns-then-not-lists : goal.returns-then-not-lists
@@ -37,7 +31,7 @@ returns-then-not-is_sound c = let is-sound = c.is_sound in
     let has_room = c.has_room in
     let if1 = c.if-not-lists in
     record {
-      first_unmet = inr ((not-false _ if1.left, (has_room.ensures c.args.counts).so (not-false _ if2.left)), inl (refl, is-sound.ensures.decides.not_so c.if-not-is_sound.true));
+      first_unmet = inr ((if1.false, (has_room.ensures c.args.counts).so if2.false), inl (refl, is-sound.ensures.decides.not_so c.if-not-is_sound.true));
       chained = λ e. absurd (omega arith);
     }
 

@@ -12,12 +12,6 @@ use Rattle.meaning.specs.Calls.{watch_meaning}
 use Rattle.lent.specs.Lent.{tables}
 use Rattle.gaps.proofs.Lifting.{lift_leaving}
 use native.Mathlib.Omega.{arith}
-use borrow.Author.Rules.{rules}
-use Rattle.desk.proofs.watch.Reads as reads
-use Rattle.desk.proofs.watch.Lts as lts
-use Rattle.desk.proofs.verdict.Reads as verdict-reads
-use Rattle.inner_watch.proofs.watch.Reads as watch-reads
-use Rattle.meaning.proofs.refused.Reads as refused-reads
 use Rattle.desk.proofs.watch.Goals as goal
 
 pub verdict-number-requires : goal.verdict-number-requires

@@ -12,12 +12,6 @@ use Rattle.lent.proofs.Watching.{idle_border}
 use Rattle.gaps.proofs.Lifting.{lift_remaking}
 use Rattle.desk.proofs.Gapping.{still_border, remade_watching}
 use native.Mathlib.Omega.{arith}
-use borrow.Author.Rules.{rules}
-use Rattle.desk.proofs.withdraw.Reads as reads
-use Rattle.desk.proofs.withdraw.Lts as lts
-use Rattle.desk.proofs.verdict.Reads as verdict-reads
-use Rattle.inner_back.proofs.withdraw.Reads as withdraw-reads
-use Rattle.meaning.proofs.refused.Reads as refused-reads
 use Rattle.desk.proofs.withdraw.Goals as goal
 
 pub verdict-refusal-requires : goal.verdict-refusal-requires
