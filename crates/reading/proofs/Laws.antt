@@ -8,14 +8,14 @@ use native.Mathlib.Omega.{arith}
 use lib.Dec.{eqb, leb, ltb}
 use lib.ListN.{length}
 use borrow.Author.Tests.{eqb-true, leb-true, ltb-true}
-use Rattle.meaning.specs.Bounds.{NAME_BYTES, ASKED, DEPTH}
+use Rattle.meaning.specs.Bounds.{NAME_BYTES, ASKED}
 use Rattle.text.specs.declared.Tok.{Tok}
 use Rattle.text.specs.Lexicon.{OPEN, CLOSE, NUMERAL, SYMBOL, tok, token_at, bytes, same_bytes}
 use Rattle.text.proofs.Tokens.{token_placed}
 use Rattle.text.proofs.Words.{length_bytes}
 use Rattle.words.specs.Words.{reserved, compares, operates, W_minus, W_not, W_and, W_Int, W_QF_IDL, W_set_logic, W_declare_fun, W_assert, W_push, W_pop, W_check_sat, W_get_value, W_exit}
 use Rattle.reading.specs.Tree.{Piece, Term, Supported, Command}
-use Rattle.reading.specs.Reading.{Why, Read, then, lexeme, piece, past, is_name, stops, expect, expect_word, expect_name, closed, amount, comparison, rest_from, conjoined, inside, unbracketed, term, names_from, asked, declared, headed, bracketed}
+use Rattle.reading.specs.Reading.{Why, Read, then, lexeme, piece, past, is_name, stops, expect, expect_word, expect_name, closed, amount, comparison, rest_from, conjoined, inside, unbracketed, term, names_from, asked, headed, bracketed}
 use Rattle.reading.proofs.Every.{Every, by_test, by_then, given}
 use Rattle.reading.proofs.Walking.{both_true}
 use Rattle.reading.proofs.Progress.{came, reading_moves}

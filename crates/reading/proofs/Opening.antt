@@ -10,7 +10,7 @@ use Rattle.text.specs.Lexicon.{OPEN, SYMBOL, token_at}
 use Rattle.reading.specs.declared.Heard.{Heard}
 use Rattle.meaning.specs.Tables.{Columns}
 use Rattle.reading.specs.Tree.{Piece, Command}
-use Rattle.reading.specs.Reading.{Why, Read, then, piece, stops, expect, headed, bracketed, reading}
+use Rattle.reading.specs.Reading.{Why, Read, then, piece, stops, expect, headed, reading}
 use Rattle.reading.specs.Parts.{opening, CommandHeard}
 use Rattle.reading.proofs.Steps.{cond_true, cond_false, of_kind, other_kind}
 

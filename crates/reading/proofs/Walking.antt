@@ -8,7 +8,7 @@ use native.Mathlib.Omega.{arith}
 use lib.Dec.{eqb, leb, ltb}
 use lib.ListN.{length}
 use borrow.Author.Tests.{eqb-true}
-use Rattle.meaning.specs.Bounds.{NAME_BYTES, ASKED, DEPTH}
+use Rattle.meaning.specs.Bounds.{NAME_BYTES, ASKED}
 use Rattle.text.specs.Lexicon.{OPEN, CLOSE, NUMERAL, SYMBOL, both, token_at, same_bytes}
 use Rattle.words.specs.Words.{compares, operates, W_minus, W_not, W_and, W_Int, W_QF_IDL, W_set_logic, W_declare_fun, W_assert, W_push, W_pop, W_check_sat, W_get_value, W_exit}
 use Rattle.reading.specs.Tree.{Piece, Amount, Term, Command}

@@ -1,7 +1,7 @@
 -- What the readers of parts of a command promise: names, amounts, atoms, terms, lists of names.
 use Rattle.std.specs.Prelude.{ℕ, ◌≤◌, ◌<◌, ◌≡◌, Bool, true, false, cond, List, [], ◌∷◌, eqb, length, ℤ, pos, neg_ℤ, ◌-ℤ◌}
 use Rattle.meaning.specs.Bounds.{DONE, NAME, AMOUNT}
-use Rattle.meaning.specs.Rules.{Rule, rule, InAmount}
+use Rattle.meaning.specs.Rules.{Rule, InAmount}
 use Rattle.meaning.specs.Tables.{Columns, rule_at}
 use Rattle.meaning.specs.Promise.{First, needs}
 use Rattle.text.specs.Lexicon.{OPEN, CAP, cut, either, token_at}
@@ -13,7 +13,6 @@ use Rattle.reading.specs.Tree.{Piece, said_by, Amount, Term, rules_of_term, Comm
 use Rattle.reading.specs.Reading.{Why, Read, stops, expect}
 use Rattle.reading.specs.Saying.{step_in, KnownIn, name_needs}
 use Rattle.reading.specs.declared.Heard.{Heard}
-use Rattle.reading.specs.declared.Kind.{Kind}
 use Rattle.reading.specs.Heard.{why_of, place_of, Listed, Rowed, Tells}
 
 -- The opening bracket of a text, which is its first byte.

@@ -1,5 +1,5 @@
 -- The reading of a text, from left to right: what it says, or the leftmost place that stops it, and why.
-use Rattle.std.specs.Prelude.{ℕ, zero, suc, ◌+◌, ◌-◌, Bool, true, false, not, cond, List, [], ◌∷◌, eqb, leb, ltb, length}
+use Rattle.std.specs.Prelude.{ℕ, zero, suc, ◌+◌, ◌-◌, Bool, false, not, cond, List, [], ◌∷◌, eqb, leb, ltb, length}
 use Rattle.meaning.specs.Bounds.{NAME_BYTES, DEPTH, ASKED}
 use Rattle.text.specs.declared.Tok.{Tok}
 use Rattle.text.specs.Lexicon.{OPEN, CLOSE, NUMERAL, SYMBOL, both, token_at, bytes, same_bytes}

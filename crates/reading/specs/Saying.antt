@@ -5,7 +5,7 @@ use Rattle.meaning.specs.Rules.{Rule, InAmount}
 use Rattle.meaning.specs.Promise.{Need, needs}
 use Rattle.text.specs.Lexicon.{same_bytes}
 use Rattle.names.specs.Names.{name_at}
-use Rattle.reading.specs.Tree.{Piece, Term, Named, rules_of_term, Command}
+use Rattle.reading.specs.Tree.{Piece, Named, rules_of_term, Command}
 
 -- The number of the name w, seeking from number k over `left` names; past the last where none of them is w.
 unfoldable pub seek : (left k : ℕ) → List ℕ → List ℕ → List ℕ → ℕ

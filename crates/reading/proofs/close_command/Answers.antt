@@ -1,6 +1,5 @@
 -- `reading::close_command` meets its contract: what the closing bracket says is said of the command.
 use Rattle.reading.proofs.Commanding.{command_closed}
-use borrow.Author.Rules.{rules}
 use Rattle.reading.proofs.close_command.Goals as goal
 
 pub returns : goal.returns

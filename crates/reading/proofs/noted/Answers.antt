@@ -2,7 +2,6 @@
 use mir.Syntax.{w32}
 use mir.ValLaws.{to_z-of_z}
 use Rattle.reading.proofs.Noting.{stays_noted, first_unknown, second_unknown, amount_out, none_noted}
-use borrow.Author.Rules.{rules}
 use Rattle.reading.proofs.noted.Goals as goal
 
 pub returns-then-fault-gt0 : goal.returns-then-fault-gt0

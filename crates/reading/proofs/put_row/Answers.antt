@@ -7,7 +7,6 @@ use Rattle.meaning.specs.Rules.{rule}
 use Rattle.lent.specs.Lent.{columns}
 use Rattle.meaning.proofs.Put.{put_new, put_old}
 use native.Mathlib.Omega.{arith}
-use borrow.Author.Rules.{rules}
 use Rattle.reading.proofs.put_row.Goals as goal
 
 pub returns-then-k-xs : goal.returns-then-k-xs

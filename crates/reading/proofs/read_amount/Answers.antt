@@ -2,7 +2,6 @@
 use Rattle.text.proofs.Tokens.{token_placed}
 use Rattle.reading.proofs.Amounts.{amount_plain, no_amount, no_minus, no_numeral, amount_minus}
 use native.Mathlib.Omega.{arith}
-use borrow.Author.Rules.{rules}
 use Rattle.reading.proofs.read_amount.Goals as goal
 
 pub value-requires : goal.value-requires

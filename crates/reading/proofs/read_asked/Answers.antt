@@ -5,7 +5,6 @@ use Rattle.reading.specs.Tree.{Command}
 use Rattle.reading.specs.Reading.{expect, asked}
 use Rattle.reading.proofs.Steps.{went}
 use Rattle.reading.proofs.Commands.{heard_halt, heard_on, tells_asked}
-use borrow.Author.Rules.{rules}
 use Rattle.reading.proofs.read_asked.Goals as goal
 
 pub returns-then-a-ne-GOT : goal.returns-then-a-ne-GOT

@@ -7,19 +7,18 @@ use Rattle.reading.specs.Reading.{term}
 use Rattle.reading.proofs.Steps.{went}
 use Rattle.reading.proofs.Commands.{heard_halt, heard_on, tells_assert}
 use native.Mathlib.Omega.{arith}
-use borrow.Author.Rules.{rules}
 use Rattle.reading.proofs.read_assert.Goals as goal
 
 pub read_term-r-requires : goal.read_term-r-requires
 read_term-r-requires c = let p = c.requires in record {
-  tab_value = p.0;
-  shelved = p.1.0;
-  indexed = p.1.1.0;
-  all_different = p.1.1.1.0;
-  none_reserved = p.1.1.1.1.0;
-  in_bounds = p.1.1.1.1.1.0;
-  xs_in_bounds = p.1.1.1.1.1.1.0;
-  xs_in_bounds_2 = p.1.1.1.1.1.1.1;
+  tab_value = p.tab_value;
+  shelved = p.shelved;
+  indexed = p.indexed;
+  all_different = p.all_different;
+  none_reserved = p.none_reserved;
+  in_bounds = p.in_bounds;
+  xs_in_bounds = p.xs_in_bounds;
+  xs_in_bounds_2 = p.xs_in_bounds_2;
   count_le_at = omega arith;
 }
 

@@ -9,7 +9,6 @@ use Rattle.reading.proofs.Opening.{heard_opened}
 use Rattle.reading.proofs.Commanding.{command_stopped}
 use Rattle.reading.proofs.Commands.{heard_halt, heard_on}
 use native.Mathlib.Omega.{arith}
-use borrow.Author.Rules.{rules}
 use Rattle.reading.proofs.read_command.Goals as goal
 
 pub returns-then-a-ne-GOT : goal.returns-then-a-ne-GOT
@@ -29,14 +28,14 @@ pub read_headed-requires : goal.read_headed-requires
 read_headed-requires c = let t = c.symbol-t.result in
     let q = token_placed _ _ t c.symbol-t.ensures in
     let p = c.requires in record {
-      tab_value = p.0;
-      shelved = p.1.0;
-      indexed = p.1.1.0;
-      all_different = p.1.1.1.0;
-      none_reserved = p.1.1.1.1.0;
-      in_bounds = p.1.1.1.1.1.0;
-      xs_in_bounds = p.1.1.1.1.1.1.0;
-      xs_in_bounds_2 = p.1.1.1.1.1.1.1;
+      tab_value = p.tab_value;
+      shelved = p.shelved;
+      indexed = p.indexed;
+      all_different = p.all_different;
+      none_reserved = p.none_reserved;
+      in_bounds = p.in_bounds;
+      xs_in_bounds = p.xs_in_bounds;
+      xs_in_bounds_2 = p.xs_in_bounds_2;
       a_le_b = q.ordered;
       b_in_bounds = (q.some (λ z. omega (arith, c.if-t-ne-SYMBOL.false, z))).1;
     }

@@ -7,19 +7,18 @@ use Rattle.reading.proofs.Steps.{went}
 use Rattle.reading.proofs.Commanding.{command_stopped}
 use Rattle.reading.proofs.Commands.{heard_halt, heard_on, heard_yes, heard_no}
 use native.Mathlib.Omega.{arith}
-use borrow.Author.Rules.{rules}
 use Rattle.reading.proofs.read_headed.Goals as goal
 
 pub read_assert-requires : goal.read_assert-requires
 read_assert-requires c = let p = c.requires in record {
-  tab_value = p.0;
-  shelved = p.1.0;
-  indexed = p.1.1.0;
-  all_different = p.1.1.1.0;
-  none_reserved = p.1.1.1.1.0;
-  in_bounds = p.1.1.1.1.1.0;
-  xs_in_bounds = p.1.1.1.1.1.1.0;
-  xs_in_bounds_2 = p.1.1.1.1.1.1.1.0;
+  tab_value = p.tab_value;
+  shelved = p.shelved;
+  indexed = p.indexed;
+  all_different = p.all_different;
+  none_reserved = p.none_reserved;
+  in_bounds = p.in_bounds;
+  xs_in_bounds = p.xs_in_bounds;
+  xs_in_bounds_2 = p.xs_in_bounds_2;
 }
 
 pub returns-then-same : goal.returns-then-same
@@ -28,11 +27,11 @@ returns-then-same c = heard_yes _ _ _ _ _ _ _ _ c.same.result c.same.ensures c.i
 
 pub read_declare-requires : goal.read_declare-requires
 read_declare-requires c = let p = c.requires in record {
-  tab_value = p.0;
-  shelved = p.1.0;
-  indexed = p.1.1.0;
-  all_different = p.1.1.1.0;
-  none_reserved = p.1.1.1.1.0;
+  tab_value = p.tab_value;
+  shelved = p.shelved;
+  indexed = p.indexed;
+  all_different = p.all_different;
+  none_reserved = p.none_reserved;
 }
 
 pub returns-then-same-2 : goal.returns-then-same-2
@@ -48,8 +47,8 @@ returns-then-same-3 c = heard_no _ _ _ _ _ _ _ _ c.same.result c.same.ensures c.
 
 pub same-requires-4 : goal.same-requires-4
 same-requires-4 c = let p = c.requires in record {
-  a_le_b = p.1.1.1.1.1.1.1.1.0;
-  b_in_bounds = p.1.1.1.1.1.1.1.1.1;
+  a_le_b = p.a_le_b;
+  b_in_bounds = p.b_in_bounds;
 }
 
 pub returns-then-same-4 : goal.returns-then-same-4
@@ -61,8 +60,8 @@ returns-then-same-4 c = heard_no _ _ _ _ _ _ _ _ c.same.result c.same.ensures c.
 
 pub same-requires-5 : goal.same-requires-5
 same-requires-5 c = let p = c.requires in record {
-  a_le_b = p.1.1.1.1.1.1.1.1.0;
-  b_in_bounds = p.1.1.1.1.1.1.1.1.1;
+  a_le_b = p.a_le_b;
+  b_in_bounds = p.b_in_bounds;
 }
 
 pub returns-then-same-5 : goal.returns-then-same-5
@@ -75,18 +74,18 @@ returns-then-same-5 c = heard_no _ _ _ _ _ _ _ _ c.same.result c.same.ensures c.
 
 pub same-requires-6 : goal.same-requires-6
 same-requires-6 c = let p = c.requires in record {
-  a_le_b = p.1.1.1.1.1.1.1.1.0;
-  b_in_bounds = p.1.1.1.1.1.1.1.1.1;
+  a_le_b = p.a_le_b;
+  b_in_bounds = p.b_in_bounds;
 }
 
 pub read_asked-requires : goal.read_asked-requires
 read_asked-requires c = let p = c.requires in record {
-  tab_value = p.0;
-  shelved = p.1.0;
-  indexed = p.1.1.0;
-  all_different = p.1.1.1.0;
-  none_reserved = p.1.1.1.1.0;
-  in_bounds = omega (arith, p.1.1.1.1.1.0);
+  tab_value = p.tab_value;
+  shelved = p.shelved;
+  indexed = p.indexed;
+  all_different = p.all_different;
+  none_reserved = p.none_reserved;
+  in_bounds = omega (arith, p.in_bounds);
 }
 
 pub returns-then-same-6 : goal.returns-then-same-6
@@ -100,8 +99,8 @@ returns-then-same-6 c = heard_no _ _ _ _ _ _ _ _ c.same.result c.same.ensures c.
 
 pub same-requires-7 : goal.same-requires-7
 same-requires-7 c = let p = c.requires in record {
-  a_le_b = p.1.1.1.1.1.1.1.1.0;
-  b_in_bounds = p.1.1.1.1.1.1.1.1.1;
+  a_le_b = p.a_le_b;
+  b_in_bounds = p.b_in_bounds;
 }
 
 pub read_word-w-requires : goal.read_word-w-requires
@@ -139,8 +138,8 @@ returns-then-same-7 c = let s = c.args.s.now in
 
 pub same-requires-8 : goal.same-requires-8
 same-requires-8 c = let p = c.requires in record {
-  a_le_b = p.1.1.1.1.1.1.1.1.0;
-  b_in_bounds = p.1.1.1.1.1.1.1.1.1;
+  a_le_b = p.a_le_b;
+  b_in_bounds = p.b_in_bounds;
 }
 
 pub close_command-requires-then-same-8 : goal.close_command-requires-then-same-8

@@ -1,6 +1,5 @@
 -- `reading::read_kind` meets its contract: it goes on where the token has the kind.
 use Rattle.reading.proofs.Steps.{of_kind, other_kind, marks_got, marks_stop}
-use borrow.Author.Rules.{rules}
 use Rattle.reading.proofs.read_kind.Goals as goal
 
 pub returns-then-t-k : goal.returns-then-t-k

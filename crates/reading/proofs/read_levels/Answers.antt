@@ -3,7 +3,6 @@ use mathlib.Core.Path.{refl}
 use Rattle.text.proofs.Tokens.{token_placed}
 use Rattle.reading.proofs.Commanding.{no_levels, pushed_levels, popped_levels}
 use native.Mathlib.Omega.{arith}
-use borrow.Author.Rules.{rules}
 use Rattle.reading.proofs.read_levels.Goals as goal
 
 pub returns-then-t-ne-NUMERAL : goal.returns-then-t-ne-NUMERAL

@@ -5,7 +5,6 @@ use Rattle.reading.specs.Reading.{Why}
 use Rattle.reading.proofs.Steps.{name_no_symbol, name_reserved, name_long}
 use Rattle.reading.proofs.Naming.{name_stopped, known_heard, new_heard}
 use native.Mathlib.Omega.{arith}
-use borrow.Author.Rules.{rules}
 use Rattle.reading.proofs.read_name.Goals as goal
 
 pub returns-then-t-ne-SYMBOL : goal.returns-then-t-ne-SYMBOL

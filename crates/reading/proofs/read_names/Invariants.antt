@@ -1,11 +1,10 @@
 -- `reading::read_names` meets its contract. The loop's invariant: what the names say from here on, after those that were read, is what they say from the start on. The
 -- measure is what is left of the text.
-use lib.ListN.{length-set, length}
+use lib.ListN.{length}
 use Prim.Native.Nat.{◌-◌, ◌≤◌}
-use mathlib.Core.Path.{◌≡◌, refl}
+use mathlib.Core.Path.{◌≡◌}
 use Rattle.meaning.specs.Bounds.{ASKED}
-use Rattle.reading.proofs.Asking.{Going, going_first, no_name, name_far, too_many, last_name, going_on}
-use native.Mathlib.Omega.{arith}
+use Rattle.reading.proofs.Asking.{Going}
 use Rattle.reading.proofs.read_names.Given as goal
 
 abbrev pub invariant-loop-w : goal.invariant-loop-w

@@ -3,7 +3,6 @@ use mathlib.Core.Path.{◌∙◌, sym}
 use Rattle.text.proofs.Tokens.{token_placed}
 use Rattle.reading.proofs.Steps.{name_no_symbol, name_reserved, name_fits, name_long, marks_got, marks_stop}
 use native.Mathlib.Omega.{arith}
-use borrow.Author.Rules.{rules}
 use Rattle.reading.proofs.read_new.Goals as goal
 
 pub returns-then-t-ne-SYMBOL : goal.returns-then-t-ne-SYMBOL

@@ -1,7 +1,6 @@
 -- `reading::read_open` meets its contract: it goes on where the first token is the first byte and an opening bracket.
 use Rattle.reading.proofs.Steps.{marks_got, marks_stop}
 use Rattle.reading.proofs.Opening.{opening_late, opening_there, opening_other}
-use borrow.Author.Rules.{rules}
 use Rattle.reading.proofs.read_open.Goals as goal
 
 pub returns-then-t-ne0 : goal.returns-then-t-ne0

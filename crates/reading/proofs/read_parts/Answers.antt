@@ -1,6 +1,5 @@
 -- `reading::read_parts` meets its contract: each part is read where the one before it ended, and `Comparing` says what the whole came to.
 use Rattle.reading.proofs.Comparing.{parts_far, no_open, no_minus, no_first, no_second, no_close, no_amount, all_parts, small_parts}
-use borrow.Author.Rules.{rules}
 use Rattle.reading.proofs.read_parts.Goals as goal
 
 pub read_kind-a-requires : goal.read_kind-a-requires

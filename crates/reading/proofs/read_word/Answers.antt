@@ -2,7 +2,6 @@
 use Rattle.text.proofs.Tokens.{token_placed}
 use Rattle.reading.proofs.Steps.{word_no_symbol, word_is, marks_got, marks_stop}
 use native.Mathlib.Omega.{arith}
-use borrow.Author.Rules.{rules}
 use Rattle.reading.proofs.read_word.Goals as goal
 
 pub returns-then-t-ne-SYMBOL : goal.returns-then-t-ne-SYMBOL
