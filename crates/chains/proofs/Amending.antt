@@ -1,16 +1,16 @@
 -- What putting a rule on its chain, or taking it off, comes to: which rules are on the chains then.
-use Prim.Native.Nat.{ℕ, zero, suc, ◌+◌, ◌-◌, ◌≤◌, ◌<◌}
+use Prim.Native.Nat.{ℕ, suc, ◌+◌, ◌-◌, ◌≤◌, ◌<◌}
 use native.Mathlib.Omega.{arith}
 use native.Mathlib.Decide.{ℕ_discrete}
 use mathlib.Core.Path.{◌≡◌, refl, sym, ◌∙◌, ap, subst}
 use mathlib.Core.List.{List}
-use mathlib.Core.Logic.{◌⊎◌, inl, inr}
+use mathlib.Core.Logic.{inl, inr}
 use lib.ListN.{length, set, length-set}
 use lib.Seq.{get_or-set_same, get_or-set_other}
 use Rattle.meaning.specs.Bounds.{RULES}
 use Rattle.meaning.specs.Rules.{plus}
 use Rattle.meaning.specs.Tables.{at}
-use Rattle.chains.specs.Chains.{ChainsOf, number, OFF, linked, minus, LentChains, Pushed, Dropped, Amendable, Descends, LastAbove, ChainsNow}
+use Rattle.chains.specs.Chains.{number, OFF, linked, minus, LentChains, Pushed, Dropped, Amendable, Descends, LastAbove, ChainsNow}
 use Rattle.chains.proofs.Laws.{chains_agree}
 use Rattle.chains.proofs.Amid.{Sorted, sorted, unsorted, sorted_front, sorted_behind, sorted_headless, sorted_without}
 

@@ -4,12 +4,10 @@ use native.Mathlib.Omega.{arith}
 use native.Mathlib.Decide.{ℕ_discrete, dec_lt}
 use mathlib.Core.Path.{◌≡◌, refl, sym, ◌∙◌, ap, subst}
 use mathlib.Core.List.{List}
-use mathlib.Core.Logic.{◌⊎◌, inl, inr}
-use lib.ListN.{length, set}
-use lib.Seq.{get_or-set_same, get_or-set_other}
+use mathlib.Core.Logic.{inl, inr}
 use Rattle.meaning.specs.Rules.{plus}
 use Rattle.meaning.specs.Tables.{at}
-use Rattle.chains.specs.Chains.{top, ChainsOf, number, OFF, minus}
+use Rattle.chains.specs.Chains.{ChainsOf, number, minus}
 use Rattle.chains.proofs.Laws.{top_number}
 
 -- Chains by number, with links told as they are.

@@ -1,10 +1,10 @@
 -- The rules on the chains put on chains by other steps, place by place.
-use Prim.Native.Nat.{ℕ, zero, suc, ◌+◌, ◌≤◌, ◌<◌}
+use Prim.Native.Nat.{ℕ, zero, suc, ◌+◌, ◌<◌}
 use native.Mathlib.Omega.{arith}
 use native.Mathlib.Decide.{ℕ_discrete}
 use mathlib.Core.Path.{◌≡◌, refl, sym, ◌∙◌, ap, subst}
 use mathlib.Core.List.{List}
-use mathlib.Core.Logic.{◌⊎◌, inl, inr}
+use mathlib.Core.Logic.{inl, inr}
 use lib.Seq.{get_or-set_same, get_or-set_other}
 use Rattle.meaning.specs.Bounds.{RULES}
 use Rattle.meaning.specs.Rules.{plus}

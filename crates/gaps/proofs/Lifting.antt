@@ -1,7 +1,7 @@
 -- A promise over the tables and the same promise with the gap table beside them: from the one to the other where the gap table is right, and back.
 use Prim.Native.Nat.{ℕ}
 use native.Mathlib.Omega.{arith}
-use mathlib.Core.Path.{◌≡◌, refl, ap}
+use mathlib.Core.Path.{◌≡◌, refl}
 use mathlib.Core.List.{List, [], ◌∷◌}
 use mathlib.Core.Logic.{inl, inr}
 use Rattle.meaning.specs.Bounds.{DONE, DAMAGED}

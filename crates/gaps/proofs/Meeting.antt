@@ -18,8 +18,8 @@ use Rattle.meaning.proofs.Needs as goal
 use Rattle.meaning.proofs.Decided.{room?, sound?}
 use Rattle.meaning.proofs.Possible.{Outcome, open_possible, watch_possible, add_possible, mark_possible, back_possible, withdraw_possible, trial_possible, consequences_possible, ring_check_possible, last_day_possible}
 use Rattle.meaning.proofs.Sequences.{call_keeps, opened_kept}
-use Rattle.gaps.specs.Gaps.{Gaps, Square, cell, Says, Right, Remade}
-use Rattle.gaps.specs.Beside.{Beside, beside, with_gaps, asks_right, open_beside, watch_beside, add_beside, mark_beside, back_beside, withdraw_beside, trial_beside, consequences_beside, ring_check_beside, last_day_beside, GapTold, gap_meaning, gap_beside}
+use Rattle.gaps.specs.Gaps.{Gaps, Square, Says, Right, Remade}
+use Rattle.gaps.specs.Beside.{beside, with_gaps, asks_right, open_beside, watch_beside, add_beside, mark_beside, back_beside, withdraw_beside, trial_beside, consequences_beside, ring_check_beside, last_day_beside, GapTold, gap_meaning, gap_beside}
 use Rattle.gaps.proofs.Lifting.{lifted}
 use Rattle.gaps.proofs.Right.{right?, limit_cell}
 use Rattle.gaps.proofs.Squares.{remade_some}

@@ -10,7 +10,7 @@ use Rattle.meaning.specs.Rules.{Rule, rule, InSteps, InBounds, Arrangement, Plan
 use Rattle.meaning.specs.Reckoning.{up, dn}
 use Rattle.meaning.proofs.Whole.{le→, lt→, add_is, keeps→, →keeps, plan→}
 use Rattle.meaning.proofs.More.{more_all, arrangement_new, arrangement_old}
-use Rattle.gaps.specs.Gaps.{cell, Limit, NoLimit, Says}
+use Rattle.gaps.specs.Gaps.{Limit, NoLimit, Says}
 use Rattle.gaps.specs.Slacks.{Spares, NEAR, Near, SmallerOf}
 use Rattle.gaps.proofs.Closing.{picked, picked_yes, picked_no, parts_few, up_most, Holds, →holds, holds_over, Closed, Tells, tells_says}
 use Rattle.gaps.proofs.Stages.{min_either}

@@ -14,7 +14,7 @@ use Rattle.meaning.specs.Screen.{SameQuestion, SplitOf, first_list, SameScreen}
 use Rattle.meaning.proofs.Sequences.{Kept, kept_splits, run_kept}
 use Rattle.meaning.proofs.Screens.{always_among, same_screen}
 use Rattle.meaning.proofs.Lists.{all_in}
-use Rattle.gaps.specs.Gaps.{Gaps, cell, Limit, Says, InYard, Right}
+use Rattle.gaps.specs.Gaps.{Gaps, cell, Says, InYard, Right}
 use Rattle.gaps.specs.Runs.{RunBeside}
 use Rattle.gaps.proofs.Limits.{says_unique, always_limit}
 use Rattle.gaps.proofs.Keeping.{run_right}

@@ -6,7 +6,7 @@ use Rattle.meaning.specs.Promise.{Given, Obeys}
 use Rattle.meaning.specs.Calls.{with_list, with_lists}
 use Rattle.meaning.specs.Runs.{Call}
 use Rattle.gaps.specs.Gaps.{Gaps}
-use Rattle.gaps.specs.Beside.{Beside, beside, open_beside, watch_beside, add_beside, mark_beside, back_beside, withdraw_beside, trial_beside, consequences_beside, ring_check_beside, last_day_beside, gap_beside}
+use Rattle.gaps.specs.Beside.{beside, open_beside, watch_beside, add_beside, mark_beside, back_beside, withdraw_beside, trial_beside, consequences_beside, ring_check_beside, last_day_beside, gap_beside}
 
 -- The call was made on tables t and gap table a, gave g and left tables u and gap table b, and kept its promise.
 abbrev pub MadeBeside : Call → Tables → Gaps → Given → Tables → Gaps → Type 0

@@ -1,7 +1,7 @@
 -- Trial answers as Add would, with the same days where the rule fits and the same ring where it does not.
 use Prim.Native.Nat.{ℕ, ◌≤◌, ◌<◌}
 use native.Mathlib.Decide.{ℕ_discrete}
-use mathlib.Core.Path.{◌≡◌, refl, sym, ◌∙◌, ap, subst}
+use mathlib.Core.Path.{◌≡◌, refl, sym, ◌∙◌, ap}
 use mathlib.Core.List.{List, ◌∷◌, tail}
 use mathlib.Core.Logic.{inl, inr}
 use lib.ListN.{length, take}

@@ -1,7 +1,7 @@
 -- Two clerks, worked: what each is answered, whatever its promise allows, by the tests of the starred cases; and that both end with the same question.
 use Prim.Native.Nat.{ℕ, zero, suc, ◌<◌}
 use native.Mathlib.Omega.{arith}
-use mathlib.Core.Path.{◌≡◌, sym, ◌∙◌}
+use mathlib.Core.Path.{sym, ◌∙◌}
 use mathlib.Core.List.{List, [], ◌∷◌, ◌++◌}
 use lib.Dec.{T}
 use lib.IntN.{ℤ, pos, neg_ℤ}

@@ -1,16 +1,15 @@
 -- Any two outcomes that a promise allows on the same input are equal: the number is that of the first need not met, and what a call leaves when it is carried
 -- out, on conflict and refused is fixed each time.
 use Prim.Native.Nat.{ℕ}
-use native.Mathlib.Omega.{arith}
 use native.Mathlib.Decide.{ℕ_discrete}
-use mathlib.Core.Path.{◌≡◌, refl, sym, ◌∙◌, ap, subst}
+use mathlib.Core.Path.{◌≡◌, sym, ◌∙◌, ap}
 use mathlib.Core.List.{List}
 use mathlib.Core.Logic.{◌⊎◌, inl, inr}
 use Rattle.meaning.specs.Bounds.{RULES, DONE, CONFLICT}
 use Rattle.meaning.specs.Rules.{Rule, Always, Never}
 use Rattle.meaning.specs.Tables.{Tables, rule_at, opened, with_rule, without_mark, without_rule, with_days}
 use Rattle.meaning.specs.Promise.{Given, bare, Meaning, Obeys, Planned, moved}
-use Rattle.meaning.specs.Calls.{WithList, WithLists, rules_of, held_in, next_in, RingIn, Opened, Watched, Added, AddConflict, Marked, WentBack, Tried, TrialConflict, Split, RingChecked, open_meaning, watch_meaning, add_meaning, mark_meaning, back_meaning, withdraw_meaning, trial_meaning, consequences_meaning, ring_check_meaning, last_day_meaning}
+use Rattle.meaning.specs.Calls.{WithList, WithLists, rules_of, held_in, next_in, RingIn, open_meaning, watch_meaning, add_meaning, mark_meaning, back_meaning, withdraw_meaning, trial_meaning, consequences_meaning, ring_check_meaning, last_day_meaning}
 use Rattle.meaning.proofs.Theory.{earliest_unique}
 use Rattle.meaning.proofs.Needs.{first_same}
 use Rattle.meaning.proofs.Lists.{past_same, filled_same, exactly_same}

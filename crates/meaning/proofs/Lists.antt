@@ -1,13 +1,13 @@
 -- Lists that are lent: when two of them are equal, what a list written over another holds, and that a rising list is fixed by its members.
-use Prim.Native.Nat.{ℕ, zero, suc, ◌+◌, ◌-◌, ◌≤◌, ◌<◌, min}
+use Prim.Native.Nat.{ℕ, zero, suc, ◌+◌, ◌-◌, ◌≤◌, ◌<◌}
 use native.Mathlib.Omega.{arith}
-use native.Mathlib.Decide.{dec_lt, dec_le}
+use native.Mathlib.Decide.{dec_lt}
 use mathlib.Core.Path.{◌≡◌, refl, sym, ◌∙◌, ap, subst}
 use mathlib.Core.List.{List, [], ◌∷◌, ◌++◌}
-use mathlib.Core.Logic.{◌⊎◌, inl, inr}
+use mathlib.Core.Logic.{inl, inr}
 use mathlib.Core.Bool.{cond}
 use lib.Dec.{eqb}
-use lib.ListN.{length, get_or, take, drop, length-append, length-drop, length-take, get_or-append, get_or-eq_default}
+use lib.ListN.{length, take, drop, length-append, length-drop, length-take, get_or-append}
 use lib.Seq.{ext_get_or, get_or-take, get_or-drop, get_or-append-add, take-append_seam}
 use Rattle.meaning.specs.Rules.{All}
 use Rattle.meaning.specs.Tables.{at}

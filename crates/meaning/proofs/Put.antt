@@ -1,9 +1,9 @@
 -- A table of rules after one was written: what each number reads, and that the room stays.
-use Prim.Native.Nat.{ℕ, ◌+◌, ◌≤◌, ◌<◌}
+use Prim.Native.Nat.{ℕ, ◌<◌}
 use native.Mathlib.Omega.{arith}
 use native.Mathlib.Decide.{ℕ_discrete}
-use mathlib.Core.Path.{◌≡◌, refl, sym, ◌∙◌, ap, subst}
-use lib.ListN.{length, length-set}
+use mathlib.Core.Path.{◌≡◌, sym, ◌∙◌, subst}
+use lib.ListN.{length-set}
 use lib.Seq.{get_or-set_same, get_or-set_other}
 use lib.IntN.{pos}
 use Rattle.meaning.specs.Rules.{Rule, more}

@@ -6,10 +6,10 @@ use mathlib.Core.List.{List, [], ◌∷◌, map}
 use mathlib.Core.Bool.{Bool, true, false, not, ◌&&◌, ◌||◌, cond}
 use mathlib.Core.Logic.{◌⊎◌, inl, inr}
 use lib.Dec.{T, ltb, eqb, ltb→lt, eqb→eq, eqb_refl, not_T, T_not}
-use lib.IntN.{ℤ, pos, ◌+ℤ◌}
+use lib.IntN.{pos, ◌+ℤ◌}
 use lib.Signed.{◌<ℤ◌, lt_z}
 use lib.ListN.{length}
-use Rattle.meaning.specs.Rules.{Rule, InSteps, Leads, All, Different, total, Ring, Negative, more, plus, Refutes, RefutesBy, Before, Reason}
+use Rattle.meaning.specs.Rules.{Rule, InSteps, Leads, All, Different, total, Ring, more, plus, Refutes, RefutesBy, Before, Reason}
 use Rattle.meaning.proofs.Theory.{all_implies}
 use Rattle.meaning.proofs.Counting.{ring_length}
 use Rattle.meaning.proofs.Tests.{both, either, implies, apply, all_below, all_below→}

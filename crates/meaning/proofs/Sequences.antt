@@ -1,17 +1,16 @@
 -- Sequences of calls: the tables stay sound, Consequences answers the exact split, the last day stored is the largest, and Back restores what was held at the mark.
-use Prim.Native.Nat.{ℕ, zero, suc, ◌+◌, ◌-◌, ◌≤◌, ◌<◌}
+use Prim.Native.Nat.{ℕ, ◌+◌, ◌-◌, ◌≤◌, ◌<◌}
 use native.Mathlib.Omega.{arith}
-use native.Mathlib.Decide.{ℕ_discrete, dec_lt}
+use native.Mathlib.Decide.{ℕ_discrete}
 use mathlib.Core.Path.{◌≡◌, refl, sym, ◌∙◌, ap, subst}
-use mathlib.Core.List.{List, [], ◌∷◌}
+use mathlib.Core.List.{List}
 use mathlib.Core.Logic.{◌⊎◌, inl, inr, ⊎_elim, ◌↔◌}
-use lib.IntN.{pos}
 use lib.ListN.{length, set, length-set}
 use Rattle.meaning.specs.Bounds.{STEPS, RULES, MARKS, WATCHED, DONE, CONFLICT}
-use Rattle.meaning.specs.Rules.{Rule, InBounds, InSteps, InAmount, Earliest, Plan, largest, more, plus}
-use Rattle.meaning.specs.Tables.{Tables, Columns, rule_at, put, at, held, next, ColumnsRoom, Room, InCounts, Sound, opened, with_watched, with_rule, with_mark, freed_above, down_to, without_mark, without_rule, with_days}
-use Rattle.meaning.specs.Promise.{Given, gave, Meaning, First, Obeys, Past, Planned}
-use Rattle.meaning.specs.Calls.{WithList, WithLists, rules_of, held_in, rules_and, held_and, Opened, Watched, Added, Marked, WentBack, Split, LastDayTold, open_meaning, watch_meaning, add_meaning, mark_meaning, back_meaning, withdraw_meaning, trial_meaning, consequences_meaning, ring_check_meaning, last_day_meaning}
+use Rattle.meaning.specs.Rules.{Rule, InBounds, InSteps, InAmount, Earliest, largest, plus}
+use Rattle.meaning.specs.Tables.{Tables, Columns, rule_at, put, at, held, next, ColumnsRoom, Room, Sound, opened, with_watched, with_rule, with_mark, freed_above, down_to, without_mark, without_rule, with_days}
+use Rattle.meaning.specs.Promise.{Given, gave, Meaning, Obeys, Past, Planned}
+use Rattle.meaning.specs.Calls.{WithList, WithLists, rules_of, held_in, rules_and, held_and, Opened, Split, LastDayTold, open_meaning, watch_meaning, add_meaning, mark_meaning, back_meaning, withdraw_meaning, trial_meaning, consequences_meaning, ring_check_meaning, last_day_meaning}
 use Rattle.meaning.specs.Runs.{Call, Made, Run, KeepsMark, Names, WithdrawnSince}
 use Rattle.meaning.proofs.Theory.{earliest_unique, earliest_same}
 use Rattle.meaning.proofs.Needs.{AllMet, done_met, all_met, first_same}

@@ -14,14 +14,14 @@ use borrow.Author.Tests.{eq-eqb, ne_eqb, le-leb, lt-leb}
 use lib.Seq.{get_or-set_other, get_or-append_seam}
 use Rattle.meaning.specs.Bounds.{STEPS, RULES, MARKS, WATCHED, DONE, CONFLICT, ABSENT}
 use Rattle.meaning.specs.Rules.{Rule, Keeps, All, InSteps, InBounds, negation, Arrangement, Earliest, Always, Never, Fits, total, more, plus, Reason}
-use Rattle.meaning.specs.Tables.{Tables, Columns, rule_at, put, at, ColumnsRoom, taken, Room, Sound, opened, with_watched, with_rule, with_mark, freed_above, without_mark, without_rule, with_days}
+use Rattle.meaning.specs.Tables.{Tables, Columns, rule_at, put, at, ColumnsRoom, taken, Room, opened, with_watched, with_rule, with_mark, freed_above, without_mark, without_rule, with_days}
 use Rattle.meaning.specs.Promise.{Given, bare, First, Exactly, moved}
 use Rattle.meaning.specs.Calls.{WithList, WithLists, rules_of, held_in, next_in, rules_and, held_and, Opened, Added, WatchedThat, open_meaning, watch_meaning, add_meaning, mark_meaning, back_meaning, withdraw_meaning, consequences_meaning, Asked}
 use Rattle.meaning.specs.Runs.{Call, Made, Run}
 use Rattle.meaning.specs.Cases.{Row, Case, Days, Done, Possible, Says, Claim, Proved, starred, reasons, withdrawals}
 use Rattle.meaning.proofs.Whole.{le→, →eq}
 use Rattle.meaning.proofs.Theory.{rule_eq, all_implies, earliest_unique, not_both, never_is_always_not}
-use Rattle.meaning.proofs.Needs.{AllMet, first_same, all_met}
+use Rattle.meaning.proofs.Needs.{first_same}
 use Rattle.meaning.proofs.More.{more_new, more_old}
 use Rattle.meaning.proofs.Shortest.{reason_unique, reason_same, reason_held}
 use Rattle.meaning.proofs.Determined.{given_eq}
@@ -32,7 +32,7 @@ use Rattle.meaning.proofs.Screens.{Among, arrangement_among}
 use Rattle.meaning.proofs.Sequences.{Kept, call_keeps, run_kept}
 use Rattle.meaning.proofs.Possible as can
 use Rattle.meaning.proofs.Possible.{Allowed}
-use Rattle.meaning.proofs.Tests.{both, either, nth, Below, every, every_at, in_bounds, in-bounds→, earliest_test, earliest_test→, all_below, all_below→, always_test, walk_test→, fits_test, fits_test→, passing, passing_exactly}
+use Rattle.meaning.proofs.Tests.{both, nth, Below, in_bounds, in-bounds→, earliest_test, earliest_test→, all_below, all_below→, always_test, walk_test→, fits_test, fits_test→, passing, passing_exactly}
 use Rattle.meaning.proofs.Rings.{Passes, more_same, total_same, same-test→, same_test, reason_test, reason_test→}
 
 -- ---- lists by place

@@ -2,21 +2,20 @@
 use Prim.Native.Nat.{ℕ, zero, suc, ◌+◌, ◌-◌, ◌≤◌, ◌<◌, max}
 use native.Mathlib.Omega.{arith}
 use native.Mathlib.Decide.{dec_le}
-use mathlib.Core.Path.{◌≡◌, refl, sym, ◌∙◌, ap, subst}
-use mathlib.Core.List.{List, [], ◌∷◌, ◌++◌, map}
+use mathlib.Core.Path.{◌≡◌, ap, subst}
+use mathlib.Core.List.{List, [], ◌∷◌, ◌++◌}
 use mathlib.Core.Bool.{Bool, true, false, not, ◌&&◌, ◌||◌, cond}
 use mathlib.Core.Logic.{◌⊎◌, inl, inr}
 use lib.Dec.{T, leb, ltb, eqb, leb→le, ltb→lt, eqb→eq}
-use lib.IntN.{ℤ, pos, neg_ℤ, ◌+ℤ◌, ◌-ℤ◌}
-use lib.Signed.{◌≤ℤ◌, le_z, lt_z}
+use lib.IntN.{ℤ, pos, neg_ℤ, ◌-ℤ◌}
+use lib.Signed.{le_z}
 use lib.ListN.{length, get_or, set}
 use Rattle.meaning.specs.Bounds.{LARGEST}
-use Rattle.meaning.specs.Rules.{Rule, Keeps, InSteps, InAmount, InBounds, negation, Plan, Earliest, Always, Never, Fits, Leads, All, Different, total, Negative, Tight, Grounded}
+use Rattle.meaning.specs.Rules.{Rule, Keeps, InBounds, Plan, Earliest, Always, Fits, Tight, Grounded}
 use Rattle.meaning.specs.Tables.{at}
 use Rattle.meaning.specs.Promise.{Exactly}
 use Rattle.meaning.specs.Reckoning.{up, dn}
-use Rattle.meaning.proofs.Whole.{le→, →le, minus_is, up_neg, dn_neg, add_is, keeps→, →keeps, plan→, →plan, →tight}
-use Rattle.meaning.proofs.Theory.{not_both, never_is_always_not}
+use Rattle.meaning.proofs.Whole.{le→, minus_is, keeps→, →keeps, →plan, →tight}
 use Rattle.meaning.proofs.Lowering.{grounded_earliest}
 use Rattle.meaning.proofs.Lists.{exactly_none, exactly_take, exactly_leave}
 

@@ -1,15 +1,14 @@
 -- Laws of rules, plans and rings: the earliest plan is unique, negation is exact, a negative ring excludes every arrangement.
-use Prim.Native.Nat.{ℕ, zero, suc, ◌+◌, ◌≤◌, ◌<◌}
+use Prim.Native.Nat.{ℕ, ◌+◌, ◌≤◌, ◌<◌}
 use native.Mathlib.Omega.{arith}
-use mathlib.Core.Path.{◌≡◌, refl, sym, ◌∙◌, ap, subst}
+use mathlib.Core.Path.{◌≡◌, refl, sym, ap, subst}
 use mathlib.Core.List.{List, [], ◌∷◌}
 use mathlib.Core.Logic.{◌⊎◌, inl, inr, ◌↔◌}
-use lib.IntN.{ℤ, pos, negsuc, neg_ℤ, ◌+ℤ◌, ◌-ℤ◌}
-use lib.Signed.{◌≤ℤ◌, ◌<ℤ◌}
-use Rattle.meaning.specs.Rules.{Rule, Keeps, InSteps, negation, Arrangement, Plan, Earliest, Always, Never, Fits, Leads, All, total, more, plus, Refutes, RefutesBy}
+use lib.IntN.{ℤ, pos, neg_ℤ, ◌-ℤ◌}
+use Rattle.meaning.specs.Rules.{Rule, Keeps, InSteps, negation, Arrangement, Plan, Earliest, Always, Never, Fits, Leads, All, total, more, plus, Refutes}
 use Rattle.meaning.proofs.More.{more_new, more_either, more_arrangement, arrangement_new, arrangement_old}
 use Rattle.meaning.specs.Reckoning.{up, dn}
-use Rattle.meaning.proofs.Whole.{le→, →le, lt→, →eq, add_is, minus_is, up_neg, dn_neg, keeps→, →keeps, plan→, →plan, keeps?}
+use Rattle.meaning.proofs.Whole.{lt→, →eq, add_is, minus_is, up_neg, dn_neg, keeps→, →keeps, plan→, →plan, keeps?}
 
 -- ---- the earliest plan
 

@@ -1,10 +1,5 @@
--- `chains::build` meets its contract. The loop's invariant: the chains are those of the rules passed. The measure is what is left of the rules.
-use Prim.Native.Nat.{◌≤◌, ◌-◌}
 use native.Mathlib.Omega.{arith}
 use mathlib.Core.Path.{◌≡◌, refl, ◌∙◌}
-use lib.ListN.{length}
-use borrow.Author.Rules.{rules}
-use Rattle.chains.specs.Chains.{Chained}
 use Rattle.chains.proofs.Laws.{chained_none, chained_more}
 use Rattle.chains.proofs.build.Goals as goal
 

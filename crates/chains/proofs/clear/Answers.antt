@@ -1,11 +1,7 @@
--- `chains::clear` meets its contract. The loop's invariant: every chain passed is empty. The measure is what is left of the steps.
-use Prim.Native.Nat.{◌≤◌, ◌-◌}
 use native.Mathlib.Omega.{arith}
-use mathlib.Core.Path.{◌≡◌, refl}
-use lib.ListN.{length, length-set}
+use mathlib.Core.Path.{refl}
+use lib.ListN.{length-set}
 use borrow.Author.Count.{below_none}
-use borrow.Author.Rules.{rules}
-use Rattle.chains.specs.Chains.{Empty}
 use Rattle.chains.proofs.Laws.{empty_more}
 use Rattle.chains.proofs.clear.Goals as goal
 

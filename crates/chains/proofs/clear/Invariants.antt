@@ -1,12 +1,8 @@
--- `chains::clear` meets its contract. The loop's invariant: every chain passed is empty. The measure is what is left of the steps.
-use Prim.Native.Nat.{◌≤◌, ◌-◌}
-use native.Mathlib.Omega.{arith}
-use mathlib.Core.Path.{◌≡◌, refl}
-use lib.ListN.{length, length-set}
-use borrow.Author.Count.{below_none}
-use borrow.Author.Rules.{rules}
+-- `chains::clear` meets its contract. The loop's invariant: every chain passed is empty.
+use Prim.Native.Nat.{◌≤◌}
+use mathlib.Core.Path.{◌≡◌}
+use lib.ListN.{length}
 use Rattle.chains.specs.Chains.{Empty}
-use Rattle.chains.proofs.Laws.{empty_more}
 use Rattle.chains.proofs.clear.Given as goal
 
 abbrev pub invariant-loop-a : goal.invariant-loop-a

@@ -1,6 +1,5 @@
 -- `chains::drop_last` meets its contract: it writes the two cells.
 use mathlib.Core.Path.{refl}
-use borrow.Author.Rules.{rules}
 use Rattle.chains.proofs.drop_last.Goals as goal
 
 pub returns : goal.returns

@@ -1,8 +1,7 @@
 -- `chains::insert` meets its contract: in front of its chain where no rule of it is above, else behind the last rule above.
 use Prim.Native.Nat.{ℕ, ◌-◌, ◌<◌}
 use native.Mathlib.Omega.{arith}
-use mathlib.Core.Path.{◌≡◌, refl, sym, ◌∙◌, ap, subst}
-use borrow.Author.Rules.{rules}
+use mathlib.Core.Path.{◌≡◌, refl, ◌∙◌, ap, subst}
 use lib.ListN.{length-set}
 use Rattle.meaning.specs.Tables.{at}
 use Rattle.chains.specs.Chains.{linked, LastAbove}

@@ -1,8 +1,6 @@
 -- `chains::last_above` meets its contract. The loop's invariant: k is a rule of the chain above i, and the link is its next. The measure is k, which falls along the chain.
-use Prim.Native.Nat.{suc, ◌-◌, ◌<◌}
-use native.Mathlib.Omega.{arith}
-use mathlib.Core.Path.{◌≡◌, refl, sym, ◌∙◌, subst}
-use borrow.Author.Rules.{rules}
+use Prim.Native.Nat.{◌<◌}
+use mathlib.Core.Path.{◌≡◌}
 use Rattle.meaning.specs.Tables.{at}
 use Rattle.chains.specs.Chains.{linked}
 use Rattle.chains.proofs.last_above.Given as goal

@@ -1,11 +1,9 @@
 -- `chains::off_from` meets its contract. The loop's invariant: every place passed is off, and those before m are as they were. The measure is what is left of
 -- the places.
 use Prim.Native.Nat.{◌≤◌, ◌-◌}
-use native.Mathlib.Omega.{arith}
-use mathlib.Core.Path.{◌≡◌, refl}
-use lib.ListN.{length, length-set}
-use borrow.Author.Rules.{rules}
-use Rattle.chains.proofs.Laws.{OffTo, off_none, off_more}
+use mathlib.Core.Path.{◌≡◌}
+use lib.ListN.{length}
+use Rattle.chains.proofs.Laws.{OffTo}
 use Rattle.chains.proofs.off_from.Given as goal
 
 abbrev pub invariant-loop-k : goal.invariant-loop-k

@@ -1,6 +1,5 @@
 -- `chains::push` meets its contract: `pushed` at the two cells written.
 use native.Mathlib.Omega.{arith}
-use borrow.Author.Rules.{rules}
 use Rattle.chains.proofs.Laws.{pushed}
 use Rattle.chains.proofs.push.Goals as goal
 

@@ -1,11 +1,10 @@
 -- `chains::remove` meets its contract: from the front of its chain, else from behind the last rule above, whose next it is.
 use Prim.Native.Nat.{ℕ, ◌-◌, ◌<◌}
 use native.Mathlib.Omega.{arith}
-use mathlib.Core.Path.{◌≡◌, refl, sym, ◌∙◌, ap, subst}
-use borrow.Author.Rules.{rules}
+use mathlib.Core.Path.{◌≡◌, sym, ◌∙◌, ap, subst}
 use lib.ListN.{length-set}
 use Rattle.meaning.specs.Tables.{at}
-use Rattle.chains.specs.Chains.{linked, LastAbove}
+use Rattle.chains.specs.Chains.{LastAbove}
 use Rattle.chains.proofs.Amending.{descends, head_rule, head_above, now_headless, now_without}
 use Rattle.chains.proofs.remove.Goals as goal
 

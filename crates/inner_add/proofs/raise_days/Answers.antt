@@ -1,4 +1,3 @@
--- `inner_add::raise_days`: what is raised and counted so far is a `Raised`, and the latest is the last of the days passed, one step more each turn.
 use Prim.Native.Nat.{◌+◌, ◌^◌, ◌<◌}
 use mathlib.Core.Path.{◌≡◌, sym, ◌∙◌}
 use mathlib.Core.Logic.{inl, inr}

@@ -1,4 +1,3 @@
--- `inner_add::write_days`: what is written and counted so far is a `Raised`, one step more each turn.
 use mathlib.Core.Path.{◌≡◌}
 use Rattle.inner_add.proofs.Raising.{raised_none, raised_more, raised_same}
 use native.Mathlib.Omega.{arith}

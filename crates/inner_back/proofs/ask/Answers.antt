@@ -1,5 +1,3 @@
--- `inner_back::ask` meets its contract. The loop's invariant: each step passed has the gain that brings its day to k. The measure is what is left of
--- the steps.
 use mathlib.Core.Path.{refl, ◌∙◌}
 use lib.ListN.{length-set}
 use borrow.Author.Count.{below_none}

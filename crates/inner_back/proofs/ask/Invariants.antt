@@ -1,5 +1,4 @@
--- `inner_back::ask` meets its contract. The loop's invariant: each step passed has the gain that brings its day to k. The measure is what is left of
--- the steps.
+-- `inner_back::ask` meets its contract. The loop's invariant: each step passed has the gain that brings its day to k.
 use Prim.Native.Nat.{◌≤◌}
 use mathlib.Core.Path.{◌≡◌}
 use lib.ListN.{length}

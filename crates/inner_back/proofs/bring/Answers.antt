@@ -1,5 +1,3 @@
--- `inner_back::bring` meets its contract. The loop's invariant: each day passed is brought, the others are as before, and the latest is the last of those
--- passed. The measure is what is left of the steps.
 use Prim.Native.Nat.{◌+◌, ◌^◌, ◌≤◌, ◌<◌}
 use mathlib.Core.Path.{◌≡◌, sym}
 use mathlib.Core.Logic.{inl, inr}

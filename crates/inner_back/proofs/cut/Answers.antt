@@ -1,4 +1,3 @@
--- `inner_back::cut` meets its contract. The loop's invariant: every place from number i on has a level above k. The measure is i.
 use Prim.Native.Nat.{◌-◌}
 use Rattle.inner_back.proofs.Newest.{cut_here, cut_all, high_more}
 use native.Mathlib.Omega.{arith}

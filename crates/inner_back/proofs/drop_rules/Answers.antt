@@ -1,5 +1,3 @@
--- `inner_back::drop_rules` meets its contract. The loop's invariant: the chains are those of the first i rules. The measure is the number of rules that are
--- still to be taken off.
 use mathlib.Core.Path.{◌≡◌, refl, ◌∙◌}
 use Rattle.inner_back.proofs.Unlinking.{linkable, one_fewer}
 use native.Mathlib.Omega.{arith}

@@ -1,4 +1,3 @@
--- `inner_back::free_from` meets its contract. The loop's invariant: the places from c up to i are freed, and no others. The measure is the number of places left.
 use mathlib.Core.Path.{◌≡◌}
 use Rattle.inner_back.proofs.Newest.{freed_first, freed_more}
 use native.Mathlib.Omega.{arith}

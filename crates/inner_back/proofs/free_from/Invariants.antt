@@ -1,4 +1,4 @@
--- `inner_back::free_from` meets its contract. The loop's invariant: the places from c up to i are freed, and no others. The measure is the number of places left.
+-- `inner_back::free_from` meets its contract. The loop's invariant: the places from c up to i are freed, and no others.
 use Prim.Native.Nat.{◌≤◌}
 use Rattle.inner_back.specs.Freeing.{FreedFrom}
 use Rattle.inner_back.proofs.free_from.Given as goal

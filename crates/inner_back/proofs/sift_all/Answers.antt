@@ -1,5 +1,3 @@
--- `inner_back::sift_all` meets its contract. The loop's invariant: the places passed are sifted, as `Sifting` says. The measure is the number of places that
--- are not passed.
 use Prim.Native.Nat.{◌≤◌, ◌<◌}
 use mathlib.Core.Path.{◌≡◌, refl, ◌∙◌, ap}
 use lib.ListN.{length}

@@ -1,4 +1,3 @@
--- `inner_split::clear` meets its contract. The loop's invariant: no step passed has a gain. The measure is what is left of the steps.
 use mathlib.Core.Path.{refl}
 use lib.ListN.{length-set}
 use borrow.Author.Count.{below_none}

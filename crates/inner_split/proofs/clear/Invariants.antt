@@ -1,4 +1,4 @@
--- `inner_split::clear` meets its contract. The loop's invariant: no step passed has a gain. The measure is what is left of the steps.
+-- `inner_split::clear` meets its contract. The loop's invariant: no step passed has a gain.
 use Prim.Native.Nat.{◌≤◌}
 use mathlib.Core.Path.{◌≡◌}
 use lib.ListN.{length}

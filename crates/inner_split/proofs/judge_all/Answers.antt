@@ -1,5 +1,3 @@
--- `inner_split::judge_all` meets its contract. The loop's invariant: verdicts have been passed on every watched rule of the steps passed. The measure is
--- what is left of the steps.
 use mathlib.Core.Path.{refl, ◌∙◌}
 use Rattle.inner_split.proofs.Judging.{below_judged}
 use native.Mathlib.Omega.{arith}

@@ -1,5 +1,4 @@
--- `inner_split::judge_all` meets its contract. The loop's invariant: verdicts have been passed on every watched rule of the steps passed. The measure is
--- what is left of the steps.
+-- `inner_split::judge_all` meets its contract. The loop's invariant: verdicts have been passed on every watched rule of the steps passed.
 use Rattle.chains.specs.Chains.{linked}
 use Prim.Native.Nat.{◌≤◌}
 use mathlib.Core.Path.{◌≡◌}

@@ -1,5 +1,3 @@
--- `inner_split::judge_firsts` meets its contract. The loop's invariant: verdicts have been passed on the watched rules of a from the link on. The measure is
--- the link.
 use Rattle.chains.proofs.Laws.{next_in}
 use Prim.Native.Nat.{◌-◌, ◌<◌}
 use mathlib.Core.Path.{ap}

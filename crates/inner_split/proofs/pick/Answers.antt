@@ -1,5 +1,3 @@
--- `inner_split::pick` meets its contract. The loop's invariant: the numbers passed whose verdict is yes are listed. The measure is what is left of the
--- numbers.
 use Prim.Native.Nat.{ℕ, ◌+◌, ◌<◌}
 use mathlib.Core.Path.{◌≡◌, subst}
 use mathlib.Core.Logic.{◌⊎◌, inl, inr}

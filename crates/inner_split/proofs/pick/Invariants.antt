@@ -1,5 +1,4 @@
--- `inner_split::pick` meets its contract. The loop's invariant: the numbers passed whose verdict is yes are listed. The measure is what is left of the
--- numbers.
+-- `inner_split::pick` meets its contract. The loop's invariant: the numbers passed whose verdict is yes are listed.
 use Prim.Native.Nat.{◌≤◌}
 use Rattle.inner_split.specs.Verdicts.{Picked}
 use Rattle.inner_split.proofs.pick.Given as goal

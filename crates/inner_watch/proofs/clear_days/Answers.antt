@@ -1,4 +1,3 @@
--- `inner_watch::clear_days`: the days passed are 0, and the rest is as before. The measure is what is left of the steps.
 use mathlib.Core.Path.{◌≡◌}
 use Rattle.inner_watch.proofs.Clearing.{cleared_none, cleared_more}
 use native.Mathlib.Omega.{arith}

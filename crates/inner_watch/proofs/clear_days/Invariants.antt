@@ -1,4 +1,4 @@
--- `inner_watch::clear_days`: the days passed are 0, and the rest is as before. The measure is what is left of the steps.
+-- `inner_watch::clear_days`: the days passed are 0, and the rest is as before.
 use Prim.Native.Nat.{◌≤◌}
 use Rattle.inner_watch.specs.Cleared.{Cleared}
 use Rattle.inner_watch.proofs.clear_days.Given as goal

@@ -1,4 +1,3 @@
--- `inner_watch::free_all`: the places passed are free, and the rest is as before. The measure is what is left of the places.
 use mathlib.Core.Path.{◌≡◌}
 use Rattle.meaning.specs.Bounds.{RULES}
 use Rattle.inner_watch.proofs.Clearing.{freed_none, freed_more}

@@ -1,4 +1,4 @@
--- `inner_watch::free_all`: the places passed are free, and the rest is as before. The measure is what is left of the places.
+-- `inner_watch::free_all`: the places passed are free, and the rest is as before.
 use Prim.Native.Nat.{◌≤◌}
 use Rattle.meaning.specs.Bounds.{RULES}
 use Rattle.inner_watch.specs.Cleared.{Freed}

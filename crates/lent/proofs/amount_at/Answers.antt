@@ -3,7 +3,6 @@ use lib.ListN.{get_or}
 use lib.IntN.{pos}
 use mir.Syntax.{w32}
 use mir.ValLaws.{to_z-of_z}
-use borrow.Author.Rules.{rules}
 use Rattle.lent.proofs.amount_at.Goals as goal
 
 pub returns : goal.returns

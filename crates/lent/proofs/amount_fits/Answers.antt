@@ -1,5 +1,4 @@
 -- `lent::amount_fits` meets its contract: `Amounts` has each of its two ways.
-use borrow.Author.Rules.{rules}
 use Rattle.lent.proofs.Amounts.{not_below_then, below_then}
 use Rattle.lent.proofs.amount_fits.Goals as goal
 

@@ -1,6 +1,5 @@
 -- `lent::day_at` meets its contract: a u32 fits a u64.
 use native.Mathlib.Omega.{arith}
-use borrow.Author.Rules.{rules}
 use Rattle.lent.proofs.day_at.Goals as goal
 
 pub overflow_cast-result : goal.overflow_cast-result

@@ -1,10 +1,6 @@
--- `lent::last_day` meets its contract: at each turn the latest so far is the last of the days passed. The measure is what is left of the steps.
-use Prim.Native.Nat.{◌-◌, ◌≤◌}
 use mathlib.Core.Path.{◌≡◌}
-use mathlib.Core.Logic.{inl, inr, ⊎_elim}
-use borrow.Author.Rules.{rules}
+use mathlib.Core.Logic.{inl, inr}
 use native.Mathlib.Omega.{arith}
-use Rattle.meaning.specs.Rules.{largest}
 use Rattle.meaning.specs.Tables.{at}
 use Rattle.meaning.proofs.LastDay.{largest_next, largest_zeros}
 use Rattle.lent.proofs.last_day.Goals as goal

@@ -1,12 +1,8 @@
--- `lent::last_day` meets its contract: at each turn the latest so far is the last of the days passed. The measure is what is left of the steps.
-use Prim.Native.Nat.{◌-◌, ◌≤◌}
+-- `lent::last_day` meets its contract: at each turn the latest so far is the last of the days passed.
+use Prim.Native.Nat.{◌≤◌}
 use mathlib.Core.Path.{◌≡◌}
-use mathlib.Core.Logic.{inl, inr, ⊎_elim}
-use borrow.Author.Rules.{rules}
-use native.Mathlib.Omega.{arith}
 use Rattle.meaning.specs.Rules.{largest}
 use Rattle.meaning.specs.Tables.{at}
-use Rattle.meaning.proofs.LastDay.{largest_next, largest_zeros}
 use Rattle.lent.proofs.last_day.Given as goal
 
 abbrev pub invariant-loop-v : goal.invariant-loop-v

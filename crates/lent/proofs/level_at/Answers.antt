@@ -1,6 +1,5 @@
 -- `lent::level_at` meets its contract: a u8 fits a usize.
 use native.Mathlib.Omega.{arith}
-use borrow.Author.Rules.{rules}
 use Rattle.lent.proofs.level_at.Goals as goal
 
 pub overflow_cast-result : goal.overflow_cast-result

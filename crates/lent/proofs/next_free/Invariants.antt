@@ -1,11 +1,8 @@
 -- `lent::next_free` meets its contract: where the first places are held there are no others, and else the search does not pass the lowest free place, which there is. The measure is
 -- what is left up to it.
-use Prim.Native.Nat.{◌-◌, ◌≤◌, ◌<◌}
-use native.Mathlib.Omega.{arith}
+use Prim.Native.Nat.{◌-◌, ◌≤◌}
 use Rattle.meaning.specs.Bounds.{RULES}
 use Rattle.meaning.specs.Tables.{lowest_free}
-use Rattle.meaning.proofs.Places.{taken_at_most, lowest_no_later}
-use Rattle.lent.proofs.Cells.{lowest_behind, lowest_there, lowest_further}
 use Rattle.lent.proofs.next_free.Given as goal
 
 abbrev pub invariant-loop-i : goal.invariant-loop-i

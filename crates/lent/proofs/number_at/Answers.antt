@@ -1,6 +1,5 @@
 -- `lent::number_at` meets its contract: a u16 fits a usize.
 use native.Mathlib.Omega.{arith}
-use borrow.Author.Rules.{rules}
 use Rattle.lent.proofs.number_at.Goals as goal
 
 pub overflow_cast-result : goal.overflow_cast-result

@@ -1,7 +1,6 @@
 -- `lent::rule_in` meets its contract: each early return has a step outside its bound.
 use native.Mathlib.Omega.{arith}
 use mathlib.Core.Path.{refl}
-use borrow.Author.Rules.{rules}
 use Rattle.lent.specs.Decides.{decides_no}
 use Rattle.lent.proofs.rule_in.Goals as goal
 

@@ -1,5 +1,3 @@
--- `levels::copy_days` meets its contract. The loop's invariant: the days passed are copied, and the other places are as before. The measure is what is
--- left of the days.
 use mathlib.Core.Path.{◌≡◌}
 use Rattle.levels.proofs.Copying.{copied_none, copied_more}
 use native.Mathlib.Omega.{arith}

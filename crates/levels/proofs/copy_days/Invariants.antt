@@ -1,5 +1,4 @@
--- `levels::copy_days` meets its contract. The loop's invariant: the days passed are copied, and the other places are as before. The measure is what is
--- left of the days.
+-- `levels::copy_days` meets its contract. The loop's invariant: the days passed are copied, and the other places are as before.
 use Prim.Native.Nat.{◌≤◌}
 use Rattle.levels.specs.Levels.{Copied}
 use Rattle.levels.proofs.copy_days.Given as goal

@@ -1,4 +1,3 @@
--- `levels::push` meets its contract. The loop's invariant: the days of the marks passed are kept. The measure is the number of marks left.
 use mathlib.Core.Path.{refl}
 use Rattle.levels.proofs.Pushing.{kept_none, kept_skip, kept_more, keeps_days}
 use native.Mathlib.Omega.{arith}

@@ -1,4 +1,4 @@
--- `levels::push` meets its contract. The loop's invariant: the days of the marks passed are kept. The measure is the number of marks left.
+-- `levels::push` meets its contract. The loop's invariant: the days of the marks passed are kept.
 use Prim.Native.Nat.{◌+◌, ◌≤◌}
 use Rattle.levels.proofs.Pushing.{KeptFrom}
 use Rattle.levels.proofs.push.Given as goal

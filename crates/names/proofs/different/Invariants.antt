@@ -1,4 +1,4 @@
--- `names::different` meets its contract. The loop's invariant: the names passed are all different. The measure is what is left of the names.
+-- `names::different` meets its contract. The loop's invariant: the names passed are all different.
 use Prim.Native.Nat.{◌≤◌}
 use Rattle.names.specs.Names.{AllDifferent}
 use Rattle.names.proofs.different.Given as goal

@@ -1,4 +1,3 @@
--- `names::follow` meets its contract. The loop's invariant: the link leads to a name with the hash sought, and no name passed is the one sought. The measure is the link.
 use Prim.Native.Nat.{suc, ◌-◌, ◌≤◌, ◌<◌}
 use native.Mathlib.Omega.{arith}
 use mathlib.Core.Path.{◌≡◌, refl}

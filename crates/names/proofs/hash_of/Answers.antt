@@ -1,4 +1,3 @@
--- `names::hash_of` meets its contract. The loop's invariant: what is hashed so far, with the bytes left, is the hash. The measure is what is left of the bytes.
 use native.Mathlib.Omega.{arith}
 use mathlib.Core.Path.{refl, sym, ◌∙◌}
 use Rattle.names.proofs.Hashing.{hashed_first, hashed_none}

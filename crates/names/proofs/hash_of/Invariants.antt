@@ -1,4 +1,4 @@
--- `names::hash_of` meets its contract. The loop's invariant: what is hashed so far, with the bytes left, is the hash. The measure is what is left of the bytes.
+-- `names::hash_of` meets its contract. The loop's invariant: what is hashed so far, with the bytes left, is the hash.
 use Prim.Native.Nat.{◌<◌}
 use mathlib.Core.Path.{◌≡◌}
 use Rattle.text.specs.Lexicon.{bytes}

@@ -1,4 +1,3 @@
--- `names::index` meets its contract. The loop's invariant: the names passed have their hashes. The measure is what is left of the names.
 use Prim.Native.Nat.{◌+◌, ◌*◌, ◌≤◌, ◌<◌}
 use native.Mathlib.Omega.{arith}
 use mathlib.Core.Path.{refl, ap, ◌∙◌}

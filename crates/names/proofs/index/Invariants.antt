@@ -1,4 +1,4 @@
--- `names::index` meets its contract. The loop's invariant: the names passed have their hashes. The measure is what is left of the names.
+-- `names::index` meets its contract. The loop's invariant: the names passed have their hashes.
 use Prim.Native.Nat.{◌≤◌}
 use mathlib.Core.Path.{◌≡◌}
 use lib.ListN.{length}

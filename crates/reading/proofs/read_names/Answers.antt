@@ -1,5 +1,3 @@
--- `reading::read_names` meets its contract. The loop's invariant: what the names say from here on, after those that were read, is what they say from the start on. The
--- measure is what is left of the text.
 use lib.ListN.{length-set}
 use mathlib.Core.Path.{refl}
 use Rattle.reading.proofs.Asking.{going_first, no_name, name_far, too_many, last_name, going_on}

@@ -1,5 +1,3 @@
--- `ringcheck::closes` meets its contract. The loop's invariant: the sum is at most 4294967296 for each rule passed, and the list closes the ring exactly when
--- what is left of it does. The measure is what is left of the list.
 use mathlib.Core.Path.{refl}
 use borrow.Author.Tests.{ne_eqb}
 use native.Mathlib.Omega.{arith}

@@ -1,5 +1,3 @@
--- `ringcheck::different` meets its contract. The loop's invariant: low is the first step of the window, and no step of a window before it is a first step twice.
--- The measure is what is left of the steps.
 use Prim.Native.Nat.{ℕ, ◌+◌}
 use mathlib.Core.Path.{refl}
 use mathlib.Core.List.{List}

@@ -1,5 +1,3 @@
--- `ringcheck::once_in` meets its contract. The loop's invariant: the numbers left have a first step, and no step of the two windows is a first step twice exactly
--- when what is left of the first steps is fresh in both. The measure is what is left of the list.
 use Prim.Native.Nat.{◌<◌}
 use mathlib.Core.Path.{◌≡◌, refl, ◌∙◌, ap}
 use lib.ListN.{length}

@@ -1,4 +1,3 @@
--- `shortest::copy` meets its contract. The loop's invariant: the cells passed are copied, so what is read is still what was there. The measure is what is left of the steps.
 use mathlib.Core.Path.{◌≡◌, refl}
 use lib.ListN.{length-set}
 use Rattle.shortest.proofs.Cells.{copied_none, copied_more}

@@ -1,4 +1,4 @@
--- `shortest::copy` meets its contract. The loop's invariant: the cells passed are copied, so what is read is still what was there. The measure is what is left of the steps.
+-- `shortest::copy` meets its contract. The loop's invariant: the cells passed are copied, so what is read is still what was there.
 use Prim.Native.Nat.{◌≤◌}
 use mathlib.Core.Path.{◌≡◌}
 use lib.ListN.{length}

@@ -1,5 +1,3 @@
--- `shortest::fewest` meets its contract. The loop's invariant: h is the answer for ways of at most g rules. There is a way of fewer rules than steps, so the measure is what is left of the
--- steps; and what is added to g next is at most one more than g.
 use Prim.Native.Nat.{◌<◌}
 use mathlib.Core.Path.{refl, ◌∙◌}
 use Rattle.chains.specs.Chains.{linked}

@@ -1,4 +1,3 @@
--- `shortest::fill` meets its contract. The loop's invariant: the cells passed have the value. The measure is what is left of the steps.
 use mathlib.Core.Path.{◌≡◌, refl}
 use lib.ListN.{length-set}
 use Rattle.shortest.proofs.Cells.{set_none, set_more}

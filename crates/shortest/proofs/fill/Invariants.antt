@@ -1,4 +1,4 @@
--- `shortest::fill` meets its contract. The loop's invariant: the cells passed have the value. The measure is what is left of the steps.
+-- `shortest::fill` meets its contract. The loop's invariant: the cells passed have the value.
 use Prim.Native.Nat.{◌≤◌}
 use mathlib.Core.Path.{◌≡◌}
 use lib.ListN.{length}

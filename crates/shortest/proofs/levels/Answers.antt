@@ -1,4 +1,3 @@
--- `shortest::levels` meets its contract. The loop's invariant: the depths go as far as the level. The measure is what is left of the steps.
 use mathlib.Core.Path.{refl, ◌∙◌}
 use lib.ListN.{length-set}
 use Rattle.chains.specs.Chains.{linked}

@@ -1,4 +1,3 @@
--- `shortest::next` meets its contract. The loop's invariant: the rules to the steps passed have lowered the layer. The measure is what is left of the steps.
 use Prim.Native.Nat.{◌+◌, ◌≤◌}
 use mathlib.Core.Path.{◌≡◌, refl, ◌∙◌}
 use Rattle.meaning.specs.Bounds.{STEPS}

@@ -1,4 +1,3 @@
--- `shortest::none_below` meets its contract. The loop's invariant: no cell passed is below the least. The measure is what is left of the group.
 use borrow.Author.Tests.{leb-true}
 use Rattle.shortest.proofs.Grouping.{below_more}
 use native.Mathlib.Omega.{arith}

@@ -1,4 +1,4 @@
--- `shortest::none_below` meets its contract. The loop's invariant: no cell passed is below the least. The measure is what is left of the group.
+-- `shortest::none_below` meets its contract. The loop's invariant: no cell passed is below the least.
 use Prim.Native.Nat.{◌≤◌}
 use Rattle.shortest.specs.Clauses.{GROUP, NoneBelow}
 use Rattle.shortest.proofs.none_below.Given as goal

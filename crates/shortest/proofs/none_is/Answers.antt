@@ -1,4 +1,3 @@
--- `shortest::none_is` meets its contract. The loop's invariant: where nothing is found, no number passed is the key. The measure is what is left of the group.
 use mathlib.Core.Path.{sym, ◌∙◌}
 use mathlib.Core.Bool.{true≢false}
 use borrow.Author.Tests.{not-true}

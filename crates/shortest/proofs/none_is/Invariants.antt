@@ -1,4 +1,4 @@
--- `shortest::none_is` meets its contract. The loop's invariant: where nothing is found, no number passed is the key. The measure is what is left of the group.
+-- `shortest::none_is` meets its contract. The loop's invariant: where nothing is found, no number passed is the key.
 use Prim.Native.Nat.{◌≤◌}
 use mathlib.Core.Path.{◌≡◌}
 use mathlib.Core.Bool.{false}

@@ -1,4 +1,3 @@
--- `shortest::pass` meets its contract. The loop's invariant: the rules of the chain of u from the link on have lowered the layer. The measure is the link.
 use Prim.Native.Nat.{suc, ◌+◌, ◌-◌}
 use mathlib.Core.Path.{◌≡◌, refl}
 use Rattle.meaning.specs.Bounds.{STEPS}

@@ -1,4 +1,3 @@
--- `shortest::pick` meets its contract. The loop's invariant: no rule passed fits, so that one that fits is still to come. The measure is what is left of the places.
 use Prim.Native.Nat.{◌<◌}
 use Rattle.meaning.specs.Bounds.{RULES}
 use Rattle.chains.specs.Chains.{linked}

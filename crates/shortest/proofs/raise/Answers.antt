@@ -1,4 +1,3 @@
--- `shortest::raise` meets its contract. The loop's invariant: layer h stands where layer lo stood. The measure is what is left as far as hi.
 use mathlib.Core.Path.{◌≡◌, refl, ◌∙◌}
 use mathlib.Core.Logic.{inr}
 use Rattle.chains.specs.Chains.{linked}

@@ -1,4 +1,4 @@
--- `shortest::raise` meets its contract. The loop's invariant: layer h stands where layer lo stood. The measure is what is left as far as hi.
+-- `shortest::raise` meets its contract. The loop's invariant: layer h stands where layer lo stood.
 use Prim.Native.Nat.{◌≤◌}
 use mathlib.Core.Path.{◌≡◌}
 use lib.ListN.{length}

@@ -1,4 +1,3 @@
--- `shortest::settle` meets its contract. The loop's invariant: the steps passed are settled, the others as they were. The measure is what is left of the steps.
 use mathlib.Core.Path.{◌≡◌, refl}
 use lib.ListN.{length-set}
 use Rattle.shortest.proofs.Deepening.{settling_none, settling_low, settling_high}

@@ -1,4 +1,4 @@
--- `shortest::settle` meets its contract. The loop's invariant: the steps passed are settled, the others as they were. The measure is what is left of the steps.
+-- `shortest::settle` meets its contract. The loop's invariant: the steps passed are settled, the others as they were.
 use Prim.Native.Nat.{◌≤◌}
 use mathlib.Core.Path.{◌≡◌}
 use lib.ListN.{length}

@@ -1,4 +1,3 @@
--- `shortest::skip_high` meets its contract. The loop's invariant: for no step passed there is less than t. The measure is what is left of the steps.
 use Prim.Native.Nat.{◌<◌}
 use Rattle.shortest.specs.Clauses.{from}
 use Rattle.shortest.proofs.Grouping.{skipped_none, skipped_group, below_group}

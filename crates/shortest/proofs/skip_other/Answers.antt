@@ -1,4 +1,3 @@
--- `shortest::skip_other` meets its contract. The loop's invariant: no number passed is the key. The measure is what is left of the numbers.
 use mathlib.Core.Path.{◌≡◌}
 use Rattle.meaning.specs.Tables.{at}
 use Rattle.shortest.proofs.Grouping.{skipped_group}

@@ -1,4 +1,3 @@
--- `shortest::spread` meets its contract. The loop's invariant: the rules of v from the link on have been met. The measure is the link.
 use Prim.Native.Nat.{suc, ◌-◌}
 use mathlib.Core.Path.{◌≡◌, refl, ◌∙◌}
 use Rattle.meaning.specs.Tables.{at}

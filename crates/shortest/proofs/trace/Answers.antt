@@ -1,4 +1,3 @@
--- `shortest::trace` meets its contract. The loop's invariant: the rules above top are written, and the way goes on from there. Its measure is where what is left ends.
 use mathlib.Core.Path.{refl, ◌∙◌}
 use Rattle.chains.specs.Chains.{linked}
 use Rattle.shortest.proofs.Tracing.{found_none, part_descendable, found_more, found_all}

@@ -1,4 +1,3 @@
--- `shortest::widen` meets its contract. The loop's invariant: the steps passed of that level have spread. The measure is what is left of the steps.
 use mathlib.Core.Path.{◌≡◌, refl}
 use Rattle.chains.specs.Chains.{linked}
 use Rattle.shortest.proofs.Deepening.{widening_none, widening_skipped, widening_more, widening_all}

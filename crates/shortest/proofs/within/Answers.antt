@@ -1,4 +1,3 @@
--- `shortest::within` meets its contract. The loop's invariant: layer h stands in the first cells, and no way from y has fewer rules. The measure is what is left of g.
 use mathlib.Core.Path.{refl, ◌∙◌}
 use mathlib.Core.Logic.{inr}
 use Rattle.chains.specs.Chains.{linked}

@@ -1,4 +1,3 @@
--- `sound::amounts_in` meets its contract. The loop's invariant: the answer is that for the places passed. The measure is what is left of the places.
 use mathlib.Core.Path.{◌≡◌}
 use mathlib.Core.Logic.{inl, inr}
 use lib.ListN.{get_or}

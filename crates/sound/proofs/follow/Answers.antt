@@ -1,4 +1,3 @@
--- `sound::follow` meets its contract. The loop's invariant is `Walking`: every rule of a above the link has been followed. The measure is the link, which falls from rule to rule.
 use Prim.Native.Nat.{suc, ◌-◌}
 use native.Mathlib.Omega.{arith}
 use mathlib.Core.Path.{sym, subst, ◌≡◌, refl, ◌∙◌}

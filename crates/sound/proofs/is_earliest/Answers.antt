@@ -1,4 +1,3 @@
--- `sound::is_earliest` meets its contract. The loop's invariant is `Grounding`: the first `done` steps of the work-list have been followed. The measure is what is left of the steps, of which at most n are entered.
 use Prim.Native.Nat.{◌≤◌}
 use native.Mathlib.Omega.{arith}
 use mathlib.Core.Path.{sym, ap, ◌≡◌, refl, ◌∙◌}

@@ -1,5 +1,3 @@
--- `sound::places_in` meets its contract. The loop's invariant is `Passed`: the rules of the places passed are good and on their chains. The measure is what is left of the places. Behind
--- the last rule every place is free, and off.
 use mathlib.Core.Path.{◌≡◌, refl, ◌∙◌}
 use lib.ListN.{length}
 use Rattle.sound.specs.Parts.{ChainsRoom}

@@ -1,4 +1,3 @@
--- `sound::seed` meets its contract. The loop's invariant: of the steps passed, those of day 0 are entered. The measure is what is left of the steps.
 use native.Mathlib.Omega.{arith}
 use mathlib.Core.Path.{◌≡◌, refl, ◌∙◌}
 use lib.ListN.{get_or}

@@ -1,4 +1,4 @@
--- `sound::seed` meets its contract. The loop's invariant: of the steps passed, those of day 0 are entered. The measure is what is left of the steps.
+-- `sound::seed` meets its contract. The loop's invariant: of the steps passed, those of day 0 are entered.
 use Prim.Native.Nat.{◌≤◌}
 use mathlib.Core.Path.{◌≡◌}
 use lib.ListN.{length}

@@ -1,4 +1,4 @@
--- `sound::steps_in` meets its contract. The loop's invariant: the answer is that for the places passed. The measure is what is left of the places.
+-- `sound::steps_in` meets its contract. The loop's invariant: the answer is that for the places passed.
 use Prim.Native.Nat.{◌≤◌}
 use Rattle.lent.specs.Decides.{Decides}
 use Rattle.sound.specs.Parts.{AllBelow}

@@ -1,5 +1,3 @@
--- `span::span_of` meets its contract. The loop's invariant: what is the span of what is left is the span of the text; at most as many brackets are open as bytes were passed.
--- The measure is what is left of the text.
 use native.Mathlib.Omega.{arith}
 use Rattle.text.proofs.Tokens.{Placed, token_placed}
 use Rattle.span.proofs.Steps.{span_ends, span_bad, span_closed, span_deeper, span_higher, span_other, span_end, span_begun, span_other_kind, span_late}

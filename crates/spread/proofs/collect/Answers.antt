@@ -1,5 +1,3 @@
--- `spread::collect` meets its contract. The loop's invariant: of the steps passed, those with a gain are collected. The measure is what is left
--- of the steps.
 use Prim.Native.Nat.{ℕ}
 use mathlib.Core.Path.{◌≡◌, refl, ◌∙◌, subst}
 use mathlib.Core.Logic.{inl, inr}

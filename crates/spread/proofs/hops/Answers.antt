@@ -1,5 +1,3 @@
--- `spread::hops` meets its contract. The loop's invariant: the walk back from x has come to v in k hops. The measure is how many steps there are
--- besides those passed.
 use Rattle.chains.specs.Chains.{linked}
 use Rattle.spread.proofs.Ringing.{Hop, hop, back_none, back_more, back_few, back_done}
 use native.Mathlib.Omega.{arith}

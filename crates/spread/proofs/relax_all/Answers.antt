@@ -1,4 +1,3 @@
--- `spread::relax_all` meets its contract. The loop's invariant: the rules of x from the link on have been relaxed. The measure is the link.
 use Rattle.chains.specs.Chains.{number, linked}
 use Rattle.chains.proofs.Laws.{next_lower}
 use Prim.Native.Nat.{suc, ◌-◌}

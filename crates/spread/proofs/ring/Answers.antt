@@ -1,5 +1,3 @@
--- `spread::ring` meets its contract. The loop's invariant: the ring is written from its end as far as place j, where the walk back has come to v.
--- The measure is the place.
 use Rattle.chains.specs.Chains.{linked}
 use Prim.Native.Nat.{◌-◌, ◌<◌}
 use mathlib.Core.Path.{refl, ◌∙◌}

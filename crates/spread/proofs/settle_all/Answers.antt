@@ -1,5 +1,3 @@
--- `spread::settle_all` meets its contract. The loop's invariant: a turn can be made, and the state is one between two turns. The measure is how
--- many steps are without gain or in the list, which each turn brings down.
 use Rattle.chains.specs.Chains.{number, linked}
 use mathlib.Core.Path.{refl, ◌∙◌}
 use Rattle.spread.proofs.Walking.{room_kept}

@@ -1,5 +1,3 @@
--- `text::comment_end` meets its contract. The loop's invariant: the place, with what is skipped in the comment from there on, is where the token starts. The measure is what
--- is left of the text.
 use mathlib.Core.Path.{◌≡◌, sym, ◌∙◌, ap}
 use mathlib.Core.Bool.{true, false, true≢false}
 use Prim.Native.Nat.{ℕ}

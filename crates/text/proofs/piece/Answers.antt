@@ -1,5 +1,3 @@
--- `text::piece` meets its contract. The loop's invariant: the piece read so far, with what follows, is the whole piece from its first place on, in kind and in extent. The measure is
--- what is left of the text.
 use mathlib.Core.Path.{refl}
 use lib.ListN.{get_or}
 use Rattle.text.proofs.Classes.{class_small}

@@ -1,5 +1,3 @@
--- `text::same` meets its contract. The loop's invariant: what is left of the bytes is what is left of the word exactly where the whole is the whole. The measure is what is left of
--- the word.
 use mathlib.Core.Path.{sym, ◌∙◌, ap}
 use Prim.Native.Nat.{ℕ}
 use native.Mathlib.Omega.{arith}

@@ -1,5 +1,4 @@
--- `text::same` meets its contract. The loop's invariant: what is left of the bytes is what is left of the word exactly where the whole is the whole. The measure is what is left of
--- the word.
+-- `text::same` meets its contract. The loop's invariant: what is left of the bytes is what is left of the word exactly where the whole is the whole.
 use mathlib.Core.Path.{◌≡◌}
 use Prim.Native.Nat.{◌≤◌}
 use lib.ListN.{length}

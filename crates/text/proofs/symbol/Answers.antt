@@ -1,6 +1,3 @@
--- `text::symbol` meets its contract. The outer loop passes over white space as `token` does, so that the token found from place f on is the one asked for, and `token` may tell it. A
--- piece that begins with a point or a letter is a symbol, and stays one with each byte that the inner loop passes: the inner invariant is that of `piece`, for a symbol. Where the piece
--- ends it is the token. The measures are what is left of the text.
 use mathlib.Core.Path.{◌≡◌, refl, sym, ◌∙◌, ap}
 use Prim.Native.Nat.{◌<◌}
 use lib.ListN.{drop, get_or}

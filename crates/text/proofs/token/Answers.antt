@@ -1,5 +1,3 @@
--- `text::token` meets its contract. The loop's invariant: the token found from the place on is the one asked for. The class of the byte there is white space, begins a comment, or
--- picks the token. The measure is what is left of the text.
 use mathlib.Core.Path.{◌≡◌, refl, sym, ◌∙◌, ap}
 use lib.ListN.{get_or}
 use borrow.Author.Tests.{eqb-true}

@@ -1,5 +1,3 @@
--- `text::value` meets its contract. The loop's invariant: the number read so far, with the digits that follow, is the whole number, both cut at the cap. The measure is what is left of the
--- digits.
 use mathlib.Core.Path.{refl, sym, ◌∙◌}
 use Prim.Native.Nat.{◌+◌, ◌*◌}
 use native.Mathlib.Omega.{arith}

@@ -1,5 +1,4 @@
--- `text::value` meets its contract. The loop's invariant: the number read so far, with the digits that follow, is the whole number, both cut at the cap. The measure is what is left of the
--- digits.
+-- `text::value` meets its contract. The loop's invariant: the number read so far, with the digits that follow, is the whole number, both cut at the cap.
 use mathlib.Core.Path.{◌≡◌}
 use Prim.Native.Nat.{◌≤◌}
 use Rattle.text.specs.Lexicon.{bytes, cut, number}

@@ -1,5 +1,3 @@
--- `waiting::largest` meets its contract. The loop's invariant: `best` is a place of largest gain among those passed, and `top` is that gain.
--- The measure is what is left of the places.
 use Prim.Native.Nat.{ℕ, ◌+◌, ◌≤◌, ◌<◌}
 use mathlib.Core.Path.{◌≡◌, sym, ◌∙◌, ap, subst}
 use native.Mathlib.Decide.{ℕ_discrete}

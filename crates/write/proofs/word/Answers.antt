@@ -1,4 +1,3 @@
--- `write::word` meets its contract. The loop's invariant: the bytes passed are written over the list, by `over_more`. The measure is what is left of the word.
 use Prim.Native.Nat.{ℕ, ◌+◌}
 use native.Mathlib.Omega.{arith}
 use mathlib.Core.Path.{refl, sym, ap, ◌∙◌}

@@ -1,4 +1,4 @@
--- `write::word` meets its contract. The loop's invariant: the bytes passed are written over the list, by `over_more`. The measure is what is left of the word.
+-- `write::word` meets its contract. The loop's invariant: the bytes passed are written over the list, by `over_more`.
 use Prim.Native.Nat.{◌≤◌}
 use mathlib.Core.Path.{◌≡◌}
 use lib.ListN.{length, take}

@@ -1,4 +1,3 @@
--- `yard::agrees` meets its contract. The loop's invariant: each row passed is right. The measure is what is left of the n rows.
 use Prim.Native.Nat.{ℕ}
 use mathlib.Core.Path.{◌≡◌, refl, ◌∙◌, ap}
 use Rattle.meaning.specs.Tables.{at}

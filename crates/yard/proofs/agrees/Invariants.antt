@@ -1,4 +1,4 @@
--- `yard::agrees` meets its contract. The loop's invariant: each row passed is right. The measure is what is left of the n rows.
+-- `yard::agrees` meets its contract. The loop's invariant: each row passed is right.
 use Prim.Native.Nat.{ℕ, ◌≤◌, ◌<◌}
 use mathlib.Core.Path.{◌≡◌}
 use Rattle.meaning.specs.Tables.{at}

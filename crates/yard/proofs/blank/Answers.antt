@@ -1,4 +1,3 @@
--- `yard::blank` meets its contract. The loop's invariant: each row passed has NONE everywhere but 0 in its own column. The measure is what is left of the rows.
 use mathlib.Core.Path.{◌≡◌, refl}
 use Rattle.meaning.specs.Bounds.{YARD_STEPS}
 use Rattle.yard.proofs.Making.{made_none, made_more}

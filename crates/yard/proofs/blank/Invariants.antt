@@ -1,4 +1,4 @@
--- `yard::blank` meets its contract. The loop's invariant: each row passed has NONE everywhere but 0 in its own column. The measure is what is left of the rows.
+-- `yard::blank` meets its contract. The loop's invariant: each row passed has NONE everywhere but 0 in its own column.
 use Prim.Native.Nat.{◌≤◌}
 use mathlib.Core.Path.{◌≡◌}
 use mathlib.Core.List.{[]}

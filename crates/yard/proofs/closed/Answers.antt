@@ -1,5 +1,3 @@
--- `yard::closed` meets its contract. The outer loop's invariant: the cells have the stages of the steps passed, and none is above NONE; the inner loop's: the rows passed have the ways over the
--- step, and the others are as they were. The measures are the steps, and the rows, that are left.
 use Prim.Native.Nat.{◌+◌, ◌≤◌, ◌<◌}
 use mathlib.Core.Path.{◌≡◌}
 use Rattle.meaning.specs.Bounds.{YARD_STEPS}

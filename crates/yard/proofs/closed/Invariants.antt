@@ -1,5 +1,5 @@
--- `yard::closed` meets its contract. The outer loop's invariant: the cells have the stages of the steps passed, and none is above NONE; the inner loop's: the rows passed have the ways over the
--- step, and the others are as they were. The measures are the steps, and the rows, that are left.
+-- `yard::closed` meets its contract. The outer loop's invariant: the cells have the stages of the steps passed, and none is above NONE; the inner loop's: the
+-- rows passed have the ways over the step, and the others are as they were.
 use Prim.Native.Nat.{◌≤◌}
 use Rattle.yard.proofs.Staging.{Staging, Stages}
 use Rattle.yard.proofs.closed.Given as goal

@@ -1,5 +1,3 @@
--- `yard::least` meets its contract. The invariant of both loops: the square has the least amounts of the places passed, as `Passing` says; the outer one has passed whole groups. The measures are
--- the numbers of places that are not passed, of all and of the group.
 use Prim.Native.Nat.{◌+◌, ◌≤◌, ◌<◌}
 use mathlib.Core.Path.{◌≡◌}
 use mathlib.Core.Logic.{◌⊎◌, inl, inr}

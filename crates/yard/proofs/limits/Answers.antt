@@ -1,4 +1,3 @@
--- `yard::limits` meets its contract. The loop's invariant: the cells passed are those of their slacks, and the others are as before. The measure is what is left of the n cells.
 use mathlib.Core.Path.{◌≡◌, ◌∙◌, ap}
 use mir.Syntax.{w64}
 use mir.ValLaws.{to_z-of_z}

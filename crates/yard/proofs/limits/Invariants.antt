@@ -1,4 +1,4 @@
--- `yard::limits` meets its contract. The loop's invariant: the cells passed are those of their slacks, and the others are as before. The measure is what is left of the n cells.
+-- `yard::limits` meets its contract. The loop's invariant: the cells passed are those of their slacks, and the others are as before.
 use Prim.Native.Nat.{◌≤◌}
 use mathlib.Core.Path.{◌≡◌}
 use lib.IntN.{pos}

@@ -1,4 +1,4 @@
--- `yard::raise_row` meets its contract. The loop's invariant: the cells passed are the smaller of what they were and the way, and the others are as before. The measure is what is left of the n cells.
+-- `yard::raise_row` meets its contract. The loop's invariant: the cells passed are the smaller of what they were and the way, and the others are as before.
 use Prim.Native.Nat.{◌≤◌}
 use lib.ListN.{get_or}
 use lib.IntN.{pos}

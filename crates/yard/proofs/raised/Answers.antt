@@ -1,4 +1,3 @@
--- `yard::raised` meets its contract. The loop's invariant: the rows passed have the ways over the rule, and the others are as before. The measure is what is left of the n rows.
 use mathlib.Core.Path.{◌≡◌, sym, subst}
 use mathlib.Core.List.{List}
 use lib.ListN.{get_or}

@@ -1,4 +1,4 @@
--- `yard::raised` meets its contract. The loop's invariant: the rows passed have the ways over the rule, and the others are as before. The measure is what is left of the n rows.
+-- `yard::raised` meets its contract. The loop's invariant: the rows passed have the ways over the rule, and the others are as before.
 use Prim.Native.Nat.{◌≤◌}
 use mathlib.Core.List.{[]}
 use lib.ListN.{get_or}

@@ -1,4 +1,3 @@
--- `yard::same_row` meets its contract. The loop's invariant: the answer tells whether the cells passed are the same. The measure is what is left of the row.
 use mathlib.Core.Path.{◌≡◌}
 use Rattle.meaning.specs.Bounds.{YARD_STEPS}
 use Rattle.yard.proofs.Comparing.{same_none, same_differs, same_more}

@@ -1,4 +1,4 @@
--- `yard::same_row` meets its contract. The loop's invariant: the answer tells whether the cells passed are the same. The measure is what is left of the row.
+-- `yard::same_row` meets its contract. The loop's invariant: the answer tells whether the cells passed are the same.
 use Prim.Native.Nat.{◌≤◌}
 use Rattle.meaning.specs.Bounds.{YARD_STEPS}
 use Rattle.lent.specs.Decides.{Decides}

@@ -1,4 +1,4 @@
--- `yard::slack_row` meets its contract. The loop's invariant: the cells passed are the slacks of the least amounts, where that of the step itself is 0 days. The measure is what is left of the row.
+-- `yard::slack_row` meets its contract. The loop's invariant: the cells passed are the slacks of the least amounts, where that of the step itself is 0 days.
 use Prim.Native.Nat.{◌≤◌}
 use Rattle.meaning.specs.Bounds.{YARD_STEPS}
 use Rattle.meaning.specs.Tables.{at}

@@ -1,4 +1,3 @@
--- `yard::slacked` meets its contract. The loop's invariant: the rows passed have the slacks of the least amounts, and the others are as before. The measure is what is left of the rows.
 use Prim.Native.Nat.{ℕ}
 use mathlib.Core.Path.{sym, subst}
 use mathlib.Core.List.{List}

@@ -1,4 +1,4 @@
--- `yard::slacked` meets its contract. The loop's invariant: the rows passed have the slacks of the least amounts, and the others are as before. The measure is what is left of the rows.
+-- `yard::slacked` meets its contract. The loop's invariant: the rows passed have the slacks of the least amounts, and the others are as before.
 use Prim.Native.Nat.{◌≤◌}
 use mathlib.Core.List.{[]}
 use lib.ListN.{get_or}

@@ -1,4 +1,3 @@
--- `yard::stage_row` meets its contract. The loop's invariant: the cells passed are the smaller of what they were and the way. The measure is what is left of the row.
 use Prim.Native.Nat.{◌+◌, min}
 use mathlib.Core.Path.{◌≡◌}
 use mathlib.Core.Logic.{inl, inr}

@@ -1,4 +1,4 @@
--- `yard::stage_row` meets its contract. The loop's invariant: the cells passed are the smaller of what they were and the way. The measure is what is left of the row.
+-- `yard::stage_row` meets its contract. The loop's invariant: the cells passed are the smaller of what they were and the way.
 use Prim.Native.Nat.{◌+◌, ◌≤◌, min}
 use mathlib.Core.Path.{◌≡◌}
 use Rattle.meaning.specs.Bounds.{YARD_STEPS}

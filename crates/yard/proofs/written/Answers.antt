@@ -1,4 +1,3 @@
--- `yard::written` meets its contract. The loop's invariant: the rows passed are those of their slacks, and the others are as before. The measure is what is left of the n rows.
 use Prim.Native.Nat.{ℕ}
 use mathlib.Core.Path.{◌≡◌, ◌∙◌, ap}
 use Rattle.meaning.specs.Tables.{at}

@@ -1,4 +1,4 @@
--- `yard::written` meets its contract. The loop's invariant: the rows passed are those of their slacks, and the others are as before. The measure is what is left of the n rows.
+-- `yard::written` meets its contract. The loop's invariant: the rows passed are those of their slacks, and the others are as before.
 use Prim.Native.Nat.{◌≤◌}
 use mathlib.Core.Path.{◌≡◌}
 use mathlib.Core.List.{[]}
