@@ -1,5 +1,4 @@
 -- `asserts::add_one`: whether the rule fits says whether it is held or the tables are as before, and a rule that is held is put on its chain.
-use mathlib.Core.Path.{refl}
 use mir.Syntax.{w32}
 use mir.ValLaws.{to_z-of_z}
 use Rattle.chains.specs.Chains.{linked}
@@ -8,7 +7,6 @@ use Rattle.meaning.specs.Rules.{rule}
 use Rattle.inner_add.specs.Fit.{Tells}
 use Rattle.asserts.proofs.Answering.{number_in, ready, new_amendable, one_held, one_clash}
 use native.Mathlib.Omega.{arith}
-use borrow.Author.Rules.{rules}
 use Rattle.asserts.proofs.add_one.Goals as goal
 
 pub place_for-m-requires : goal.place_for-m-requires
@@ -23,7 +21,7 @@ pub fit-fitted-requires : goal.fit-fitted-requires
 fit-fitted-requires c = let args = c.args in
     rw (to_z-of_z w32 args.c c.ranges.c)
     (ready args.counts args.e args.xs.now args.ys.now args.cs.now args.days.now args.levels.now
-    args.heads.now args.nexts.now args.x args.y args.c args.packed c.requires c.place_for-m.result c.place_for-m.ensures)
+    args.heads.now args.nexts.now args.x args.y args.c args.packed (c.requires.border, (c.requires.lent_chains, (c.requires.in_bounds, (c.requires.rules_bound, (c.requires.within, c.requires.all_held))))) c.place_for-m.result c.place_for-m.ensures)
 
 pub overflow_add-levels : goal.overflow_add-levels
 overflow_add-levels c = omega (arith, c.requires.border.sound.counts_in.marks_in)
@@ -38,7 +36,7 @@ bounds-levels-m c = let place-for = c.place_for-m in
       arith,
       c.requires.border.room.levels_room,
       number_in args.counts args.e args.xs.now args.ys.now args.cs.now args.days.now args.levels.now
-          args.heads.now args.nexts.now args.x args.y args.c args.packed c.requires place-for.result place-for.ensures,
+          args.heads.now args.nexts.now args.x args.y args.c args.packed (c.requires.border, (c.requires.lent_chains, (c.requires.in_bounds, (c.requires.rules_bound, (c.requires.within, c.requires.all_held))))) place-for.result place-for.ensures,
     )
 
 pub insert-requires : goal.insert-requires
@@ -47,35 +45,12 @@ insert-requires c = let fit = c.fit-fitted in
     let args = c.args in
     let t : Tells args.e (linked args.nexts.now) place-for.result (rule args.x args.y args.c) (columns args.xs.now args.ys.now args.cs.now) args.days.now args.counts.last fit.result.fits fit.result.moved (columns _ _ _) _ fit.result.last
     = rw (to_z-of_z w32 args.c c.ranges.c) at fit.ensures in
-    new_amendable args.counts args.e args.xs.now args.ys.now args.cs.now args.days.now args.levels.now args.heads.now args.nexts.now
-    args.x args.y args.c args.packed c.requires place-for.result place-for.ensures fit.result.fits fit.result.moved fit.result.last _ _ _ _ t c.if-fitted.true
+    let put = new_amendable args.counts args.e args.xs.now args.ys.now args.cs.now args.days.now args.levels.now args.heads.now args.nexts.now
+    args.x args.y args.c args.packed (c.requires.border, (c.requires.lent_chains, (c.requires.in_bounds, (c.requires.rules_bound, (c.requires.within, c.requires.all_held))))) place-for.result place-for.ensures fit.result.fits fit.result.moved fit.result.last _ _ _ _ t c.if-fitted.true in
+    record { amendable = put.0; fact = put.1 }
 
 pub one_more-requires : goal.one_more-requires
 one_more-requires c = c.requires.rules_bound
-
-pub shape_of-xs-then-fitted : goal.shape_of-xs-then-fitted
-shape_of-xs-then-fitted c = let fit = c.fit-fitted in
-    fit.kept.1.1.0
-
-pub shape_of-ys-then-fitted : goal.shape_of-ys-then-fitted
-shape_of-ys-then-fitted c = let fit = c.fit-fitted in
-    fit.kept.1.1.1.0
-
-pub shape_of-cs-then-fitted : goal.shape_of-cs-then-fitted
-shape_of-cs-then-fitted c = let fit = c.fit-fitted in
-    fit.kept.1.1.1.1.0
-
-pub shape_of-days-then-fitted : goal.shape_of-days-then-fitted
-shape_of-days-then-fitted c = let fit = c.fit-fitted in
-    fit.kept.1.1.1.1.1.0
-
-pub shape_of-heads-then-fitted : goal.shape_of-heads-then-fitted
-shape_of-heads-then-fitted c = let insert = c.insert in
-    insert.auto.heads
-
-pub shape_of-nexts-then-fitted : goal.shape_of-nexts-then-fitted
-shape_of-nexts-then-fitted c = let insert = c.insert in
-    insert.auto.nexts
 
 pub returns-then-fitted : goal.returns-then-fitted
 returns-then-fitted c = let insert = c.insert in
@@ -85,34 +60,10 @@ returns-then-fitted c = let insert = c.insert in
     let args = c.args in
     let t : Tells args.e (linked args.nexts.now) place-for.result (rule args.x args.y args.c) (columns args.xs.now args.ys.now args.cs.now) args.days.now args.counts.last fit.result.fits fit.result.moved (columns _ _ _) _ fit.result.last
     = rw (to_z-of_z w32 args.c c.ranges.c) at fit.ensures in
-    one_held args.counts args.e args.xs.now args.ys.now args.cs.now args.days.now args.levels.now args.heads.now args.nexts.now
-    args.x args.y args.c args.packed c.requires place-for.result place-for.ensures fit.result.fits fit.result.moved fit.result.last _ _ _ _ t c.if-fitted.true
-    one_more.result one_more.ensures _ _ insert.auto.heads insert.auto.nexts insert.ensures
-
-pub shape_of-xs : goal.shape_of-xs
-shape_of-xs c = let fit = c.fit-fitted in
-    fit.kept.1.1.0
-
-pub shape_of-ys : goal.shape_of-ys
-shape_of-ys c = let fit = c.fit-fitted in
-    fit.kept.1.1.1.0
-
-pub shape_of-cs : goal.shape_of-cs
-shape_of-cs c = let fit = c.fit-fitted in
-    fit.kept.1.1.1.1.0
-
-pub shape_of-days : goal.shape_of-days
-shape_of-days c = let fit = c.fit-fitted in
-    fit.kept.1.1.1.1.1.0
-
-pub shape_of-levels : goal.shape_of-levels
-shape_of-levels c = refl
-
-pub shape_of-heads : goal.shape_of-heads
-shape_of-heads c = refl
-
-pub shape_of-nexts : goal.shape_of-nexts
-shape_of-nexts c = refl
+    let held = one_held args.counts args.e args.xs.now args.ys.now args.cs.now args.days.now args.levels.now args.heads.now args.nexts.now
+    args.x args.y args.c args.packed (c.requires.border, (c.requires.lent_chains, (c.requires.in_bounds, (c.requires.rules_bound, (c.requires.within, c.requires.all_held))))) place-for.result place-for.ensures fit.result.fits fit.result.moved fit.result.last _ _ _ _ t c.if-fitted.true
+    one_more.result one_more.ensures _ _ insert.auto.heads insert.auto.nexts insert.ensures in
+    record { adds_one = held.0; lent_chains_2 = held.1.0; all_held_2 = held.1.1 }
 
 pub returns : goal.returns
 returns c = let fit = c.fit-fitted in
@@ -120,5 +71,6 @@ returns c = let fit = c.fit-fitted in
     let args = c.args in
     let t : Tells args.e (linked args.nexts.now) place-for.result (rule args.x args.y args.c) (columns args.xs.now args.ys.now args.cs.now) args.days.now args.counts.last fit.result.fits fit.result.moved (columns _ _ _) _ fit.result.last
     = rw (to_z-of_z w32 args.c c.ranges.c) at fit.ensures in
-    one_clash args.counts args.e args.xs.now args.ys.now args.cs.now args.days.now args.levels.now args.heads.now args.nexts.now
-    args.x args.y args.c args.packed c.requires place-for.result place-for.ensures fit.result.fits fit.result.moved fit.result.last _ _ _ _ t c.if-fitted.false
+    let held = one_clash args.counts args.e args.xs.now args.ys.now args.cs.now args.days.now args.levels.now args.heads.now args.nexts.now
+    args.x args.y args.c args.packed (c.requires.border, (c.requires.lent_chains, (c.requires.in_bounds, (c.requires.rules_bound, (c.requires.within, c.requires.all_held))))) place-for.result place-for.ensures fit.result.fits fit.result.moved fit.result.last _ _ _ _ t c.if-fitted.false in
+    record { adds_one = held.0; lent_chains_2 = held.1.0; all_held_2 = held.1.1 }

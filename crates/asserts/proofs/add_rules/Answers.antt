@@ -1,17 +1,11 @@
 -- `asserts::add_rules`: what adding the rows left comes to, adding all of them comes to; each turn takes the first row that is left.
 -- The measure is the number of rows left.
-use mathlib.Core.Path.{◌≡◌, refl, ◌∙◌}
-use mathlib.Core.Bool.{true}
+use mathlib.Core.Path.{refl, ◌∙◌}
 use mir.Syntax.{w32}
 use mir.ValLaws.{to_z-of_z}
-use Prim.Native.Nat.{◌-◌}
 use lib.ListN.{get_or}
 use lib.IntN.{pos}
-use Rattle.lent.specs.Lent.{columns, held_by, AllHeld}
-use Rattle.lent.specs.Idle.{unwatched}
-use Rattle.chains.specs.Chains.{LentChains}
-use Rattle.asserts.proofs.Going.{AsLong, Left, left_start, left_none, next_good, next_place, left_clash, left_held}
-use borrow.Author.Rules.{rules}
+use Rattle.asserts.proofs.Going.{left_start, left_none, next_good, next_place, left_clash, left_held}
 use native.Mathlib.Omega.{arith}
 use Rattle.asserts.proofs.add_rules.Goals as goal
 
@@ -21,110 +15,38 @@ loop-i-init c = (
   (left_start _ _ _ _ c.requires.border c.requires.within c.requires.k_bound, (c.requires.lent_chains, c.requires.all_held)),
 )
 
-pub bounds-row_xs-i : goal.bounds-row_xs-i
-bounds-row_xs-i c = omega (arith, c.loop-i-test.true, c.requires.k_in_bounds)
-
-pub bounds-row_ys-i : goal.bounds-row_ys-i
-bounds-row_ys-i c = omega (arith, c.loop-i-test.true, c.requires.k_in_bounds_2)
-
-pub bounds-row_cs-i : goal.bounds-row_cs-i
-bounds-row_cs-i c = omega (arith, c.loop-i-test.true, c.requires.k_in_bounds_3)
-
 pub add_one-added-requires : goal.add_one-added-requires
 add_one-added-requires c = let loop = c.loop-i in record {
   border = loop.invariant.1.0.border;
   lent_chains = loop.invariant.1.1.0;
-  in_bounds = rw (to_z-of_z w32 (get_or c.args.row-cs.now loop.i (pos 0)) (record { sfits = c.add_one-arg-in-loop-i-7-1.given }))
-      (next_good _ _ _ _ _ _ loop.invariant.1.0 c.requires.rows_fine c.loop-i-test.true);
+  in_bounds = rw (to_z-of_z w32 (get_or c.args.row_cs.now loop.i (pos 0)) (record { sfits = c.add_one-arg-in-loop-i-7-1.given })) (next_good _ _ _ _ _ _ loop.invariant.1.0 c.requires.rows_fine c.loop-i-test.true);
   rules_bound = next_place _ _ _ _ _ _ loop.invariant.1.0 c.requires.rows_fine c.loop-i-test.true;
   within = loop.invariant.1.0.within;
   all_held = loop.invariant.1.1.1;
 }
 
-pub shape_of-xs-then-added : goal.shape_of-xs-then-added
-shape_of-xs-then-added c = let add-one = c.add_one-added in
-    let loop = c.loop-i in
-    add-one.kept.1.0 ∙ loop.invariant.0.xs_long
-
-pub shape_of-ys-then-added : goal.shape_of-ys-then-added
-shape_of-ys-then-added c = let add-one = c.add_one-added in
-    let loop = c.loop-i in
-    add-one.kept.1.1.0 ∙ loop.invariant.0.ys_long
-
-pub shape_of-cs-then-added : goal.shape_of-cs-then-added
-shape_of-cs-then-added c = let add-one = c.add_one-added in
-    let loop = c.loop-i in
-    add-one.kept.1.1.1.0 ∙ loop.invariant.0.cs_long
-
-pub shape_of-days-then-added : goal.shape_of-days-then-added
-shape_of-days-then-added c = let add-one = c.add_one-added in
-    let loop = c.loop-i in
-    add-one.kept.1.1.1.1.0 ∙ loop.invariant.0.days_long
-
-pub shape_of-levels-then-added : goal.shape_of-levels-then-added
-shape_of-levels-then-added c = let add-one = c.add_one-added in
-    let loop = c.loop-i in
-    add-one.kept.1.1.1.1.1.0 ∙ loop.invariant.0.levels_long
-
-pub shape_of-heads-then-added : goal.shape_of-heads-then-added
-shape_of-heads-then-added c = let add-one = c.add_one-added in
-    let loop = c.loop-i in
-    add-one.kept.1.1.1.1.1.1.0 ∙ loop.invariant.0.heads_long
-
-pub shape_of-nexts-then-added : goal.shape_of-nexts-then-added
-shape_of-nexts-then-added c = let add-one = c.add_one-added in
-    let loop = c.loop-i in
-    add-one.kept.1.1.1.1.1.1.1.0 ∙ loop.invariant.0.nexts_long
-
 pub returns-then-added : goal.returns-then-added
-returns-then-added c = let add-one-arg8 = c.add_one-arg-in-loop-i-7-1 in
-    let loop = c.loop-i in record {
-      adds_all = left_clash _ _ _ _ _ _ loop.invariant.1.0 c.requires.rows_fine c.loop-i-test.true _ _ c.if-added.true (rw (to_z-of_z w32 (get_or c.args.row-cs.now loop.i (pos 0)) (record { sfits = add-one-arg8.given })) at c.add_one-added.ensures.adds_one);
-      lent_chains_2 = c.add_one-added.ensures.lent_chains_2;
-    }
+returns-then-added c = let loop = c.loop-i in record {
+  adds_all = left_clash _ _ _ _ _ _ loop.invariant.1.0 c.requires.rows_fine c.loop-i-test.true _ _ c.if-added.true (rw (to_z-of_z w32 (get_or c.args.row_cs.now loop.i (pos 0)) (record { sfits = c.add_one-arg-in-loop-i-7-1.given })) at c.add_one-added.ensures.adds_one);
+  lent_chains_2 = c.add_one-added.ensures.lent_chains_2;
+}
 
 pub overflow_add-i : goal.overflow_add-i
 overflow_add-i c = omega (arith, c.loop-i-test.true, c.ranges.k)
 
-pub loop-i-smaller : goal.loop-i-smaller
-loop-i-smaller c = let loop-test = c.loop-i-test in
-    omega (arith, loop-test.taken)
-
 pub loop-i-preserved : goal.loop-i-preserved
-loop-i-preserved c = let add-one-arg8 = c.add_one-arg-in-loop-i-7-1 in
-    let loop = c.loop-i in (
-      record {
-        xs_long = c.add_one-added.auto.xs ∙ loop.invariant.0.xs_long;
-        ys_long = c.add_one-added.auto.ys ∙ loop.invariant.0.ys_long;
-        cs_long = c.add_one-added.auto.cs ∙ loop.invariant.0.cs_long;
-        days_long = c.add_one-added.auto.days ∙ loop.invariant.0.days_long;
-        levels_long = c.add_one-added.auto.levels ∙ loop.invariant.0.levels_long;
-        heads_long = c.add_one-added.auto.heads ∙ loop.invariant.0.heads_long;
-        nexts_long = c.add_one-added.auto.nexts ∙ loop.invariant.0.nexts_long;
-      },
-      (left_held _ _ _ _ _ _ loop.invariant.1.0 c.requires.rows_fine c.loop-i-test.true _ _ c.if-added.false (rw (to_z-of_z w32 (get_or c.args.row-cs.now loop.i (pos 0)) (record { sfits = add-one-arg8.given })) at c.add_one-added.ensures.adds_one), c.add_one-added.ensures.1),
-    )
-
-pub shape_of-xs : goal.shape_of-xs
-shape_of-xs c = c.loop-i.invariant.0.xs_long
-
-pub shape_of-ys : goal.shape_of-ys
-shape_of-ys c = c.loop-i.invariant.0.ys_long
-
-pub shape_of-cs : goal.shape_of-cs
-shape_of-cs c = c.loop-i.invariant.0.cs_long
-
-pub shape_of-days : goal.shape_of-days
-shape_of-days c = c.loop-i.invariant.0.days_long
-
-pub shape_of-levels : goal.shape_of-levels
-shape_of-levels c = c.loop-i.invariant.0.levels_long
-
-pub shape_of-heads : goal.shape_of-heads
-shape_of-heads c = c.loop-i.invariant.0.heads_long
-
-pub shape_of-nexts : goal.shape_of-nexts
-shape_of-nexts c = c.loop-i.invariant.0.nexts_long
+loop-i-preserved c = let loop = c.loop-i in (
+  record {
+    xs_long = c.add_one-added.auto.xs ∙ loop.invariant.0.xs_long;
+    ys_long = c.add_one-added.auto.ys ∙ loop.invariant.0.ys_long;
+    cs_long = c.add_one-added.auto.cs ∙ loop.invariant.0.cs_long;
+    days_long = c.add_one-added.auto.days ∙ loop.invariant.0.days_long;
+    levels_long = c.add_one-added.auto.levels ∙ loop.invariant.0.levels_long;
+    heads_long = c.add_one-added.auto.heads ∙ loop.invariant.0.heads_long;
+    nexts_long = c.add_one-added.auto.nexts ∙ loop.invariant.0.nexts_long;
+  },
+  (left_held _ _ _ _ _ _ loop.invariant.1.0 c.requires.rows_fine c.loop-i-test.true _ _ c.if-added.false (rw (to_z-of_z w32 (get_or c.args.row_cs.now loop.i (pos 0)) (record { sfits = c.add_one-arg-in-loop-i-7-1.given })) at c.add_one-added.ensures.adds_one), (c.add_one-added.ensures.lent_chains_2, c.add_one-added.ensures.all_held_2)),
+)
 
 pub returns : goal.returns
 returns c = record {

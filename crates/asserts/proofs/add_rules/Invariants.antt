@@ -1,18 +1,12 @@
 -- `asserts::add_rules`: what adding the rows left comes to, adding all of them comes to; each turn takes the first row that is left.
 -- The measure is the number of rows left.
-use mathlib.Core.Path.{◌≡◌, refl, ◌∙◌}
+use mathlib.Core.Path.{◌≡◌}
 use mathlib.Core.Bool.{true}
-use mir.Syntax.{w32}
-use mir.ValLaws.{to_z-of_z}
 use Prim.Native.Nat.{◌-◌}
-use lib.ListN.{get_or}
-use lib.IntN.{pos}
 use Rattle.lent.specs.Lent.{columns, held_by, AllHeld}
 use Rattle.lent.specs.Idle.{unwatched}
 use Rattle.chains.specs.Chains.{LentChains}
-use Rattle.asserts.proofs.Going.{AsLong, Left, left_start, left_none, next_good, next_place, left_clash, left_held}
-use borrow.Author.Rules.{rules}
-use native.Mathlib.Omega.{arith}
+use Rattle.asserts.proofs.Going.{AsLong, Left}
 use Rattle.asserts.proofs.add_rules.Given as goal
 
 abbrev pub invariant-loop-i : goal.invariant-loop-i

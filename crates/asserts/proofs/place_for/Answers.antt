@@ -1,6 +1,5 @@
 -- `asserts::place_for`: where the rules held are the first ones, the lowest free place is the one behind them; else it is sought.
 use Rattle.lent.proofs.Cells.{lowest_behind}
-use borrow.Author.Rules.{rules}
 use Rattle.asserts.proofs.place_for.Goals as goal
 
 pub returns-then-packed : goal.returns-then-packed

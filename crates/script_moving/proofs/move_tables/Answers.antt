@@ -36,10 +36,10 @@ add_rules-added-requires c = let pre = c.requires in
 pub push-pushed-requires : goal.push-pushed-requires
 push-pushed-requires c = let args = c.args in
     let pre = c.requires in
-    let rows = columns args.row-xs.now args.row-ys.now args.row-cs.now in
-    let last = c.add_rules-added.new.1.1.1.1.1 in
+    let rows = columns args.row_xs.now args.row_ys.now args.row_cs.now in
+    let last = c.add_rules-added.new in
     let before = unwatched args.counts args.xs.now args.ys.now args.cs.now args.days.now args.levels.now in
-    let added = unwatched c.add_rules-added.result.counts last.0 last.1.0 last.1.1.0 last.1.1.1.0 last.1.1.1.1.0 in
+    let added = unwatched c.add_rules-added.result.counts last.xs last.ys last.cs last.days last.levels in
     let adding = subst (λ (i : ℕ). AddsAll (rows_from rows 0 i) before c.add_rules-added.result.clash added) c.work_of-work.ensures.0 c.add_rules-added.ensures.adds_all in
     let held = rows_added args.e rows (adds args.c args.broken) before added c.add_rules-added.result.clash pre.movable.rows_fine pre.movable.places pre.border pre.within adding in record {
       steps_bound = held.border.sound.counts_in.steps_in;
@@ -50,15 +50,15 @@ push-pushed-requires c = let args = c.args in
 pub pop-popped-requires : goal.pop-popped-requires
 pop-popped-requires c = let args = c.args in
     let pre = c.requires in
-    let rows = columns args.row-xs.now args.row-ys.now args.row-cs.now in
-    let last = c.add_rules-added.new.1.1.1.1.1 in
+    let rows = columns args.row_xs.now args.row_ys.now args.row_cs.now in
+    let last = c.add_rules-added.new in
     let before = unwatched args.counts args.xs.now args.ys.now args.cs.now args.days.now args.levels.now in
-    let added = unwatched c.add_rules-added.result.counts last.0 last.1.0 last.1.1.0 last.1.1.1.0 last.1.1.1.1.0 in
+    let added = unwatched c.add_rules-added.result.counts last.xs last.ys last.cs last.days last.levels in
     let adding = subst (λ (i : ℕ). AddsAll (rows_from rows 0 i) before c.add_rules-added.result.clash added) c.work_of-work.ensures.0 c.add_rules-added.ensures.adds_all in
     let held = rows_added args.e rows (adds args.c args.broken) before added c.add_rules-added.result.clash pre.movable.rows_fine pre.movable.places pre.border pre.within adding in
     let push = c.push-pushed in
     let same = pushed_same c.work_of-work.result.push added push.result push.ensures.value in
-    let kept = push.ensures.keeps_days (columns last.0 last.1.0 last.1.1.0) idle last.1.1.1.1.0 held.border.sound (days_stay before added args.kept.now held.grown pre.kept_days) in
+    let kept = push.ensures.keeps_days (columns last.xs last.ys last.cs) idle last.levels held.border.sound (days_stay before added args.kept.now held.grown pre.kept_days) in
     let ordered = order_stays args.e rows (adds args.c args.broken) before added c.add_rules-added.result.clash pre.movable.rows_fine pre.movable.places pre.border pre.within adding args.kept.now pre.order_kept in
     let border = with_marks_border c.work_of-work.result.push held.border (omega (arith, held.grown.same_open, pre.movable.marks_fit, c.work_of-work.ensures.1.0)) in
     let marks-are = ap (λ (x : Counts). x.marks) push.ensures.value in record {
@@ -69,57 +69,29 @@ pop-popped-requires c = let args = c.args in
       in_order = λ is. rw (ap (λ (x : Counts). x.rules) push.ensures.value) (ordered (ltb-true 0 (length args.kept.now) is));
     }
 
-pub shape_of-xs : goal.shape_of-xs
-shape_of-xs c = let add-rules = c.add_rules-added in
-    add-rules.kept.1.1.1.1.1.0
 
-pub shape_of-ys : goal.shape_of-ys
-shape_of-ys c = let add-rules = c.add_rules-added in
-    add-rules.kept.1.1.1.1.1.1.0
 
-pub shape_of-cs : goal.shape_of-cs
-shape_of-cs c = let add-rules = c.add_rules-added in
-    add-rules.kept.1.1.1.1.1.1.1.0
 
-pub shape_of-days : goal.shape_of-days
-shape_of-days c = let pop = c.pop-popped in
-    let add-rules = c.add_rules-added in
-    pop.kept.1.1.1.1.0 ∙ add-rules.kept.1.1.1.1.1.1.1.1.0
 
-pub shape_of-levels : goal.shape_of-levels
-shape_of-levels c = let pop = c.pop-popped in
-    let add-rules = c.add_rules-added in
-    pop.kept.1.1.1.1.1.0 ∙ add-rules.kept.1.1.1.1.1.1.1.1.1.0
 
-pub shape_of-heads : goal.shape_of-heads
-shape_of-heads c = let pop = c.pop-popped in
-    let add-rules = c.add_rules-added in
-    pop.kept.1.1.1.1.1.1.0 ∙ add-rules.kept.1.1.1.1.1.1.1.1.1.1.0
 
-pub shape_of-nexts : goal.shape_of-nexts
-shape_of-nexts c = let pop = c.pop-popped in
-    let add-rules = c.add_rules-added in
-    pop.kept.1.1.1.1.1.1.1.0 ∙ add-rules.kept.1.1.1.1.1.1.1.1.1.1.1.0
 
-pub shape_of-kept : goal.shape_of-kept
-shape_of-kept c = let push = c.push-pushed in
-    push.kept.1.1.0
 
 pub returns : goal.returns
 returns c = let args = c.args in
     let pre = c.requires in
-    let rows = columns args.row-xs.now args.row-ys.now args.row-cs.now in
-    let last = c.add_rules-added.new.1.1.1.1.1 in
+    let rows = columns args.row_xs.now args.row_ys.now args.row_cs.now in
+    let last = c.add_rules-added.new in
     let before = unwatched args.counts args.xs.now args.ys.now args.cs.now args.days.now args.levels.now in
-    let added = unwatched c.add_rules-added.result.counts last.0 last.1.0 last.1.1.0 last.1.1.1.0 last.1.1.1.1.0 in
+    let added = unwatched c.add_rules-added.result.counts last.xs last.ys last.cs last.days last.levels in
     let adding = subst (λ (i : ℕ). AddsAll (rows_from rows 0 i) before c.add_rules-added.result.clash added) c.work_of-work.ensures.0 c.add_rules-added.ensures.adds_all in
     let held = rows_added args.e rows (adds args.c args.broken) before added c.add_rules-added.result.clash pre.movable.rows_fine pre.movable.places pre.border pre.within adding in
     let push = c.push-pushed in
     let same = pushed_same c.work_of-work.result.push added push.result push.ensures.value in
-    let kept = push.ensures.keeps_days (columns last.0 last.1.0 last.1.1.0) idle last.1.1.1.1.0 held.border.sound (days_stay before added args.kept.now held.grown pre.kept_days) in
+    let kept = push.ensures.keeps_days (columns last.xs last.ys last.cs) idle last.levels held.border.sound (days_stay before added args.kept.now held.grown pre.kept_days) in
     let pop = c.pop-popped in
-    let set = unwatched push.result last.0 last.1.0 last.1.1.0 last.1.1.1.0 last.1.1.1.1.0 in
-    let after = unwatched pop.result last.0 last.1.0 last.1.1.0 pop.new.days pop.new.levels in
+    let set = unwatched push.result last.xs last.ys last.cs last.days last.levels in
+    let after = unwatched pop.result last.xs last.ys last.cs pop.new.days pop.new.levels in
     let dropped = subst (λ (u : Tables). Popped c.work_of-work.result.pop u after) same pop.ensures.popped in record {
       moves = (
         added,

@@ -5,7 +5,7 @@ use borrow.Author.Rules.{rules}
 use Rattle.script_moving.proofs.work_of.Goals as goal
 
 pub returns-then-broken-eq0 : goal.returns-then-broken-eq0
-returns-then-broken-eq0 c = rw (c.c-1.given.1, eq-eqb _ _ c.if-broken-eq0.true) (refl, (refl, refl))
+returns-then-broken-eq0 c = rw (c.in-Assert.is, eq-eqb _ _ c.if-broken-eq0.true) (refl, (refl, refl))
 
 pub returns-else-broken-eq0 : goal.returns-else-broken-eq0
-returns-else-broken-eq0 c = rw (c.c-1.given.1, ne_eqb _ _ c.if-broken-eq0.false) (refl, (refl, refl))
+returns-else-broken-eq0 c = rw (c.in-Assert.is, ne_eqb _ _ c.if-broken-eq0.false) (refl, (refl, refl))
