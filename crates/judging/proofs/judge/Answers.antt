@@ -9,31 +9,26 @@ use Rattle.script_meaning.specs.Record.{Known}
 use Rattle.script_meaning.specs.Commands.{mode_needs, room_needs}
 use Rattle.script_meaning.proofs.Needed.{mode_refuse, first_past, command_passed}
 use native.Mathlib.Omega.{arith}
-use borrow.Author.Rules.{rules}
-use Rattle.judging.proofs.judge.Reads as reads
-use Rattle.judging.proofs.judge.Lts as lts
-use Rattle.judging.proofs.mode_of.Reads as mode-of-reads
-use Rattle.judging.proofs.room_of.Reads as room-of-reads
 use Rattle.judging.proofs.judge.Goals as goal
 
 pub returns-then-mode-gt0 : goal.returns-then-mode-gt0
 returns-then-mode-gt0 c = λ k l is same_counts same_notes said.
-    let mode = c.Mode-of.ensures c.args.counts k l is same_counts same_notes in
-    first_stops (mode_needs k l) (said_needs (Known l) k ++ room_needs k l) c.Mode-of.result (λ none. omega (arith, none, c.if-mode-gt0.true)) mode
+    let mode = c.mode_of-mode.ensures c.args.counts k l is same_counts same_notes in
+    first_stops (mode_needs k l) (said_needs (Known l) k ++ room_needs k l) c.mode_of-mode.result (λ none. omega (arith, none, c.if-mode-gt0.true)) mode
 
 pub returns-then-fault-gt0 : goal.returns-then-fault-gt0
 returns-then-fault-gt0 c = λ k l is same_counts same_notes said.
     let fault = c.args.fault in
-    let none : c.Mode-of.result ≡ DONE = omega (arith, c.if-mode-gt0.false) in
-    let mode = subst (First (mode_needs k l)) none (c.Mode-of.ensures c.args.counts k l is same_counts same_notes) in
+    let none : c.mode_of-mode.result ≡ DONE = omega (arith, c.if-mode-gt0.false) in
+    let mode = subst (First (mode_needs k l)) none (c.mode_of-mode.ensures c.args.counts k l is same_counts same_notes) in
     first_past (said_needs (Known l) k ++ room_needs k l) fault (mode_needs k l) (mode_refuse k l) mode
     (first_stops (said_needs (Known l) k) (room_needs k l) fault (λ none. omega (arith, none, c.if-fault-gt0.true)) said)
 
 pub returns : goal.returns
 returns c = λ k l is same_counts same_notes said.
-    let none : c.Mode-of.result ≡ DONE = omega (arith, c.if-mode-gt0.false) in
+    let none : c.mode_of-mode.result ≡ DONE = omega (arith, c.if-mode-gt0.false) in
     let fine : c.args.fault ≡ DONE = omega (arith, c.if-fault-gt0.false) in
     command_passed k l c.room_of.result
-    (subst (First (mode_needs k l)) none (c.Mode-of.ensures c.args.counts k l is same_counts same_notes))
+    (subst (First (mode_needs k l)) none (c.mode_of-mode.ensures c.args.counts k l is same_counts same_notes))
     (subst (First (said_needs (Known l) k)) fine said)
     (c.room_of.ensures k l is same_counts same_notes)

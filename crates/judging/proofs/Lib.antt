@@ -1,2 +1,0 @@
--- What the proofs of judging share.
-pub mod Judging
