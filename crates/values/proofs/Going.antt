@@ -7,8 +7,8 @@ use mathlib.Core.Bool.{Bool, true, false}
 use mathlib.Core.List.{List, [], ◌∷◌, ◌++◌}
 use lib.Dec.{ltb}
 use lib.ListN.{length, take, drop, length-take}
-use borrow.Author.Tests.{lt-ltb, le-ltb}
-use Rattle.meaning.specs.Bounds.{STEPS, NAME_BYTES, ASKED}
+use borrow.Author.Tests.{lt-ltb}
+use Rattle.meaning.specs.Bounds.{NAME_BYTES, ASKED}
 use Rattle.meaning.specs.Tables.{at}
 use Rattle.text.specs.Lexicon.{bytes}
 use Rattle.names.specs.Names.{name_at, Shelved}

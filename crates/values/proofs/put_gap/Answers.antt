@@ -2,7 +2,6 @@
 use native.Mathlib.Omega.{arith}
 use mathlib.Core.Path.{sym}
 use Rattle.write.proofs.Laws.{over_none}
-use borrow.Author.Rules.{rules}
 use Rattle.values.proofs.put_gap.Goals as goal
 
 pub word-requires : goal.word-requires

@@ -6,7 +6,6 @@ use Rattle.text.specs.Lexicon.{bytes}
 use Rattle.write.specs.Written.{decimal}
 use Rattle.script_meaning.proofs.Lengths.{pair_long}
 use Rattle.values.proofs.Wrote.{wrote_both}
-use borrow.Author.Rules.{rules}
 use Rattle.values.proofs.put_pair.Goals as goal
 
 pub word-e-requires-2 : goal.word-e-requires-2
