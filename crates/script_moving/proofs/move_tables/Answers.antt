@@ -1,6 +1,6 @@
 -- `script_moving::move_tables` meets its contract: the parts in a row leave sound tables one after the other, and together they move the tables as the command asks.
 use Prim.Native.Nat.{ℕ}
-use mathlib.Core.Path.{sym, ◌∙◌, ap, subst}
+use mathlib.Core.Path.{sym, ap, subst}
 use lib.ListN.{length}
 use borrow.Author.Tests.{ltb-true}
 use Rattle.meaning.specs.declared.Counts.{Counts}
@@ -15,7 +15,6 @@ use Rattle.asserts.specs.Rows.{rows_from}
 use Rattle.script_moving.specs.Moving.{adds, pops}
 use Rattle.script_moving.proofs.Laws.{rows_added, days_stay, order_stays, pushed_same}
 use native.Mathlib.Omega.{arith}
-use borrow.Author.Rules.{rules}
 use Rattle.script_moving.proofs.move_tables.Goals as goal
 
 pub add_rules-added-requires : goal.add_rules-added-requires
@@ -68,14 +67,6 @@ pop-popped-requires c = let args = c.args in
       kept_days = rw (ap (λ (x : Counts). x.steps) push.ensures.value) kept;
       in_order = λ is. rw (ap (λ (x : Counts). x.rules) push.ensures.value) (ordered (ltb-true 0 (length args.kept.now) is));
     }
-
-
-
-
-
-
-
-
 
 pub returns : goal.returns
 returns c = let args = c.args in

@@ -1,7 +1,6 @@
 -- `script_moving::work_of` meets its contract: in each arm the kind is known, at which the three definitions compute.
 use mathlib.Core.Path.{refl}
 use borrow.Author.Tests.{eq-eqb, ne_eqb}
-use borrow.Author.Rules.{rules}
 use Rattle.script_moving.proofs.work_of.Goals as goal
 
 pub returns-then-broken-eq0 : goal.returns-then-broken-eq0
