@@ -11,7 +11,6 @@ use Rattle.script_command.specs.Carrying.{in_hand}
 use Rattle.script_command.proofs.Granting.{Roomy, ready_of, heeded_of}
 use Rattle.script_command.proofs.Closing.{unread_carries, unread_maintained, command_read, refused_carries, refused_maintained, performed_carries}
 use native.Mathlib.Omega.{arith}
-use borrow.Author.Rules.{rules}
 use Rattle.script_command.proofs.carry.Goals as goal
 
 pub read_command-h-requires : goal.read_command-h-requires
@@ -36,21 +35,6 @@ unread-requires c = record {
   to_in_bounds = c.requires.to_in_bounds;
 }
 
-pub shape_of-row_xs-then-h-ne-GOT : goal.shape_of-row_xs-then-h-ne-GOT
-shape_of-row_xs-then-h-ne-GOT c = let read-command = c.read_command-h in
-    read-command.kept.1.1.1.1.1.1.1.1.0
-
-pub shape_of-row_ys-then-h-ne-GOT : goal.shape_of-row_ys-then-h-ne-GOT
-shape_of-row_ys-then-h-ne-GOT c = let read-command = c.read_command-h in
-    read-command.kept.1.1.1.1.1.1.1.1.1.0
-
-pub shape_of-row_cs-then-h-ne-GOT : goal.shape_of-row_cs-then-h-ne-GOT
-shape_of-row_cs-then-h-ne-GOT c = let read-command = c.read_command-h in
-    read-command.kept.1.1.1.1.1.1.1.1.1.1.0
-
-pub shape_of-out-then-h-ne-GOT : goal.shape_of-out-then-h-ne-GOT
-shape_of-out-then-h-ne-GOT c = c.unread.auto.out
-
 pub returns-then-h-ne-GOT : goal.returns-then-h-ne-GOT
 returns-then-h-ne-GOT c = let unread = c.unread in
     let args = c.args in
@@ -61,7 +45,7 @@ returns-then-h-ne-GOT c = let unread = c.unread in
     let told = unread.ensures c.if-h-ne-GOT.true c.read_command-h.ensures.why_is in
     let wrote = unread.new.out in record {
       carries = unread_carries args.s.now args.to before unread.result wrote told;
-      maintained_2 = unread_maintained args.s.now args.to before unread.result wrote told args.e args.heads.now args.nexts.now args.kept.now args.hashes.now args.name-heads.now args.name-nexts.now m;
+      maintained_2 = unread_maintained args.s.now args.to before unread.result wrote told args.e args.heads.now args.nexts.now args.kept.now args.hashes.now args.name_heads.now args.name_nexts.now m;
     }
 
 pub judge-number-requires : goal.judge-number-requires
@@ -69,18 +53,6 @@ judge-number-requires c = let m = c.requires.maintained in record {
   rules_bound = m.sound.tables_sound.counts_in.rules_in;
   marks_bound = m.sound.tables_sound.counts_in.marks_in;
 }
-
-pub shape_of-row_xs-then-number-gt0 : goal.shape_of-row_xs-then-number-gt0
-shape_of-row_xs-then-number-gt0 c = let read-command = c.read_command-h in
-    read-command.kept.1.1.1.1.1.1.1.1.0
-
-pub shape_of-row_ys-then-number-gt0 : goal.shape_of-row_ys-then-number-gt0
-shape_of-row_ys-then-number-gt0 c = let read-command = c.read_command-h in
-    read-command.kept.1.1.1.1.1.1.1.1.1.0
-
-pub shape_of-row_cs-then-number-gt0 : goal.shape_of-row_cs-then-number-gt0
-shape_of-row_cs-then-number-gt0 c = let read-command = c.read_command-h in
-    read-command.kept.1.1.1.1.1.1.1.1.1.1.0
 
 pub returns-then-number-gt0 : goal.returns-then-number-gt0
 returns-then-number-gt0 c = let judge = c.judge-number in
@@ -98,7 +70,7 @@ returns-then-number-gt0 c = let judge = c.judge-number in
     let judged = judge.ensures d before tells.kind_is refl refl tells.fault_first in
     let refused = c.refused.ensures in record {
       carries = refused_carries args.s.now args.to before d i is c.refused.result judge.result (λ done. omega (arith, done, c.if-number-gt0.true)) judged refused;
-      maintained_2 = refused_maintained args.s.now args.to before d i is c.refused.result refused.1.0 refused.1.1.0 args.e args.heads.now args.nexts.now args.kept.now args.hashes.now args.name-heads.now args.name-nexts.now m;
+      maintained_2 = refused_maintained args.s.now args.to before d i is c.refused.result refused.1.0 refused.1.1.0 args.e args.heads.now args.nexts.now args.kept.now args.hashes.now args.name_heads.now args.name_nexts.now m;
     }
 
 pub perform-requires : goal.perform-requires
@@ -115,8 +87,8 @@ perform-requires c = let judge = c.judge-number in
     let is = found.1.1 in
     let tells = heard.tells d i is in
     let judged = judge.ensures d before tells.kind_is refl refl tells.fault_first in
-    let last = c.read_command-h.new.1.1.1.1.1.1.1.1 in
-    let rows = columns last.0 last.1.0 last.1.1.0 in
+    let last = c.read_command-h.new in
+    let rows = columns last.xs last.ys last.cs in
     let room : Roomy rows = record {
       firsts_room = omega (arith, pre.in_bounds, c.read_command-h.auto.xs);
       seconds_room = omega (arith, pre.in_bounds, pre.row_xs_in_bounds, c.read_command-h.auto.ys);
@@ -129,74 +101,6 @@ perform-requires c = let judge = c.judge-number in
       to_in_bounds = pre.to_in_bounds;
       names_le_e = pre.names_le_e;
     }
-
-pub shape_of-row_xs : goal.shape_of-row_xs
-shape_of-row_xs c = let read-command = c.read_command-h in
-    read-command.kept.1.1.1.1.1.1.1.1.0
-
-pub shape_of-row_ys : goal.shape_of-row_ys
-shape_of-row_ys c = let read-command = c.read_command-h in
-    read-command.kept.1.1.1.1.1.1.1.1.1.0
-
-pub shape_of-row_cs : goal.shape_of-row_cs
-shape_of-row_cs c = let read-command = c.read_command-h in
-    read-command.kept.1.1.1.1.1.1.1.1.1.1.0
-
-pub shape_of-xs : goal.shape_of-xs
-shape_of-xs c = let perform = c.perform in
-    perform.kept.1.1.1.1.1.1.1.1.0
-
-pub shape_of-ys : goal.shape_of-ys
-shape_of-ys c = let perform = c.perform in
-    perform.kept.1.1.1.1.1.1.1.1.1.0
-
-pub shape_of-cs : goal.shape_of-cs
-shape_of-cs c = let perform = c.perform in
-    perform.kept.1.1.1.1.1.1.1.1.1.1.0
-
-pub shape_of-days : goal.shape_of-days
-shape_of-days c = let perform = c.perform in
-    perform.kept.1.1.1.1.1.1.1.1.1.1.1.0
-
-pub shape_of-levels : goal.shape_of-levels
-shape_of-levels c = let perform = c.perform in
-    perform.kept.1.1.1.1.1.1.1.1.1.1.1.1.0
-
-pub shape_of-heads : goal.shape_of-heads
-shape_of-heads c = let perform = c.perform in
-    perform.kept.1.1.1.1.1.1.1.1.1.1.1.1.1.0
-
-pub shape_of-nexts : goal.shape_of-nexts
-shape_of-nexts c = let perform = c.perform in
-    perform.kept.1.1.1.1.1.1.1.1.1.1.1.1.1.1.0
-
-pub shape_of-kept : goal.shape_of-kept
-shape_of-kept c = let perform = c.perform in
-    perform.kept.1.1.1.1.1.1.1.1.1.1.1.1.1.1.1.0
-
-pub shape_of-names : goal.shape_of-names
-shape_of-names c = let perform = c.perform in
-    perform.kept.1.1.1.1.1.1.1.1.1.1.1.1.1.1.1.1.0
-
-pub shape_of-lens : goal.shape_of-lens
-shape_of-lens c = let perform = c.perform in
-    perform.kept.1.1.1.1.1.1.1.1.1.1.1.1.1.1.1.1.1.0
-
-pub shape_of-hashes : goal.shape_of-hashes
-shape_of-hashes c = let perform = c.perform in
-    perform.kept.1.1.1.1.1.1.1.1.1.1.1.1.1.1.1.1.1.1.0
-
-pub shape_of-name_heads : goal.shape_of-name_heads
-shape_of-name_heads c = let perform = c.perform in
-    perform.kept.1.1.1.1.1.1.1.1.1.1.1.1.1.1.1.1.1.1.1.0
-
-pub shape_of-name_nexts : goal.shape_of-name_nexts
-shape_of-name_nexts c = let perform = c.perform in
-    perform.kept.1.1.1.1.1.1.1.1.1.1.1.1.1.1.1.1.1.1.1.1.0
-
-pub shape_of-out : goal.shape_of-out
-shape_of-out c = let perform = c.perform in
-    perform.kept.1.1.1.1.1.1.1.1.1.1.1.1.1.1.1.1.1.1.1.1.1.0
 
 pub returns : goal.returns
 returns c = let judge = c.judge-number in
@@ -213,8 +117,8 @@ returns c = let judge = c.judge-number in
     let is = found.1.1 in
     let tells = heard.tells d i is in
     let judged = judge.ensures d before tells.kind_is refl refl tells.fault_first in
-    let last = c.read_command-h.new.1.1.1.1.1.1.1.1 in
-    let rows = columns last.0 last.1.0 last.1.1.0 in
+    let last = c.read_command-h.new in
+    let rows = columns last.xs last.ys last.cs in
     let room : Roomy rows = record {
       firsts_room = omega (arith, pre.in_bounds, c.read_command-h.auto.xs);
       seconds_room = omega (arith, pre.in_bounds, pre.row_xs_in_bounds, c.read_command-h.auto.ys);
@@ -224,8 +128,8 @@ returns c = let judge = c.judge-number in
     let met = subst (First (command_needs d before)) none judged in
     let performed = c.perform.ensures in
     let heeded = heeded_of before fine args.e pre.names_le_e args.s.now rows room d i is c.read_command-h.result.kind c.read_command-h.result.fault tells met in
-    let done = performed.1 d i heeded met in
+    let done = performed.does d i heeded met in
     let past = heard.place_is ∙ ap place_of is in record {
-      carries = performed_carries args.s.now args.to before d i is c.perform.result c.read_command-h.result.kind c.read_command-h.result.at _ tells.kind_is past met performed.0 done.0;
+      carries = performed_carries args.s.now args.to before d i is c.perform.result c.read_command-h.result.kind c.read_command-h.result.at _ tells.kind_is past met performed.number_value done.0;
       maintained_2 = done.1;
     }

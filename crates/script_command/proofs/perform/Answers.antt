@@ -14,7 +14,6 @@ use Rattle.script_moving.proofs.Laws.{moves_border, moves_within}
 use Rattle.script_command.specs.Carrying.{in_hand}
 use Rattle.script_command.proofs.Composing.{does, does_fine}
 use native.Mathlib.Omega.{arith}
-use borrow.Author.Rules.{rules}
 use Rattle.script_command.proofs.perform.Goals as goal
 
 pub print-written-requires : goal.print-written-requires
@@ -61,68 +60,12 @@ notes_after-requires c = let args = c.args in
     let before = in_hand args.counts args.xs.now args.ys.now args.cs.now args.days.now args.levels.now args.notes args.names.now args.lens.now args.out.now in
     let m = pre.maintained in
     let fine : Fine before = record { room = m.room; sound = m.sound } in
-    let rows = columns args.row-xs.now args.row-ys.now args.row-cs.now in
-    let last = c.move_tables-moved.new.1.1.1.1.1.1 in
-    let moved = unwatched c.move_tables-moved.result.counts last.0 last.1.0 last.1.1.0 last.1.1.1.0 last.1.1.1.1.0 in record {
+    let rows = columns args.row_xs.now args.row_ys.now args.row_cs.now in
+    let last = c.move_tables-moved.new in
+    let moved = unwatched c.move_tables-moved.result.counts last.xs last.ys last.cs last.days last.levels in record {
       names_bound = m.sound.names_in;
       marks_bound = (moves_border args.c args.notes.broken args.e rows before.tables moved c.move_tables-moved.result.clash pre.ready.movable (tables_border fine) m.within c.move_tables-moved.ensures.moves).sound.counts_in.marks_in;
     }
-
-pub shape_of-xs : goal.shape_of-xs
-shape_of-xs c = let move-tables = c.move_tables-moved in
-    move-tables.kept.1.1.1.1.1.1.0
-
-pub shape_of-ys : goal.shape_of-ys
-shape_of-ys c = let move-tables = c.move_tables-moved in
-    move-tables.kept.1.1.1.1.1.1.1.0
-
-pub shape_of-cs : goal.shape_of-cs
-shape_of-cs c = let move-tables = c.move_tables-moved in
-    move-tables.kept.1.1.1.1.1.1.1.1.0
-
-pub shape_of-days : goal.shape_of-days
-shape_of-days c = let move-tables = c.move_tables-moved in
-    move-tables.kept.1.1.1.1.1.1.1.1.1.0
-
-pub shape_of-levels : goal.shape_of-levels
-shape_of-levels c = let move-tables = c.move_tables-moved in
-    move-tables.kept.1.1.1.1.1.1.1.1.1.1.0
-
-pub shape_of-heads : goal.shape_of-heads
-shape_of-heads c = let move-tables = c.move_tables-moved in
-    move-tables.kept.1.1.1.1.1.1.1.1.1.1.1.0
-
-pub shape_of-nexts : goal.shape_of-nexts
-shape_of-nexts c = let move-tables = c.move_tables-moved in
-    move-tables.kept.1.1.1.1.1.1.1.1.1.1.1.1.0
-
-pub shape_of-kept : goal.shape_of-kept
-shape_of-kept c = let move-tables = c.move_tables-moved in
-    move-tables.kept.1.1.1.1.1.1.1.1.1.1.1.1.1.0
-
-pub shape_of-names : goal.shape_of-names
-shape_of-names c = let declare = c.declare in
-    declare.kept.1.1.1.0
-
-pub shape_of-lens : goal.shape_of-lens
-shape_of-lens c = let declare = c.declare in
-    declare.kept.1.1.1.1.0
-
-pub shape_of-hashes : goal.shape_of-hashes
-shape_of-hashes c = let declare = c.declare in
-    declare.kept.1.1.1.1.1.0
-
-pub shape_of-name_heads : goal.shape_of-name_heads
-shape_of-name_heads c = let declare = c.declare in
-    declare.kept.1.1.1.1.1.1.0
-
-pub shape_of-name_nexts : goal.shape_of-name_nexts
-shape_of-name_nexts c = let declare = c.declare in
-    declare.kept.1.1.1.1.1.1.1.0
-
-pub shape_of-out : goal.shape_of-out
-shape_of-out c = let print = c.print-written in
-    print.kept.1.1.1.1.1.1.1.0
 
 pub returns : goal.returns
 returns c = let declare = c.declare in
@@ -132,12 +75,12 @@ returns c = let declare = c.declare in
     let before = in_hand args.counts args.xs.now args.ys.now args.cs.now args.days.now args.levels.now args.notes args.names.now args.lens.now args.out.now in
     let m = pre.maintained in
     let fine : Fine before = record { room = m.room; sound = m.sound } in
-    let rows = columns args.row-xs.now args.row-ys.now args.row-cs.now in
-    let last = c.move_tables-moved.new.1.1.1.1.1.1 in
-    let moved = unwatched c.move_tables-moved.result.counts last.0 last.1.0 last.1.1.0 last.1.1.1.0 last.1.1.1.1.0 in
-    let named = declare.last.1.1.1 in
+    let rows = columns args.row_xs.now args.row_ys.now args.row_cs.now in
+    let last = c.move_tables-moved.new in
+    let moved = unwatched c.move_tables-moved.result.counts last.xs last.ys last.cs last.days last.levels in
+    let named = declare.new in
     let wrote = print.new.out in
-    let after = in_hand c.move_tables-moved.result.counts last.0 last.1.0 last.1.1.0 last.1.1.1.0 last.1.1.1.1.0 c.notes_after.result named.0 named.1.0 wrote in
+    let after = in_hand c.move_tables-moved.result.counts last.xs last.ys last.cs last.days last.levels c.notes_after.result named.names named.lens wrote in
     let moves = c.move_tables-moved.ensures.moves in
     let noted_is = c.notes_after.ensures in
     let declared = declare.ensures in
@@ -148,9 +91,9 @@ returns c = let declare = c.declare in
       number_value = (refl, (refl, c.is_exit.ensures));
       does = λ d i heeded met.
           let done : Does (Read.got d i) args.to before written after =
-          does rows args.s.now args.to before clash moves.0 moved written count named.0 named.1.0 wrote
-          args.hashes.now args.name-heads.now args.name-nexts.now named.1.1.0 named.1.1.1.0 named.1.1.1.1.0 fine args.c d i heeded met
-          (record { there = pre.ready.movable.rows_there.0; added = moves.1.0; dropped = moves.1.1; wrote = printed.0; count = printed.1; declared = declared; noted_is = noted_is }) in
+          does rows args.s.now args.to before clash moves.0 moved written count named.names named.lens wrote
+          args.hashes.now args.name_heads.now args.name_nexts.now named.hashes named.heads named.nexts fine args.c d i heeded met
+          (record { there = pre.ready.movable.rows_there.0; added = moves.1.0; dropped = moves.1.1; wrote = printed.out_after; count = printed.value; declared = declared; noted_is = noted_is }) in
           let then = does_fine args.c rows args.s.now d i args.to written before after fine heeded met done in (
             done,
             record {
@@ -160,8 +103,8 @@ returns c = let declare = c.declare in
               days_kept = c.move_tables-moved.ensures.kept_days_2;
               ordered = λ some. does_orderly (Read.got d i) args.to written before after fine met done (m.ordered (omega (arith, some, c.move_tables-moved.auto.kept)));
               within = moves_within args.c args.notes.broken args.e rows before.tables moved clash pre.ready.movable (tables_border fine) m.within moves;
-              indexed = subst (λ (n : ℕ). Indexed n named.0 named.1.0 named.1.1.0 named.1.1.1.0 named.1.1.1.1.0) (sym (ap (λ (x : Notes). x.names) noted_is))
-                  (indexed_after args.c args.s.now args.notes clash c.move_tables-moved.result.counts.marks args.names.now args.lens.now args.hashes.now args.name-heads.now args.name-nexts.now named.0 named.1.0 named.1.1.0 named.1.1.1.0 named.1.1.1.1.0 declared m.indexed);
+              indexed = subst (λ (n : ℕ). Indexed n named.names named.lens named.hashes named.heads named.nexts) (sym (ap (λ (x : Notes). x.names) noted_is))
+                  (indexed_after args.c args.s.now args.notes clash c.move_tables-moved.result.counts.marks args.names.now args.lens.now args.hashes.now args.name_heads.now args.name_nexts.now named.names named.lens named.hashes named.heads named.nexts declared m.indexed);
             },
           );
     }
