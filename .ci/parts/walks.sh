@@ -1,13 +1,12 @@
 #!/usr/bin/env bash
-# The proofs by hand of the thin calls are what tools/walks writes from their source.
+# No function has a proof by hand that walks its code: the check walks each, also the thin calls over lent records.
 set -u
 cd -- "$(dirname -- "${BASH_SOURCE[0]}")/../.." || exit 1
-. host/tools.sh
-command -v python3 >/dev/null || get_packages python3 || { echo "0 passed, 1 failed"; exit 1; }
-if tools/walks --check; then
+found=$(find crates -path 'crates/*/out' -prune -o -name Proof.antt -print | LC_ALL=C sort)
+if [ -z "$found" ]; then
     echo "1 passed, 0 failed"
 else
-    echo "walks: run tools/walks, then prove the crate again"
+    sed 's/^/walks: a proof by hand: /' <<<"$found"
     echo "0 passed, 1 failed"
     exit 1
 fi
