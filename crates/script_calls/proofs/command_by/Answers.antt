@@ -1,16 +1,12 @@
 -- `script_calls::command_by` meets its contract: the verdict gives the first refusals; else `script_command::carry` does the rest.
-use Prim.Native.Nat.{ℕ, ◌≤◌, ◌<◌}
-use mathlib.Core.Path.{◌≡◌, refl}
+use Prim.Native.Nat.{ℕ}
+use mathlib.Core.Path.{◌≡◌}
 use lib.IntN.{pos}
 use lib.ListN.{length-replicate}
 use Rattle.meaning.specs.Bounds.{STEPS, RULES}
 use Rattle.lent.specs.Lent.{columns}
 use Rattle.script_calls.proofs.Commanding.{idle_fine, carries_watching, commanded, not_entered}
 use native.Mathlib.Omega.{arith}
-use borrow.Author.Rules.{rules}
-use Rattle.script_calls.proofs.command_by.Reads as reads
-use Rattle.script_calls.proofs.command_by.Lts as lts
-use Rattle.script_calls.proofs.verdict.Reads as verdict-reads
 use Rattle.script_calls.proofs.command_by.Goals as goal
 
 pub verdict-number-requires : goal.verdict-number-requires

@@ -2,13 +2,9 @@
 use native.Mathlib.Omega.{arith}
 use mathlib.Core.Path.{refl}
 use lib.ListN.{length}
-use borrow.Author.Tests.{not-true, not-false, leb-true, leb-false}
+use borrow.Author.Tests.{leb-true, leb-false}
 use Rattle.meaning.specs.Bounds.{ROOM}
 use Rattle.lent.specs.Decides.{decides_no}
-use borrow.Author.Rules.{rules}
-use Rattle.script_calls.proofs.command_room.Reads as reads
-use Rattle.script_calls.proofs.command_room.Lts as lts
-use Rattle.script_calls.proofs.start_room.Reads as start-room-reads
 use Rattle.script_calls.proofs.command_room.Goals as goal
 
 pub returns-then-not-start_room : goal.returns-then-not-start_room

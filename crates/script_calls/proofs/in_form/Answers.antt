@@ -1,19 +1,11 @@
 -- `script_calls::in_form` meets its contract: the length, the first token's three parts and the reserved words are tested one after the other.
-use Prim.Native.Nat.{ℕ}
 use native.Mathlib.Omega.{arith}
-use mathlib.Core.Path.{◌≡◌, refl, sym, ◌∙◌, ap}
-use mathlib.Core.Bool.{true, false, true≢false}
-use borrow.Author.Tests.{not-true, not-false}
+use mathlib.Core.Path.{refl, sym, ◌∙◌, ap}
+use mathlib.Core.Bool.{true≢false}
 use Rattle.lent.specs.Decides.{decides_no, decides_yes}
 use Rattle.text.specs.declared.Tok.{Tok}
-use Rattle.text.specs.Lexicon.{SYMBOL}
 use Rattle.words.specs.Words.{reserved}
 use Rattle.script_calls.proofs.Answers.{tok_is, whole}
-use borrow.Author.Rules.{rules}
-use Rattle.script_calls.proofs.in_form.Reads as reads
-use Rattle.script_calls.proofs.in_form.Lts as lts
-use Rattle.text.proofs.token.Reads as token-reads
-use Rattle.words.proofs.is_reserved.Reads as is-reserved-reads
 use Rattle.script_calls.proofs.in_form.Goals as goal
 
 pub returns-then-w-gt-NAME_BYTES : goal.returns-then-w-gt-NAME_BYTES

@@ -1,14 +1,8 @@
 -- `script_calls::name_fine` meets its contract: the length is tested, then the name's bytes, as a part of the table.
-use Prim.Native.Nat.{ℕ, ◌+◌, ◌*◌, ◌-◌}
 use native.Mathlib.Omega.{arith}
-use mathlib.Core.Path.{◌≡◌, refl, sym, ap}
-use Rattle.lent.specs.Decides.{Decides, decides_no, decides_same}
-use Rattle.script_meaning.specs.Record.{InForm}
+use mathlib.Core.Path.{refl}
+use Rattle.lent.specs.Decides.{decides_no, decides_same}
 use Rattle.names.proofs.Hashing.{name_bytes}
-use borrow.Author.Rules.{rules}
-use Rattle.script_calls.proofs.name_fine.Reads as reads
-use Rattle.script_calls.proofs.name_fine.Lts as lts
-use Rattle.script_calls.proofs.in_form.Reads as in-form-reads
 use Rattle.script_calls.proofs.name_fine.Goals as goal
 
 pub overflow_cast-len : goal.overflow_cast-len

@@ -1,11 +1,8 @@
 -- `script_calls::notes_fine` meets its contract: what is needed is tested one after the other.
 use native.Mathlib.Omega.{arith}
-use mathlib.Core.Path.{◌≡◌, refl, sym, ◌∙◌}
-use mathlib.Core.Bool.{true, false, true≢false}
+use mathlib.Core.Path.{refl, sym, ◌∙◌}
+use mathlib.Core.Bool.{true≢false}
 use Rattle.lent.specs.Decides.{decides_no, decides_yes}
-use borrow.Author.Rules.{rules}
-use Rattle.script_calls.proofs.notes_fine.Reads as reads
-use Rattle.script_calls.proofs.notes_fine.Lts as lts
 use Rattle.script_calls.proofs.notes_fine.Goals as goal
 
 pub returns-then-counts-ne-STEPS : goal.returns-then-counts-ne-STEPS

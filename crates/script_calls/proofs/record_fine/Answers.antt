@@ -1,18 +1,8 @@
 -- `script_calls::record_fine` meets its contract: the notes, then each name, then the index says whether all names are different.
-use Prim.Native.Nat.{ℕ}
-use native.Mathlib.Omega.{arith}
-use mathlib.Core.Path.{◌≡◌, refl, sym, ◌∙◌}
-use mathlib.Core.Bool.{true, false, false≢true}
-use borrow.Author.Tests.{not-true, not-false}
+use mathlib.Core.Path.{refl}
+use mathlib.Core.Bool.{false≢true}
 use Rattle.lent.specs.Decides.{decides_no, decides_same}
 use Rattle.script_calls.proofs.Answers.{shelved}
-use borrow.Author.Rules.{rules}
-use Rattle.script_calls.proofs.record_fine.Reads as reads
-use Rattle.script_calls.proofs.record_fine.Lts as lts
-use Rattle.names.proofs.different.Reads as different-reads
-use Rattle.names.proofs.index.Reads as index_Reads
-use Rattle.script_calls.proofs.names_fine.Reads as names-fine-reads
-use Rattle.script_calls.proofs.notes_fine.Reads as notes-fine-reads
 use Rattle.script_calls.proofs.record_fine.Goals as goal
 
 pub returns-then-not-notes_fine : goal.returns-then-not-notes_fine

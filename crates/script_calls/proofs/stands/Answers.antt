@@ -1,16 +1,8 @@
 -- `script_calls::stands` meets its contract: the test of the tables, then that of the record.
-use Prim.Native.Nat.{ℕ}
-use native.Mathlib.Omega.{arith}
-use mathlib.Core.Path.{◌≡◌, refl, sym, ◌∙◌}
-use mathlib.Core.Bool.{true, false, false≢true}
-use borrow.Author.Tests.{not-true, not-false}
+use mathlib.Core.Path.{refl}
+use mathlib.Core.Bool.{false≢true}
 use Rattle.lent.specs.Decides.{decides_no, decides_same}
 use Rattle.script_calls.proofs.Answers.{script_sound, record_fine_of}
-use borrow.Author.Rules.{rules}
-use Rattle.script_calls.proofs.stands.Reads as reads
-use Rattle.script_calls.proofs.stands.Lts as lts
-use Rattle.script_calls.proofs.record_fine.Reads as record-fine-reads
-use Rattle.sound.proofs.is_sound.Reads as is-sound-reads
 use Rattle.script_calls.proofs.stands.Goals as goal
 
 pub returns-then-not-is_sound : goal.returns-then-not-is_sound

@@ -2,20 +2,11 @@
 use native.Mathlib.Omega.{arith}
 use mathlib.Core.Path.{refl}
 use mathlib.Core.List.{[]}
-use mathlib.Core.Logic.{inl, inr}
-use borrow.Author.Tests.{not-true, not-false}
+use mathlib.Core.Logic.{inl}
 use Rattle.meaning.specs.Bounds.{STEPS, SHORT}
 use Rattle.lent.specs.Lent.{tables}
 use Rattle.sound.proofs.Opened.{opened_days}
 use Rattle.meaning.proofs.Needs.{obeys_done, obeys_refused}
-use borrow.Author.Rules.{rules}
-use Rattle.script_calls.proofs.start.Reads as reads
-use Rattle.script_calls.proofs.start.Lts as lts
-use Rattle.inner_watch.proofs.clear_days.Reads as clear-days-reads
-use Rattle.inner_watch.proofs.free_all.Reads as free-all-reads
-use Rattle.script_calls.proofs.start_room.Reads as start-room-reads
-use Rattle.meaning.proofs.steps_alone.Reads as steps-alone-reads
-use Rattle.script_meaning.proofs.no_notes.Reads as no-notes-reads
 use Rattle.script_calls.proofs.start.Goals as goal
 
 pub returns-then-not-start_room : goal.returns-then-not-start_room

@@ -1,13 +1,7 @@
 -- `script_calls::verdict` meets its contract: the room and the soundness are tested one after the other.
 use mathlib.Core.Path.{refl}
 use mathlib.Core.Logic.{inl, inr}
-use borrow.Author.Tests.{not-true, not-false}
 use native.Mathlib.Omega.{arith}
-use borrow.Author.Rules.{rules}
-use Rattle.script_calls.proofs.verdict.Reads as reads
-use Rattle.script_calls.proofs.verdict.Lts as lts
-use Rattle.script_calls.proofs.command_room.Reads as command-room-reads
-use Rattle.script_calls.proofs.stands.Reads as stands-reads
 use Rattle.script_calls.proofs.verdict.Goals as goal
 
 pub returns-then-not-command_room : goal.returns-then-not-command_room
