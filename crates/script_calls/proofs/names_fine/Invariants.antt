@@ -1,4 +1,4 @@
--- `script_calls::names_fine` meets its contract. The loop's invariant: every name passed is fine. The measure is what is left of the names.
+-- `script_calls::names_fine` meets its contract. The loop's invariant: every name passed is fine.
 use Prim.Native.Nat.{◌≤◌}
 use Rattle.script_calls.specs.Testing.{NamesFine}
 use Rattle.script_calls.proofs.names_fine.Given as goal
