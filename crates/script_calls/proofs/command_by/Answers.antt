@@ -36,30 +36,6 @@ carry-carried-requires c = let verdict = c.verdict-number in
       names_le_e = omega (arith, st.sound.names_in, st.sound.all_steps);
     }
 
-pub shape_of-xs : goal.shape_of-xs
-shape_of-xs c = c.carry-carried.auto.xs
-
-pub shape_of-ys : goal.shape_of-ys
-shape_of-ys c = c.carry-carried.auto.ys
-
-pub shape_of-cs : goal.shape_of-cs
-shape_of-cs c = c.carry-carried.auto.cs
-
-pub shape_of-days : goal.shape_of-days
-shape_of-days c = c.carry-carried.auto.days
-
-pub shape_of-levels : goal.shape_of-levels
-shape_of-levels c = c.carry-carried.auto.levels
-
-pub shape_of-names : goal.shape_of-names
-shape_of-names c = c.carry-carried.auto.names
-
-pub shape_of-lens : goal.shape_of-lens
-shape_of-lens c = c.carry-carried.auto.lens
-
-pub shape_of-out : goal.shape_of-out
-shape_of-out c = c.carry-carried.auto.out
-
 pub returns : goal.returns
 returns c = let a = c.args in
     let verdict = c.verdict-number in

@@ -15,7 +15,14 @@ returns-then-not-command_room c = let a = c.args in
 
 pub stands-requires : goal.stands-requires
 stands-requires c = let room = (c.command_room.ensures c.args.counts c.args.notes).so c.if-not-command_room.false in
-    (c.requires.tab_value, (room.start_room.tables_room, (record { names_room = room.start_room.names_room; lens_room = room.start_room.lens_room }, c.requires.1)))
+    record {
+      tab_value = c.requires.tab_value;
+      room = room.start_room.tables_room;
+      names_room = record { names_room = room.start_room.names_room; lens_room = room.start_room.lens_room };
+      in_bounds = c.requires.in_bounds;
+      in_bounds_2 = c.requires.in_bounds_2;
+      index_room = c.requires.index_room;
+    }
 
 pub returns-then-not-stands : goal.returns-then-not-stands
 returns-then-not-stands c = let a = c.args in
