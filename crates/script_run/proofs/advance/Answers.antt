@@ -1,15 +1,9 @@
 -- `script_run::advance` meets its contract: a part is under way at each command. The measure is what is left of the text.
-use Prim.Native.Nat.{◌-◌}
-use mathlib.Core.Path.{◌≡◌, refl, ◌∙◌}
-use lib.ListN.{length}
+use mathlib.Core.Path.{refl, ◌∙◌}
 use borrow.Author.Tests.{not-true, not-false}
-use Rattle.script_command.specs.Carrying.{in_hand, Maintained}
-use Rattle.script_run.proofs.Reaching.{Underway, underway_first, underway_on, underway_ends}
-use borrow.Author.Rules.{rules}
+use Rattle.script_command.specs.Carrying.{in_hand}
+use Rattle.script_run.proofs.Reaching.{underway_first, underway_on, underway_ends}
 use native.Mathlib.Omega.{arith}
-use Rattle.script_run.proofs.advance.Reads as reads
-use Rattle.script_run.proofs.advance.Lts as lts
-use Rattle.script_run.proofs.one.Reads as one-reads
 use Rattle.script_run.proofs.advance.Goals as goal
 
 pub loop-now_held-init : goal.loop-now_held-init
@@ -25,68 +19,17 @@ one-step-requires c = let pre = c.requires in record {
   maintained = c.loop-now_held.invariant.1.1;
 }
 
-pub shape_of-row_xs-then-not-step : goal.shape_of-row_xs-then-not-step
-shape_of-row_xs-then-not-step c = c.one-step.auto.row_xs ∙ c.loop-now_held.invariant.0.0
-
-pub shape_of-row_ys-then-not-step : goal.shape_of-row_ys-then-not-step
-shape_of-row_ys-then-not-step c = c.one-step.auto.row_ys ∙ c.loop-now_held.invariant.0.1.0
-
-pub shape_of-row_cs-then-not-step : goal.shape_of-row_cs-then-not-step
-shape_of-row_cs-then-not-step c = c.one-step.auto.row_cs ∙ c.loop-now_held.invariant.0.1.1.0
-
-pub shape_of-xs-then-not-step : goal.shape_of-xs-then-not-step
-shape_of-xs-then-not-step c = c.one-step.auto.xs ∙ c.loop-now_held.invariant.0.1.1.1.0
-
-pub shape_of-ys-then-not-step : goal.shape_of-ys-then-not-step
-shape_of-ys-then-not-step c = c.one-step.auto.ys ∙ c.loop-now_held.invariant.0.1.1.1.1.0
-
-pub shape_of-cs-then-not-step : goal.shape_of-cs-then-not-step
-shape_of-cs-then-not-step c = c.one-step.auto.cs ∙ c.loop-now_held.invariant.0.1.1.1.1.1.0
-
-pub shape_of-days-then-not-step : goal.shape_of-days-then-not-step
-shape_of-days-then-not-step c = c.one-step.auto.days ∙ c.loop-now_held.invariant.0.1.1.1.1.1.1.0
-
-pub shape_of-levels-then-not-step : goal.shape_of-levels-then-not-step
-shape_of-levels-then-not-step c = c.one-step.auto.levels ∙ c.loop-now_held.invariant.0.1.1.1.1.1.1.1.0
-
-pub shape_of-heads-then-not-step : goal.shape_of-heads-then-not-step
-shape_of-heads-then-not-step c = c.one-step.auto.heads ∙ c.loop-now_held.invariant.0.1.1.1.1.1.1.1.1.0
-
-pub shape_of-nexts-then-not-step : goal.shape_of-nexts-then-not-step
-shape_of-nexts-then-not-step c = c.one-step.auto.nexts ∙ c.loop-now_held.invariant.0.1.1.1.1.1.1.1.1.1.0
-
-pub shape_of-kept-then-not-step : goal.shape_of-kept-then-not-step
-shape_of-kept-then-not-step c = c.one-step.auto.kept ∙ c.loop-now_held.invariant.0.1.1.1.1.1.1.1.1.1.1.0
-
-pub shape_of-names-then-not-step : goal.shape_of-names-then-not-step
-shape_of-names-then-not-step c = c.one-step.auto.names ∙ c.loop-now_held.invariant.0.1.1.1.1.1.1.1.1.1.1.1.0
-
-pub shape_of-lens-then-not-step : goal.shape_of-lens-then-not-step
-shape_of-lens-then-not-step c = c.one-step.auto.lens ∙ c.loop-now_held.invariant.0.1.1.1.1.1.1.1.1.1.1.1.1.0
-
-pub shape_of-hashes-then-not-step : goal.shape_of-hashes-then-not-step
-shape_of-hashes-then-not-step c = c.one-step.auto.hashes ∙ c.loop-now_held.invariant.0.1.1.1.1.1.1.1.1.1.1.1.1.1.0
-
-pub shape_of-name_heads-then-not-step : goal.shape_of-name_heads-then-not-step
-shape_of-name_heads-then-not-step c = c.one-step.auto.name_heads ∙ c.loop-now_held.invariant.0.1.1.1.1.1.1.1.1.1.1.1.1.1.1.0
-
-pub shape_of-name_nexts-then-not-step : goal.shape_of-name_nexts-then-not-step
-shape_of-name_nexts-then-not-step c = c.one-step.auto.name_nexts ∙ c.loop-now_held.invariant.0.1.1.1.1.1.1.1.1.1.1.1.1.1.1.1.0
-
-pub shape_of-out-then-not-step : goal.shape_of-out-then-not-step
-shape_of-out-then-not-step c = c.one-step.auto.out ∙ c.loop-now_held.invariant.0.1.1.1.1.1.1.1.1.1.1.1.1.1.1.1.1
-
 pub returns-then-not-step : goal.returns-then-not-step
 returns-then-not-step c = record {
-  advances = underway_ends c.loop-now_held.invariant.1.0 c.one-step.ensures.steps c.if-not-step.true;
+  advances = underway_ends c.loop-now_held.invariant.1.0 c.one-step.ensures.steps (not-true _ c.if-not-step.true);
   maintained_2 = c.one-step.ensures.maintained_2;
 }
 
 pub loop-now_held-smaller : goal.loop-now_held-smaller
-loop-now_held-smaller c = omega (arith, c.one-step.ensures.steps.onward c.if-not-step.false)
+loop-now_held-smaller c = omega (arith, c.one-step.ensures.steps.onward (not-false _ c.if-not-step.false))
 
 pub loop-now_held-preserved : goal.loop-now_held-preserved
 loop-now_held-preserved c = (
   (c.one-step.auto.row_xs ∙ c.loop-now_held.invariant.0.0, (c.one-step.auto.row_ys ∙ c.loop-now_held.invariant.0.1.0, (c.one-step.auto.row_cs ∙ c.loop-now_held.invariant.0.1.1.0, (c.one-step.auto.xs ∙ c.loop-now_held.invariant.0.1.1.1.0, (c.one-step.auto.ys ∙ c.loop-now_held.invariant.0.1.1.1.1.0, (c.one-step.auto.cs ∙ c.loop-now_held.invariant.0.1.1.1.1.1.0, (c.one-step.auto.days ∙ c.loop-now_held.invariant.0.1.1.1.1.1.1.0, (c.one-step.auto.levels ∙ c.loop-now_held.invariant.0.1.1.1.1.1.1.1.0, (c.one-step.auto.heads ∙ c.loop-now_held.invariant.0.1.1.1.1.1.1.1.1.0, (c.one-step.auto.nexts ∙ c.loop-now_held.invariant.0.1.1.1.1.1.1.1.1.1.0, (c.one-step.auto.kept ∙ c.loop-now_held.invariant.0.1.1.1.1.1.1.1.1.1.1.0, (c.one-step.auto.names ∙ c.loop-now_held.invariant.0.1.1.1.1.1.1.1.1.1.1.1.0, (c.one-step.auto.lens ∙ c.loop-now_held.invariant.0.1.1.1.1.1.1.1.1.1.1.1.1.0, (c.one-step.auto.hashes ∙ c.loop-now_held.invariant.0.1.1.1.1.1.1.1.1.1.1.1.1.1.0, (c.one-step.auto.name_heads ∙ c.loop-now_held.invariant.0.1.1.1.1.1.1.1.1.1.1.1.1.1.1.0, (c.one-step.auto.name_nexts ∙ c.loop-now_held.invariant.0.1.1.1.1.1.1.1.1.1.1.1.1.1.1.1.0, c.one-step.auto.out ∙ c.loop-now_held.invariant.0.1.1.1.1.1.1.1.1.1.1.1.1.1.1.1.1)))))))))))))))),
-  (underway_on c.loop-now_held.invariant.1.0 c.one-step.ensures.steps c.if-not-step.false c.one-step.auto.out, c.one-step.ensures.maintained_2),
+  (underway_on c.loop-now_held.invariant.1.0 c.one-step.ensures.steps (not-false _ c.if-not-step.false) c.one-step.auto.out, c.one-step.ensures.maintained_2),
 )

@@ -1,15 +1,9 @@
 -- `script_run::advance` meets its contract: a part is under way at each command. The measure is what is left of the text.
 use Prim.Native.Nat.{◌-◌}
-use mathlib.Core.Path.{◌≡◌, refl, ◌∙◌}
+use mathlib.Core.Path.{◌≡◌}
 use lib.ListN.{length}
-use borrow.Author.Tests.{not-true, not-false}
 use Rattle.script_command.specs.Carrying.{in_hand, Maintained}
-use Rattle.script_run.proofs.Reaching.{Underway, underway_first, underway_on, underway_ends}
-use borrow.Author.Rules.{rules}
-use native.Mathlib.Omega.{arith}
-use Rattle.script_run.proofs.advance.Reads as reads
-use Rattle.script_run.proofs.advance.Lts as lts
-use Rattle.script_run.proofs.one.Reads as one-reads
+use Rattle.script_run.proofs.Reaching.{Underway}
 use Rattle.script_run.proofs.advance.Given as goal
 
 abbrev pub invariant-loop-now_held : goal.invariant-loop-now_held

@@ -3,8 +3,6 @@ use native.Mathlib.Omega.{arith}
 use mathlib.Core.Path.{sym}
 use mathlib.Core.Bool.{true≢false}
 use borrow.Author.Tests.{not-true, not-false}
-use Rattle.script_run.proofs.goes_on.Reads as reads
-use Rattle.script_run.proofs.goes_on.Lts as lts
 use Rattle.script_run.proofs.goes_on.Goals as goal
 
 pub returns-then-number-gt0 : goal.returns-then-number-gt0

@@ -1,6 +1,6 @@
 -- `script_run::one` meets its contract: where no command can be carried out the script ends, else it ends or goes on as the command says.
-use Prim.Native.Nat.{ℕ, ◌-◌}
-use mathlib.Core.Path.{◌∙◌, subst}
+use Prim.Native.Nat.{ℕ}
+use mathlib.Core.Path.{subst}
 use mathlib.Core.List.{List}
 use lib.Dec.{eqb}
 use lib.ListN.{length}
@@ -11,12 +11,6 @@ use Rattle.script_command.specs.Carrying.{in_hand, Carries}
 use Rattle.script_run.proofs.Stepping.{maintained_out, part_is, halted_steps, carried_short, carried_within, carried_steps}
 use Rattle.script_run.proofs.Naming.{carried_named}
 use native.Mathlib.Omega.{arith}
-use borrow.Author.Rules.{rules}
-use Rattle.script_run.proofs.one.Reads as reads
-use Rattle.script_run.proofs.one.Lts as lts
-use Rattle.script_run.proofs.begin.Reads as begin-reads
-use Rattle.script_run.proofs.goes_on.Reads as goes-on-reads
-use Rattle.script_run.proofs.settle.Reads as settle-reads
 use Rattle.script_run.proofs.one.Goals as goal
 
 pub begin-b-requires : goal.begin-b-requires
@@ -25,15 +19,15 @@ begin-b-requires c = c.requires.tab_value
 pub returns-then-not-b : goal.returns-then-not-b
 returns-then-not-b c = let a = c.args in
     let number = c.begin-b.result.number in record {
-      steps = halted_steps a.s.now a.at (in_hand a.counts a.xs.now a.ys.now a.cs.now a.days.now a.levels.now a.notes a.names.now a.lens.now a.out.now) a.to number (eqb number SHORT) (eqb-true number SHORT) (eqb-false number SHORT) (c.begin-b.ensures.when_not c.if-not-b.true);
+      steps = halted_steps a.s.now a.at (in_hand a.counts a.xs.now a.ys.now a.cs.now a.days.now a.levels.now a.notes a.names.now a.lens.now a.out.now) a.to number (eqb number SHORT) (eqb-true number SHORT) (eqb-false number SHORT) (c.begin-b.ensures.when_not (not-true _ c.if-not-b.true));
       maintained_2 = c.requires.maintained;
     }
 
 pub slice_bounds-carry-count : goal.slice_bounds-carry-count
-slice_bounds-carry-count c = (c.begin-b.ensures.when_ready c.if-not-b.false).within
+slice_bounds-carry-count c = (c.begin-b.ensures.when_ready (not-false _ c.if-not-b.false)).within
 
 pub slice_bounds-carry-start : goal.slice_bounds-carry-start
-slice_bounds-carry-start c = (c.begin-b.ensures.when_ready c.if-not-b.false).within
+slice_bounds-carry-start c = (c.begin-b.ensures.when_ready (not-false _ c.if-not-b.false)).within
 
 pub carry-r-requires : goal.carry-r-requires
 carry-r-requires c = let pre = c.requires in record {
@@ -42,7 +36,7 @@ carry-r-requires c = let pre = c.requires in record {
   row_xs_in_bounds = pre.row_xs_in_bounds;
   row_xs_in_bounds_2 = pre.row_xs_in_bounds_2;
   maintained = pre.maintained;
-  to_in_bounds = (c.begin-b.ensures.when_ready c.if-not-b.false).room;
+  to_in_bounds = (c.begin-b.ensures.when_ready (not-false _ c.if-not-b.false)).room;
   names_le_e = omega arith;
 }
 
@@ -50,7 +44,7 @@ pub settle-past-requires : goal.settle-past-requires
 settle-past-requires c = let a = c.args in
     let begin = c.begin-b in
     let carry = c.carry-r in
-    let ready = begin.ensures.when_ready c.if-not-b.false in
+    let ready = begin.ensures.when_ready (not-false _ c.if-not-b.false) in
     let before = in_hand a.counts a.xs.now a.ys.now a.cs.now a.days.now a.levels.now a.notes a.names.now a.lens.now a.out.now in
     let after = in_hand carry.result.counts carry.new.xs carry.new.ys carry.new.cs carry.new.days carry.new.levels carry.result.notes carry.new.names carry.new.lens carry.new.out in
     let carries = subst (λ (x : List ℕ). Carries x a.to before carry.result after) (part_is a.s.now a.at (length a.out.now) a.to begin.result.from ready) carry.ensures.carries in record {
@@ -62,68 +56,17 @@ pub overflow_add-result : goal.overflow_add-result
 overflow_add-result c = let a = c.args in
     let begin = c.begin-b in
     let carry = c.carry-r in
-    let ready = begin.ensures.when_ready c.if-not-b.false in
+    let ready = begin.ensures.when_ready (not-false _ c.if-not-b.false) in
     let before = in_hand a.counts a.xs.now a.ys.now a.cs.now a.days.now a.levels.now a.notes a.names.now a.lens.now a.out.now in
     let after = in_hand carry.result.counts carry.new.xs carry.new.ys carry.new.cs carry.new.days carry.new.levels carry.result.notes carry.new.names carry.new.lens carry.new.out in
     let carries = subst (λ (x : List ℕ). Carries x a.to before carry.result after) (part_is a.s.now a.at (length a.out.now) a.to begin.result.from ready) carry.ensures.carries in
-    record { fits = omega (arith, carried_within a.s.now a.at before a.to begin.result.from ready carry.result after carries, c.well-formed.0.0) }
-
-pub shape_of-row_xs : goal.shape_of-row_xs
-shape_of-row_xs c = c.carry-r.auto.row_xs
-
-pub shape_of-row_ys : goal.shape_of-row_ys
-shape_of-row_ys c = c.carry-r.auto.row_ys
-
-pub shape_of-row_cs : goal.shape_of-row_cs
-shape_of-row_cs c = c.carry-r.auto.row_cs
-
-pub shape_of-xs : goal.shape_of-xs
-shape_of-xs c = c.carry-r.auto.xs
-
-pub shape_of-ys : goal.shape_of-ys
-shape_of-ys c = c.carry-r.auto.ys
-
-pub shape_of-cs : goal.shape_of-cs
-shape_of-cs c = c.carry-r.auto.cs
-
-pub shape_of-days : goal.shape_of-days
-shape_of-days c = c.carry-r.auto.days
-
-pub shape_of-levels : goal.shape_of-levels
-shape_of-levels c = c.carry-r.auto.levels
-
-pub shape_of-heads : goal.shape_of-heads
-shape_of-heads c = c.carry-r.auto.heads
-
-pub shape_of-nexts : goal.shape_of-nexts
-shape_of-nexts c = c.carry-r.auto.nexts
-
-pub shape_of-kept : goal.shape_of-kept
-shape_of-kept c = c.carry-r.auto.kept
-
-pub shape_of-names : goal.shape_of-names
-shape_of-names c = c.carry-r.auto.names
-
-pub shape_of-lens : goal.shape_of-lens
-shape_of-lens c = c.carry-r.auto.lens
-
-pub shape_of-hashes : goal.shape_of-hashes
-shape_of-hashes c = c.carry-r.auto.hashes
-
-pub shape_of-name_heads : goal.shape_of-name_heads
-shape_of-name_heads c = c.carry-r.auto.name_heads
-
-pub shape_of-name_nexts : goal.shape_of-name_nexts
-shape_of-name_nexts c = c.carry-r.auto.name_nexts
-
-pub shape_of-out : goal.shape_of-out
-shape_of-out c = c.settle-past.auto.out ∙ c.carry-r.auto.out
+    record { fits = omega (arith, carried_within a.s.now a.at before a.to begin.result.from ready carry.result after carries, c.well_formed.0.0) }
 
 pub returns : goal.returns
 returns c = let a = c.args in
     let begin = c.begin-b in
     let carry = c.carry-r in
-    let ready = begin.ensures.when_ready c.if-not-b.false in
+    let ready = begin.ensures.when_ready (not-false _ c.if-not-b.false) in
     let before = in_hand a.counts a.xs.now a.ys.now a.cs.now a.days.now a.levels.now a.notes a.names.now a.lens.now a.out.now in
     let after = in_hand carry.result.counts carry.new.xs carry.new.ys carry.new.cs carry.new.days carry.new.levels carry.result.notes carry.new.names carry.new.lens carry.new.out in
     let carries = subst (λ (x : List ℕ). Carries x a.to before carry.result after) (part_is a.s.now a.at (length a.out.now) a.to begin.result.from ready) carry.ensures.carries in record {

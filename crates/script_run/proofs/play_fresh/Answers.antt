@@ -9,12 +9,6 @@ use Rattle.script_meaning.specs.Record.{Lent}
 use Rattle.script_meaning.specs.Whole.{Plays}
 use Rattle.script_run.proofs.Fresh.{long, hand_is, hand_fresh}
 use native.Mathlib.Omega.{arith}
-use borrow.Author.Rules.{rules}
-use Rattle.script_run.proofs.play_fresh.Reads as reads
-use Rattle.script_run.proofs.play_fresh.Lts as lts
-use Rattle.meaning.proofs.steps_alone.Reads as steps-alone-reads
-use Rattle.script_meaning.proofs.no_notes.Reads as no-notes-reads
-use Rattle.script_run.proofs.advance.Reads as advance-reads
 use Rattle.script_run.proofs.play_fresh.Goals as goal
 
 pub advance-played-requires : goal.advance-played-requires
@@ -26,9 +20,6 @@ advance-played-requires c = let rows = length-replicate RULES (pos 0) in record 
   row_xs_in_bounds_2 = omega (arith, rows, length-replicate {A = ℕ} RULES 0);
   maintained = hand_fresh c.steps_alone-counts.ensures c.no_notes-notes.ensures c.args.out.now;
 }
-
-pub shape_of-out : goal.shape_of-out
-shape_of-out c = c.advance-played.auto.out
 
 pub returns : goal.returns
 returns c = let advance = c.advance-played in

@@ -2,11 +2,6 @@
 use mathlib.Core.List.{[], ◌∷◌, ◌++◌}
 use Rattle.write.specs.Written.{decimal}
 use Rattle.values.proofs.Wrote.{wrote_both}
-use borrow.Author.Rules.{rules}
-use Rattle.script_run.proofs.put_error.Reads as reads
-use Rattle.script_run.proofs.put_error.Lts as lts
-use Rattle.write.proofs.number.Reads as number-reads
-use Rattle.write.proofs.word.Reads as word-reads
 use Rattle.script_run.proofs.put_error.Goals as goal
 
 pub returns : goal.returns

@@ -2,7 +2,6 @@
 use native.Mathlib.Omega.{arith}
 use mathlib.Core.Path.{refl}
 use Rattle.write.proofs.Decimal.{decimal_ten}
-use borrow.Author.Rules.{rules}
 use Rattle.script_run.proofs.run_script.Goals as goal
 
 pub returns-then-s-le-TEXT : goal.returns-then-s-le-TEXT

@@ -3,10 +3,6 @@ use native.Mathlib.Omega.{arith}
 use mathlib.Core.Path.{refl}
 use Rattle.write.proofs.Decimal.{decimal_ten}
 use Rattle.script_run.proofs.Room.{error_short}
-use borrow.Author.Rules.{rules}
-use Rattle.script_run.proofs.settle.Reads as reads
-use Rattle.script_run.proofs.settle.Lts as lts
-use Rattle.script_run.proofs.put_error.Reads as put-error-reads
 use Rattle.script_run.proofs.settle.Goals as goal
 
 pub put_error-requires : goal.put_error-requires
