@@ -1,17 +1,13 @@
 -- `program::answer` meets its contract: between parts the tables and the record are sound, and however the program ends from the place reached, so it ends from the start. The measure is what is left of the text.
 use Prim.Native.Nat.{ℕ, ◌-◌}
-use native.Mathlib.Omega.{arith}
-use mathlib.Core.Path.{◌≡◌, refl, ◌∙◌}
+use mathlib.Core.Path.{◌≡◌}
 use lib.ListN.{length}
-use borrow.Author.Tests.{not-true, not-false}
-use borrow.Author.Rules.{rules}
 use Rattle.script_command.specs.Carrying.{in_hand, Maintained}
 use Rattle.program.specs.Handing.{Ends}
-use Rattle.program.proofs.Handing.{cut_of, last_of, more_of, told}
 use Rattle.program.proofs.answer.Given as goal
 
-abbrev pub invariant-loop-part : goal.invariant-loop-part
-invariant-loop-part l = ((length l.row_xs ≡ length l.initial.row_xs)
+abbrev pub invariant-loop-output : goal.invariant-loop-output
+invariant-loop-output l = ((length l.row_xs ≡ length l.initial.row_xs)
     × ((length l.row_ys ≡ length l.initial.row_ys)
     × ((length l.row_cs ≡ length l.initial.row_cs)
     × ((length l.xs ≡ length l.initial.xs)
@@ -31,5 +27,5 @@ invariant-loop-part l = ((length l.row_xs ≡ length l.initial.row_xs)
     × (Maintained l.noted.names (in_hand l.held l.xs l.ys l.cs l.days l.levels l.noted l.names l.lens l.out) l.heads l.nexts l.kept l.hashes l.name_heads l.name_nexts
     × ((r : ℕ) → Ends l.s l.at (in_hand l.held l.xs l.ys l.cs l.days l.levels l.noted l.names l.lens l.out) r → Ends l.s l.initial.at (in_hand l.initial.held l.initial.xs l.initial.ys l.initial.cs l.initial.days l.initial.levels l.initial.noted l.initial.names l.initial.lens l.initial.out) r))
 
-abbrev pub decreases-loop-part : goal.decreases-loop-part
-decreases-loop-part l = length l.s - l.at
+abbrev pub decreases-loop-output : goal.decreases-loop-output
+decreases-loop-output l = length l.s - l.at

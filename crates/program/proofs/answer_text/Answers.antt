@@ -1,6 +1,5 @@
 -- `program::answer_text` meets its contract: by the length of the text.
 use native.Mathlib.Omega.{arith}
-use borrow.Author.Rules.{rules}
 use Rattle.program.proofs.answer_text.Goals as goal
 
 pub returns-then-s-le-TEXT : goal.returns-then-s-le-TEXT

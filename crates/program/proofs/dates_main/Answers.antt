@@ -4,7 +4,6 @@ use mathlib.Core.Path.{refl, subst}
 use mathlib.Core.List.{List}
 use mathlib.Core.Logic.{inl, inr}
 use Prim.Native.Nat.{ℕ}
-use borrow.Author.Rules.{rules}
 use Rattle.program.specs.Handing.{Answered}
 use Rattle.program.proofs.Handing.{whole_part}
 use Rattle.program.proofs.dates_main.Goals as goal

@@ -4,7 +4,6 @@ use native.Mathlib.Omega.{arith}
 use mathlib.Core.Path.{refl, subst}
 use lib.ListN.{length-replicate}
 use lib.IntN.{pos}
-use borrow.Author.Rules.{rules}
 use Rattle.meaning.specs.Bounds.{RULES}
 use Rattle.text.specs.Table.{TABLE}
 use Rattle.script_meaning.specs.Record.{Lent}

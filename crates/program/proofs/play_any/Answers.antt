@@ -1,10 +1,5 @@
 -- `program::play_any` meets its contract: an empty text is at its end, and any other is played.
 use Rattle.program.proofs.Bare.{bare_played}
-use native.Mathlib.Omega.{arith}
-use borrow.Author.Rules.{rules}
-use Rattle.program.proofs.play_any.Reads as reads
-use Rattle.program.proofs.play_any.Lts as lts
-use Rattle.program.proofs.play.Reads as play-reads
 use Rattle.program.proofs.play_any.Goals as goal
 
 pub returns-then-s-eq0 : goal.returns-then-s-eq0

@@ -3,7 +3,6 @@ use Prim.Native.Nat.{ℕ}
 use native.Mathlib.Omega.{arith}
 use mathlib.Core.Path.{refl}
 use lib.ListN.{length-replicate}
-use borrow.Author.Rules.{rules}
 use Rattle.meaning.specs.Bounds.{SIZE}
 use Rattle.script_run.proofs.Room.{error_short}
 use Rattle.program.proofs.refuse.Goals as goal
