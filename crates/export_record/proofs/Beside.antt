@@ -1,11 +1,11 @@
 -- The gap table among script calls: after any sequence it is right, and what else is lent comes from the same calls made without it. A script call leaves tables of as many steps as there can be, beside which
 -- every gap table is right, or it leaves what it was lent.
-use Prim.Native.Nat.{ℕ, ◌<◌}
+use Prim.Native.Nat.{ℕ}
 use native.Mathlib.Omega.{arith}
 use native.Mathlib.Decide.{ℕ_discrete}
-use mathlib.Core.Path.{◌≡◌, refl, sym, ap, subst}
+use mathlib.Core.Path.{◌≡◌, sym, ap, subst}
 use mathlib.Core.List.{List}
-use Rattle.meaning.specs.Bounds.{STEPS, YARD_STEPS, DONE, CONFLICT}
+use Rattle.meaning.specs.Bounds.{STEPS, DONE, CONFLICT}
 use Rattle.meaning.specs.Tables.{Tables}
 use Rattle.meaning.specs.Promise.{Given, First, Obeys}
 use Rattle.gaps.specs.Gaps.{Gaps, Right}

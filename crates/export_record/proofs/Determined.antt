@@ -3,7 +3,6 @@ use Prim.Native.Nat.{ℕ, ◌≤◌}
 use native.Mathlib.Omega.{arith}
 use native.Mathlib.Decide.{ℕ_discrete}
 use mathlib.Core.Path.{◌≡◌, refl, sym, ◌∙◌, ap}
-use mathlib.Core.Bool.{Bool}
 use mathlib.Core.List.{List}
 use lib.Dec.{eqb}
 use borrow.Author.Tests.{eqb-true, eq-eqb}
@@ -13,7 +12,7 @@ use Rattle.script_meaning.specs.declared.Notes.{Notes}
 use Rattle.script_meaning.specs.Record.{Lent}
 use Rattle.script_meaning.proofs.Fixing.{start_fixed, command_fixed}
 use Rattle.export_record.specs.declared.Record.{Record}
-use Rattle.export_record.specs.Records.{FlagsFit, notes_of, LentByC, seen, Fitting, start_by_c, command_by_c}
+use Rattle.export_record.specs.Records.{FlagsFit, notes_of, LentByC, seen, start_by_c, command_by_c}
 
 -- A flag that is 0 or 1 is told by whether it is 1.
 flag_told : (j k : ℕ) → j ≤ 1 → k ≤ 1 → eqb j 1 ≡ eqb k 1 → j ≡ k

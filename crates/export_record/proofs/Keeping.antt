@@ -13,7 +13,7 @@ use Rattle.script_meaning.specs.declared.Notes.{Notes}
 use Rattle.script_meaning.specs.Record.{Lent, StartRoom, ScriptRoom, ScriptSound}
 use Rattle.script_meaning.specs.Commands.{Commanded, start_meaning, command_meaning}
 use Rattle.export_record.specs.declared.Record.{Record}
-use Rattle.export_record.specs.Records.{FlagsFit, notes_of, LentByC, seen, start_by_c, command_by_c, Handed, Brought}
+use Rattle.export_record.specs.Records.{FlagsFit, notes_of, LentByC, start_by_c, command_by_c, Handed, Brought}
 use Rattle.export_record.proofs.Telling.{tell_none}
 
 abbrev noted : Tables → List ℕ → List ℕ → List ℕ → Notes → Lent

@@ -1,5 +1,5 @@
 -- The script's record as C lends it, whose flags are numbers, and what the script calls mean over it.
-use Rattle.std.specs.Prelude.{ℕ, ◌≤◌, ◌<◌, ◌≡◌, List, [], ◌∷◌, ◌⊎◌, eqb, ℤ}
+use Rattle.std.specs.Prelude.{ℕ, ◌≤◌, ◌<◌, ◌≡◌, List, ◌∷◌, ◌⊎◌, eqb, ℤ}
 use Rattle.meaning.specs.declared.Counts.{Counts}
 use Rattle.meaning.specs.Bounds.{STEPS, DONE, SHORT, DAMAGED}
 use Rattle.meaning.specs.Tables.{Tables}

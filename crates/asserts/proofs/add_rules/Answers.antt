@@ -1,5 +1,3 @@
--- `asserts::add_rules`: what adding the rows left comes to, adding all of them comes to; each turn takes the first row that is left.
--- The measure is the number of rows left.
 use mathlib.Core.Path.{refl, ◌∙◌}
 use mir.Syntax.{w32}
 use mir.ValLaws.{to_z-of_z}

@@ -1,7 +1,6 @@
 -- `export_record::brought`: the record of the notes where the number is 0, else the record as it was.
 use mathlib.Core.Path.{refl}
 use native.Mathlib.Omega.{arith}
-use borrow.Author.Rules.{rules}
 use Rattle.export_record.proofs.Keeping.{told_fits, told_says}
 use Rattle.export_record.proofs.brought.Goals as goal
 

@@ -1,5 +1,4 @@
 -- `export_record::command`: the promise of `script_calls::command` over the notes, taken to the record.
-use borrow.Author.Rules.{rules}
 use Rattle.export_record.proofs.Keeping.{command_kept}
 use Rattle.export_record.proofs.command.Goals as goal
 

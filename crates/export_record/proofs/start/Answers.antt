@@ -1,6 +1,5 @@
 -- `export_record::start`: the promise of `script_calls::start` over the notes, taken to the record.
 use mathlib.Core.Path.{refl}
-use borrow.Author.Rules.{rules}
 use Rattle.export_record.proofs.Keeping.{start_kept}
 use Rattle.export_record.proofs.start.Goals as goal
 

@@ -1,4 +1,3 @@
--- `program::answer` meets its contract: between parts the tables and the record are sound, and however the program ends from the place reached, so it ends from the start. The measure is what is left of the text.
 use native.Mathlib.Omega.{arith}
 use mathlib.Core.Path.{refl, ◌∙◌}
 use borrow.Author.Tests.{not-true, not-false}

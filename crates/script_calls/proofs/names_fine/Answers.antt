@@ -1,4 +1,3 @@
--- `script_calls::names_fine` meets its contract. The loop's invariant: every name passed is fine.
 use native.Mathlib.Omega.{arith}
 use mathlib.Core.Path.{refl}
 use borrow.Author.Count.{below_none, below_more}

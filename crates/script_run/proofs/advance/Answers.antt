@@ -1,4 +1,3 @@
--- `script_run::advance` meets its contract: a part is under way at each command. The measure is what is left of the text.
 use mathlib.Core.Path.{refl, ◌∙◌}
 use borrow.Author.Tests.{not-true, not-false}
 use Rattle.script_command.specs.Carrying.{in_hand}

@@ -1,4 +1,3 @@
--- `values::put_values` meets its contract: each turn writes one more of the names in the column, and `Going` says what is left. The measure is how many are left.
 use Prim.Native.Nat.{ℕ, ◌<◌}
 use mathlib.Core.Path.{sym, subst}
 use Rattle.values.proofs.Going.{going_last, room_pair, going_on}
