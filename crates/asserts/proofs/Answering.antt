@@ -116,11 +116,11 @@ module _
         AddsOne (rule x y c) before false (with_it after)
         × (LentChains after.steps (held_by (set levels m (counts.marks + 1))) xs' heads' nexts'
         × (packed ≡ true → AllHeld after.rules (set levels m (counts.marks + 1))))
-    one_held is after counted heads' nexts' heads_long nexts_long Now-on = (
+    one_held is after counted heads' nexts' heads_long nexts_long now_on = (
       record { held_now = λ e. holds is after counted; unfit = λ e. absurd (false≢true e); unchanged = λ e. absurd (false≢true e) },
       (
         chains_inserted (rule x y c) before (with_it after) (holds is after counted) heads nexts asked.0 good asked.1.1.1.0 asked.1.0 heads' nexts' heads_long
-            nexts_long (subst (λ (j : ℕ). ChainsNow counts.steps (plus (linked nexts) j) xs' heads' nexts') lowest Now-on),
+            nexts_long (subst (λ (j : ℕ). ChainsNow counts.steps (plus (linked nexts) j) xs' heads' nexts') lowest now_on),
         λ all. subst (λ (j : Counts). AllHeld j.rules (set levels m (counts.marks + 1))) (sym counted) (one_behind all),
       ),
     )

@@ -56,9 +56,9 @@ module _
       (heads' nexts' : List ℕ) → length heads' ≡ length heads → length nexts' ≡ length nexts →
       ChainsNow t.counts.steps (plus (linked nexts) (next t)) u.rules.firsts heads' nexts' →
       LentChains u.counts.steps (held_by u.levels) u.rules.firsts heads' nexts'
-  chains_inserted heads' nexts' heads_long nexts_long Now-on =
+  chains_inserted heads' nexts' heads_long nexts_long now_on =
       rw (ap (λ (v : Tables). v.counts.steps) now-held.rule_held)
       (lent_now t.counts.steps (plus (linked nexts) (next t)) (held_by u.levels) u.rules.firsts heads' nexts'
       (λ i on. subst (λ (l : List ℕ). held_by l i) (sym levels_are) ((with_rule_held r t i border.room below).1 (plus_same (next t) chains.only i on)))
       (λ i there. plus_same (next t) chains.on i ((with_rule_held r t i border.room below).0 (subst (λ (l : List ℕ). held_by l i) levels_are there)))
-      (omega (arith, heads_long, chains.heads_room)) (omega (arith, nexts_long, chains.nexts_room)) Now-on)
+      (omega (arith, heads_long, chains.heads_room)) (omega (arith, nexts_long, chains.nexts_room)) now_on)

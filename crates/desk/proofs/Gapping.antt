@@ -13,7 +13,7 @@ use Rattle.meaning.specs.Promise.{Given, First}
 use Rattle.meaning.specs.Calls.{with_list, rules_of, held_in, add_meaning}
 use Rattle.meaning.specs.Runs.{Call, Made}
 use Rattle.meaning.proofs.Needs.{AllMet, done_met}
-use Rattle.meaning.proofs.Needs as goal
+use Rattle.meaning.proofs.Needs as needs_of
 use Rattle.meaning.proofs.Sequences.{call_keeps}
 use Rattle.lent.specs.Lent.{tables}
 use Rattle.lent.specs.Idle.{unwatched}
@@ -38,7 +38,7 @@ module _ (counts : Counts) (xs ys : List ℕ) (cs : List ℤ) (days levels wxs w
 
 module _ (r : Rule) (t u : Tables) (l l' : List ℕ) (g : Given) (a b : Gaps) (made : Made (Call.adds r l l') t g u) (right : Right t a) (done : g.number ≡ DONE) where
   met : AllMet (add_meaning r (with_list t l)).asks
-  met = done_met DONE g.number (add_meaning r (with_list t l)).asks (goal.add_rises r (with_list t l)) made.first_unmet done
+  met = done_met DONE g.number (add_meaning r (with_list t l)).asks (needs_of.add_rises r (with_list t l)) made.first_unmet done
 
   -- The rule can be brought into the gap table.
   pub add_raisable : Raisable t.counts.steps r.first r.second r.amount a

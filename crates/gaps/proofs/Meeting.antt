@@ -14,7 +14,7 @@ use Rattle.meaning.specs.Promise.{Given, Need, needs, First, Meaning, Obeys, bar
 use Rattle.meaning.specs.Calls.{with_list, with_lists, rules_of, held_in, rule_needs, open_meaning, watch_meaning, add_meaning, mark_meaning, back_meaning, withdraw_meaning, trial_meaning, consequences_meaning, ring_check_meaning, last_day_meaning}
 use Rattle.meaning.specs.Runs.{Call, Made}
 use Rattle.meaning.proofs.Needs.{done_met, obeys_done, obeys_refused}
-use Rattle.meaning.proofs.Needs as goal
+use Rattle.meaning.proofs.Needs as needs_of
 use Rattle.meaning.proofs.Decided.{room?, sound?}
 use Rattle.meaning.proofs.Possible.{Outcome, open_possible, watch_possible, add_possible, mark_possible, back_possible, withdraw_possible, trial_possible, consequences_possible, ring_check_possible, last_day_possible}
 use Rattle.meaning.proofs.Sequences.{call_keeps, opened_kept}
@@ -82,7 +82,7 @@ open_beside_possible n t a square = by_number (ℕ_discrete o.answer.number DONE
     by_number : Dec (o.answer.number ≡ DONE) → Outcome (open_beside n (beside t a)) (beside t a)
     by_number (no nd) = goes a (λ e. absurd (nd e)) (λ z. refl)
     by_number (yes e) =
-        let met = done_met DONE o.answer.number (open_meaning n t).asks (goal.open_rises n t) o.keeps.first_unmet e in
+        let met = done_met DONE o.answer.number (open_meaning n t).asks (needs_of.open_rises n t) o.keeps.first_unmet e in
         let kept = opened_kept n t o.after o.answer.one o.answer.two met.0 met.1.0.0 met.1.0.1 (o.keeps.when_done e) in
         let (b, is) = remade_some o.after kept.sound a square in
         goes b (λ z. is) (λ z. absurd (z e))

@@ -56,7 +56,7 @@ module _ {steps last first k : ℕ} {days kept kept' : List ℕ} (passed : KeptF
 
   -- The days of one mark more are kept; the mark that had its row before is named no longer.
   pub kept_more : {kept'' : List ℕ} → first ≤ k → steps ≤ STEPS → Filed steps days last k kept' kept'' → KeptFrom steps last first (k + 1) days kept kept''
-  kept_more {kept''} from_First few f = record {
+  kept_more {kept''} from_first few f = record {
     same_length = f.same_length ∙ passed.same_length;
     older_held = λ j j-in held. passed.older_held j j-in (held_before f j (λ e. omega arith) held);
     older = λ j v j-in held v-in. days_before f j (λ e. omega arith) held v v-in ∙ passed.older j v j-in (held_before f j (λ e. omega arith) held) v-in;

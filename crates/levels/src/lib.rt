@@ -15,7 +15,7 @@ ghost use Rattle.spread.specs.Ground.{rules};
 ghost use Rattle.chains.specs.Chains.{linked, LentChains};
 ghost use Rattle.inner_back.specs.Replan.{Plannable};
 ghost use Rattle.inner_back.specs.Freeing.{Freeable};
-ghost use Rattle.levels.specs.Levels.{more_marks, row_of, LAST, Popped, InOrder, HasRow, RowNamed, KeptFor, KeptDays, KeepsDays, Copied, Filed};
+ghost use Rattle.levels.specs.Levels.{more_marks, row_of, LAST as LAST_SPEC, Popped, InOrder, HasRow, RowNamed, KeptFor, KeptDays, KeepsDays, Copied, Filed};
 
 use meaning::Counts;
 
@@ -72,7 +72,7 @@ fn keep_days(n: usize, days: &[u32], last: u32, kept: &mut [u32], k: usize)
     requires n_bound { n ≤ STEPS }
     requires in_bounds { STEPS ≤ length days.now }
     requires k_bound { k < MARKS }
-    requires k_in_bounds { row_of k + LAST < length kept.old }
+    requires k_in_bounds { row_of k + LAST_SPEC < length kept.old }
     ensures { Filed n days.now last k kept.old kept.new }
 {
     let row = row_of(k);

@@ -15,7 +15,7 @@ use Rattle.meaning.specs.Calls.{with_list, with_lists, rules_of, held_in, Watche
 use Rattle.meaning.specs.Runs.{Call, Made, Run}
 use Rattle.meaning.specs.Screen.{HeldToo, SameQuestion, SplitOf, first_list, second_list, SameScreen, NothingUnsaid}
 use Rattle.meaning.proofs.Needs.{done_met}
-use Rattle.meaning.proofs.Needs as goal
+use Rattle.meaning.proofs.Needs as needs
 use Rattle.meaning.proofs.LastDay.{largest_same}
 use Rattle.meaning.proofs.Determined.{given_eq}
 use Rattle.meaning.proofs.Lists.{all_in, rising_same, filled_length}
@@ -149,7 +149,7 @@ none_missing r t room below days = record {
 -- **Nothing is unsaid** by an accepted Add, on whatever tables: so after any sequence of calls.
 pub add_unsays_nothing : (r : Rule) (l l' : List ℕ) (t u : Tables) (g : Given) → Made (Call.adds r l l') t g u → g.number ≡ DONE → NothingUnsaid t u
 add_unsays_nothing r l l' t u g x done =
-    let met = done_met DONE g.number (add_meaning r (with_list t l)).asks (goal.add_rises r (with_list t l)) x.first_unmet done in
+    let met = done_met DONE g.number (add_meaning r (with_list t l)).asks (needs.add_rises r (with_list t l)) x.first_unmet done in
     let before : Kept t = record { sound = met.1.0; room = met.0.0 } in
     nothing_unsaid before (call_keeps (Call.adds r l l') t u g x before) (subst (NoneMissing t) (sym (x.when_done done).rule_held) (none_missing r t before.room (next_below t before.sound met.1.1.1.1.0) u.days))
 

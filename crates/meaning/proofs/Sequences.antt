@@ -14,7 +14,7 @@ use Rattle.meaning.specs.Calls.{WithList, WithLists, rules_of, held_in, rules_an
 use Rattle.meaning.specs.Runs.{Call, Made, Run, KeepsMark, Names, WithdrawnSince}
 use Rattle.meaning.proofs.Theory.{earliest_unique, earliest_same}
 use Rattle.meaning.proofs.Needs.{AllMet, done_met, all_met, first_same}
-use Rattle.meaning.proofs.Needs as goal
+use Rattle.meaning.proofs.Needs as needs
 use Rattle.meaning.proofs.LastDay.{largest_same}
 use Rattle.meaning.proofs.Determined.{given_eq}
 use Rattle.meaning.proofs.More.{more_all}
@@ -270,12 +270,12 @@ through : (P : Tables → Type 0) (c : Call) (t u : Tables) (g : Given) → Made
 through P (Call.opens n) t u g x s = by_outcome (open_meaning n t) t u g x (P u) done (λ e. absurd (x.on_conflict e).0) (stays P t u s.at_rest)
   where
     done : g.number ≡ DONE → P u
-    done e = let h = done_met DONE g.number (open_meaning n t).asks (goal.open_rises n t) x.first_unmet e in s.at_open n g.one g.two h.0 h.1.0.0 h.1.0.1 (x.when_done e)
+    done e = let h = done_met DONE g.number (open_meaning n t).asks (needs.open_rises n t) x.first_unmet e in s.at_open n g.one g.two h.0 h.1.0.0 h.1.0.1 (x.when_done e)
 through P (Call.watches r) t u g x s = by_outcome (watch_meaning r t) t u g x (P u) done (λ e. absurd (x.on_conflict e).0) (stays P t u s.at_rest)
   where
     done : g.number ≡ DONE → P u
     done e =
-        let h = done_met DONE g.number (watch_meaning r t).asks (goal.watch_rises r t) x.first_unmet e in
+        let h = done_met DONE g.number (watch_meaning r t).asks (needs.watch_rises r t) x.first_unmet e in
         s.at_watch r (record { sound = h.1.0; room = h.0 }) h.1.1.0 h.1.1.1.0 h.1.1.1.1.0 (x.when_done e).watched
 through P (Call.adds r l l') t u g x s = by_outcome (add_meaning r b) b a g x (P u) done (λ e. stays P t u s.at_rest (x.on_conflict e).0.tables_stay) (λ e. stays P t u s.at_rest (ap (λ z. z.tables) e))
   where
@@ -287,23 +287,23 @@ through P (Call.adds r l l') t u g x s = by_outcome (add_meaning r b) b a g x (P
 
     done : g.number ≡ DONE → P u
     done e =
-        let h = done_met DONE g.number (add_meaning r b).asks (goal.add_rises r b) x.first_unmet e in
+        let h = done_met DONE g.number (add_meaning r b).asks (needs.add_rises r b) x.first_unmet e in
         s.at_add r (record { sound = h.1.0; room = h.0.0 }) h.1.1.0 h.1.1.1.0 h.1.1.1.1.0 (x.when_done e).rule_held (x.when_done e).planned
 through P Call.marks t u g x s = by_outcome (mark_meaning t) t u g x (P u) done (λ e. absurd (x.on_conflict e).0) (stays P t u s.at_rest)
   where
     done : g.number ≡ DONE → P u
-    done e = let h = done_met DONE g.number (mark_meaning t).asks (goal.mark_rises t) x.first_unmet e in s.at_mark (record { sound = h.1.0; room = h.0 }) h.1.1.0 (x.when_done e).marked
+    done e = let h = done_met DONE g.number (mark_meaning t).asks (needs.mark_rises t) x.first_unmet e in s.at_mark (record { sound = h.1.0; room = h.0 }) h.1.1.0 (x.when_done e).marked
 through P Call.goes_back t u g x s = by_outcome (back_meaning t) t u g x (P u) done (λ e. absurd (x.on_conflict e).0) (stays P t u s.at_rest)
   where
     done : g.number ≡ DONE → P u
     done e =
-        let h = done_met DONE g.number (back_meaning t).asks (goal.back_rises t) x.first_unmet e in
+        let h = done_met DONE g.number (back_meaning t).asks (needs.back_rises t) x.first_unmet e in
         s.at_back (record { sound = h.1.0; room = h.0 }) h.1.1.0 (x.when_done e).dropped (x.when_done e).planned
 through P (Call.withdraws j) t u g x s = by_outcome (withdraw_meaning j t) t u g x (P u) done (λ e. absurd (x.on_conflict e).0) (stays P t u s.at_rest)
   where
     done : g.number ≡ DONE → P u
     done e =
-        let h = done_met DONE g.number (withdraw_meaning j t).asks (goal.withdraw_rises j t) x.first_unmet e in
+        let h = done_met DONE g.number (withdraw_meaning j t).asks (needs.withdraw_rises j t) x.first_unmet e in
         s.at_withdraw j refl (record { sound = h.1.0; room = h.0 }) h.1.1.0 (x.when_done e).gone (x.when_done e).planned
 through P (Call.tries r l l' m m') t u g x s =
     by_outcome
@@ -375,7 +375,7 @@ pub run_kept : (t : Tables) → Run t → Kept t
 run_kept t (Run.from_open n s g u x e) = opened_kept n s u g.one g.two h.0 h.1.0.0 h.1.0.1 (x.when_done e)
   where
     h : AllMet (open_meaning n s).asks
-    h = done_met DONE g.number (open_meaning n s).asks (goal.open_rises n s) x.first_unmet e
+    h = done_met DONE g.number (open_meaning n s).asks (needs.open_rises n s) x.first_unmet e
 run_kept t (Run.then s k c g u x) = call_keeps c s u g x (run_kept s k)
 
 -- ---- demand 3: one question splits the watched rules exactly
@@ -654,7 +654,7 @@ module _
     Lost = WithdrawnSince s.counts.marks marked t ks
 
     full : s.counts.marks < MARKS
-    full = (done_met DONE g.number (mark_meaning s).asks (goal.mark_rises s) x.first_unmet done).1.1.0
+    full = (done_met DONE g.number (mark_meaning s).asks (needs.mark_rises s) x.first_unmet done).1.1.0
 
     w : Under s t Lost
     w = under_calls s marked t k.sound (subst (λ z. Under s z (λ i. ⊥)) (sym (x.when_done done).marked) (under_mark s k full)) ks

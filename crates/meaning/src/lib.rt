@@ -2,7 +2,7 @@
 #![tactic(auto)]
 
 ghost use Rattle.std.specs.Prelude.{◌≡◌};
-ghost use Rattle.meaning.specs.Bounds.{DONE, CONFLICT};
+ghost use Rattle.meaning.specs.Bounds.{DONE as DONE_SPEC, CONFLICT as CONFLICT_SPEC};
 ghost use Rattle.meaning.specs.Tables.{steps_alone, rules_now, marks_now, watched_now, last_now};
 ghost use Rattle.meaning.specs.Promise.{reply};
 
@@ -158,7 +158,7 @@ pub struct Reply {
 
 // The call was carried out.
 pub fn done(counts: Counts, one: u32, two: u32) -> Reply
-    ensures { result ≡ reply counts DONE one two }
+    ensures { result ≡ reply counts DONE_SPEC one two }
 {
     Reply {
         counts: counts,
@@ -182,7 +182,7 @@ pub fn refused(counts: Counts, number: u32) -> Reply
 
 // The rule fits no arrangement, and a ring of so many rules says why.
 pub fn conflict(counts: Counts, length: u32) -> Reply
-    ensures { result ≡ reply counts CONFLICT length 0 }
+    ensures { result ≡ reply counts CONFLICT_SPEC length 0 }
 {
     Reply {
         counts: counts,

@@ -5,7 +5,7 @@ ghost use Rattle.std.specs.Prelude.{◌≡◌, ◌+◌, ◌-◌, ◌<◌, ◌≤
 ghost use Rattle.meaning.specs.Bounds.{STEPS, NAME_BYTES};
 ghost use Rattle.lent.specs.Decides.{Decides};
 ghost use Rattle.text.specs.Lexicon.{bytes};
-ghost use Rattle.names.specs.Names.{name_at, hash, Shelved, IndexRoom, Indexed, Linked, LinkOf, Found, FoundBelow, AllDifferent, Declared, BUCKETS};
+ghost use Rattle.names.specs.Names.{name_at, hash, Shelved, IndexRoom, Indexed, Linked, LinkOf, Found, FoundBelow, AllDifferent, Declared, BUCKETS as BUCKETS_SPEC};
 
 // How many chains the index has.
 pub const BUCKETS: usize = 256;
@@ -18,7 +18,7 @@ pub const SHELF: usize = meaning::STEPS * meaning::NAME_BYTES;
 // The hash of the bytes from place a to place b; of none where b is not past a.
 fn hash_of(s: &[u8], a: usize, b: usize) -> u16
     requires { b ≤ length s.now }
-    ensures { (result ≡ hash (bytes s.now a b)) × (result < BUCKETS) }
+    ensures { (result ≡ hash (bytes s.now a b)) × (result < BUCKETS_SPEC) }
 {
     let mut h = 0u32;
     for i in a..b {

@@ -244,12 +244,12 @@ module _ (n : ℕ) (names lens s : List ℕ) (d : ℕ) where
 
       -- Another one comes.
       pub going_on : ((token_at s j).kind ≡ CLOSE → ⊥) → k' ≤ j → Going n names lens s d i₀ k₀ f₀ start j k' f' after
-      going_on Goes-Further few =
+      going_on goes_further few =
           let one = term d s false in
           let g = fuelled.0 in
           let p = came s i (one i) (term_moves s d false i) t j is in
           let here : rest_from one G.fuel s i ≡ then (rest_from one g s j) (λ u e. Read.got (Term.also t u) e) =
-          onward ∙ goes_on (one i) _ t j is ∙ cond_false _ _ _ (ne_eqb (token_at s j).kind CLOSE Goes-Further) in
+          onward ∙ goes_on (one i) _ t j is ∙ cond_false _ _ _ (ne_eqb (token_at s j).kind CLOSE goes_further) in
           record {
             fuel = g;
             enough = omega (arith, G.enough, fuelled.1, p.0);

@@ -12,10 +12,10 @@ use Rattle.ringcheck.specs.Closing.{OnceIn, FlagIn, first_steps}
 use Rattle.ringcheck.proofs.Walk.{left_is}
 use Rattle.ringcheck.proofs.Windows.{Fresh, next_unmet, next→, →next, first_met}
 
--- What is left of the first steps from place k on is fresh in window w and in the next, where the steps met have their bits in met and in Met-next.
-pub record Left (xs list : List ℕ) (w met Met-next k : ℕ) : Type 0 where
+-- What is left of the first steps from place k on is fresh in window w and in the next, where the steps met have their bits in met and in met_next.
+pub record Left (xs list : List ℕ) (w met met_next k : ℕ) : Type 0 where
   pub here : Fresh w met (map (at xs) (drop k list))
-  pub next : Fresh (w + 1) Met-next (map (at xs) (drop k list))
+  pub next : Fresh (w + 1) met_next (map (at xs) (drop k list))
 
 -- What every number left from place k on has, the number there has, and every number left one place further.
 pub all_left : (P : ℕ → Type 0) (list : List ℕ) (k : ℕ) → k < length list → All P (drop k list) → P (at list k) × All P (drop (k + 1) list)
@@ -28,7 +28,7 @@ at_first xs list w x flag flag-next = (
   λ left. record { here = (first_met flag (map (at xs) (drop 1 list))).1 left.here; next = (first_met flag-next (map (at xs) (drop 1 list))).1 left.next },
 )
 
-module _ {xs : List ℕ} {w met Met-next : ℕ} {Sought : Type 0} (list : List ℕ) (k : ℕ) (as-left : Sought ↔ Left xs list w met Met-next k) where
+module _ {xs : List ℕ} {w met met_next : ℕ} {Sought : Type 0} (list : List ℕ) (k : ℕ) (as-left : Sought ↔ Left xs list w met met_next k) where
   -- Past the end of the list nothing is left.
   pub none_left : length list ≤ k → Sought
   none_left past = as-left.1 (record {
@@ -46,18 +46,18 @@ module _ {xs : List ℕ} {w met Met-next : ℕ} {Sought : Type 0} (list : List �
     sought_unmet sought = next_unmet flag met (map (at xs) (drop (k + 1) list)) (rw steps-are at (as-left.0 sought).here)
 
     -- nor in the next.
-    pub sought_unmet_next : Sought → bit_and Met-next f-next ≡ 0
-    sought_unmet_next sought = next_unmet flag-next Met-next (map (at xs) (drop (k + 1) list)) (rw steps-are at (as-left.0 sought).next)
+    pub sought_unmet_next : Sought → bit_and met_next f-next ≡ 0
+    sought_unmet_next sought = next_unmet flag-next met_next (map (at xs) (drop (k + 1) list)) (rw steps-are at (as-left.0 sought).next)
 
     -- Where it is not, the reading goes on one place further, with the step met.
-    pub one_further : bit_and met f ≡ 0 → bit_and Met-next f-next ≡ 0 → Sought ↔ Left xs list w (bit_or met f) (bit_or Met-next f-next) (k + 1)
+    pub one_further : bit_and met f ≡ 0 → bit_and met_next f-next ≡ 0 → Sought ↔ Left xs list w (bit_or met f) (bit_or met_next f-next) (k + 1)
     one_further unmet unmet-next = (
       λ sought. record {
         here = next→ flag met (map (at xs) (drop (k + 1) list)) (rw steps-are at (as-left.0 sought).here);
-        next = next→ flag-next Met-next (map (at xs) (drop (k + 1) list)) (rw steps-are at (as-left.0 sought).next);
+        next = next→ flag-next met_next (map (at xs) (drop (k + 1) list)) (rw steps-are at (as-left.0 sought).next);
       },
       λ further. as-left.1 (record {
         here = rw steps-are (→next flag met (map (at xs) (drop (k + 1) list)) unmet further.here);
-        next = rw steps-are (→next flag-next Met-next (map (at xs) (drop (k + 1) list)) unmet-next further.next);
+        next = rw steps-are (→next flag-next met_next (map (at xs) (drop (k + 1) list)) unmet-next further.next);
       }),
     )

@@ -2,7 +2,7 @@
 #![tactic(auto)]
 
 ghost use Rattle.std.specs.Prelude.{◌≡◌, ◌≤◌};
-ghost use Rattle.meaning.specs.Bounds.{STEPS};
+ghost use Rattle.meaning.specs.Bounds.{STEPS as STEPS_SPEC};
 ghost use Rattle.script_meaning.specs.Record.{no_notes};
 ghost use Rattle.script_meaning.specs.Effect.{forgotten, at_level, one_named, logic_set, sat_told};
 
@@ -54,7 +54,7 @@ pub fn at_level(notes: Notes, broken: u32) -> Notes
 
 // The same, with one name more.
 pub fn one_named(notes: Notes) -> Notes
-    requires { notes.names ≤ STEPS }
+    requires { notes.names ≤ STEPS_SPEC }
     ensures { result ≡ one_named notes }
 {
     Notes {

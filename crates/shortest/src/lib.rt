@@ -14,7 +14,7 @@ ghost use Rattle.lent.specs.Decides.{Decides};
 ghost use Rattle.lent.specs.Lent.{Dated, KeptAt};
 ghost use Rattle.chains.specs.Chains.{ChainsOf, number, linked};
 ghost use Rattle.shortest.specs.Layers.{Begun, Fitting, Lowest};
-ghost use Rattle.shortest.specs.Clauses.{rules, spares, from, FAR, Kept, Leading, Chained, GROUP, NoneBelow, NoneIs, Skipped, AllSet, Copied, Copyable, Lowered, LoweredNear, FollowedBy, SpareIs, Passed, Raised, Advanced, FitsHere, Pickable, UpperPart, Share, Descendable, Descended, Traceable, Traced, Seekable, Fewest, Within, Entered, Spread, Widened, Levelled, Settled, Deepened, Refuted, ReasonIn};
+ghost use Rattle.shortest.specs.Clauses.{rules, spares, from, FAR as FAR_SPEC, Kept, Leading, Chained, GROUP as GROUP_SPEC, NoneBelow, NoneIs, Skipped, AllSet, Copied, Copyable, Lowered, LoweredNear, FollowedBy, SpareIs, Passed, Raised, Advanced, FitsHere, Pickable, UpperPart, Share, Descendable, Descended, Traceable, Traced, Seekable, Fewest, Within, Entered, Spread, Widened, Levelled, Settled, Deepened, Refuted, ReasonIn};
 
 // So many layers are kept at once: the one that is worked in, and as many more as `CAP` is a power of `SHARE`, and one.
 const LAYERS: usize = 5;
@@ -76,8 +76,8 @@ fn begin(n: usize, x: usize, t: u64, cells: &mut [u32])
 
 // Whether no cell of the group from place a on is below t.
 fn none_below(t: u32, a: usize, cells: &[u32]) -> bool
-    requires { a + GROUP ≤ length cells.now }
-    ensures { result ≡ true → NoneBelow t a GROUP cells.now }
+    requires { a + GROUP_SPEC ≤ length cells.now }
+    ensures { result ≡ true → NoneBelow t a GROUP_SPEC cells.now }
 {
     let mut least = t;
     for j in 0..GROUP {
@@ -108,8 +108,8 @@ fn skip_high(n: usize, t: u64, u: usize, a: usize, cells: &[u32]) -> usize
 
 // Whether no number of the group from place a on is the key.
 fn none_is(key: u16, a: usize, list: &[u16]) -> bool
-    requires { a + GROUP ≤ length list.now }
-    ensures { result ≡ true → NoneIs key a GROUP list.now }
+    requires { a + GROUP_SPEC ≤ length list.now }
+    ensures { result ≡ true → NoneIs key a GROUP_SPEC list.now }
 {
     let mut found = false;
     for j in 0..GROUP {
@@ -662,7 +662,7 @@ fn enter(
 )
     requires dated { Dated xs.now ys.now cs.now days.now i }
     requires kept_at { KeptAt xs.now ys.now cs.now days.now i }
-    requires level_bound { level + 1 < FAR }
+    requires level_bound { level + 1 < FAR_SPEC }
     requires i_in_bounds { at ys.now i < length depths.old }
     ensures { Entered xs.now ys.now cs.now days.now t level i depths.old depths.new }
 {
@@ -691,7 +691,7 @@ fn spread(
     depths: &mut [u16],
 )
     requires leading { Leading n (linked nexts.now) number xs.now ys.now cs.now days.now heads.now nexts.now }
-    requires level_bound { level + 1 < FAR }
+    requires level_bound { level + 1 < FAR_SPEC }
     requires v_lt_n { v < n }
     requires n_in_bounds { n ≤ length depths.old }
     ensures { Spread (linked nexts.now) xs.now ys.now cs.now days.now t level v depths.old depths.new }
@@ -721,7 +721,7 @@ fn widen(
     depths: &mut [u16],
 )
     requires leading { Leading n (linked nexts.now) number xs.now ys.now cs.now days.now heads.now nexts.now }
-    requires level_bound { level + 1 < FAR }
+    requires level_bound { level + 1 < FAR_SPEC }
     requires n_in_bounds { n ≤ length depths.old }
     ensures { Widened (linked nexts.now) xs.now ys.now cs.now days.now t level depths.old depths.new }
 {
@@ -750,7 +750,7 @@ fn levels(
     requires x_lt_n { x < n }
     requires y_lt_n { y < n }
     requires n_in_bounds { n ≤ length depths.old }
-    requires by_index { (v : ℕ) → v < n → at depths.old v ≡ FAR }
+    requires by_index { (v : ℕ) → v < n → at depths.old v ≡ FAR_SPEC }
     ensures upper_bound { result ≤ n }
     ensures levelled { Levelled n (linked nexts.now) xs.now ys.now cs.now days.now t y result depths.new }
 {
@@ -768,7 +768,7 @@ fn levels(
 
 // Gives all steps below n that lie deeper than the level the depth after it.
 fn settle(n: usize, level: usize, depths: &mut [u16])
-    requires level_bound { level + 1 < FAR }
+    requires level_bound { level + 1 < FAR_SPEC }
     requires n_in_bounds { n ≤ length depths.old }
     ensures { Settled n level depths.old depths.new }
 {
@@ -797,7 +797,7 @@ fn deepen(
     requires x_lt_n { x < n }
     requires y_lt_n { y < n }
     requires n_in_bounds { n ≤ length depths.old }
-    requires by_index { (v : ℕ) → v < n → at depths.old v ≡ FAR }
+    requires by_index { (v : ℕ) → v < n → at depths.old v ≡ FAR_SPEC }
     ensures { Deepened n (linked nexts.now) xs.now ys.now cs.now days.now t y depths.new }
 {
     let level = levels(n, xs, ys, cs, days, heads, nexts, t, x, y, depths);

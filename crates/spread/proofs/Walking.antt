@@ -51,7 +51,7 @@ pub room_kept :
     (n : ℕ) (gains by list places leaders gains' by' list' places' leaders' : List ℕ) → length gains' ≡ length gains → length by' ≡ length by →
     length list' ≡ length list → length places' ≡ length places → length leaders' ≡ length leaders → StepsRoom n gains by list places leaders →
     StepsRoom n gains' by' list' places' leaders'
-room_kept n gains by list places leaders gains' by' list' places' leaders' gains-same by_same List-same places_same leaders-same room = record {
+room_kept n gains by list places leaders gains' by' list' places' leaders' gains-same by_same list_same places_same leaders-same room = record {
   room = record {
     few = room.room.few;
     gains_room = omega (arith, room.room.gains_room);

@@ -10,7 +10,7 @@ ghost use Rattle.lent.specs.Idle.{unwatched};
 ghost use Rattle.lent.specs.Promises.{Border};
 ghost use Rattle.lent.specs.Decides.{Decides};
 ghost use Rattle.gaps.specs.Gaps.{cell, InYard, Right, Remade};
-ghost use Rattle.gaps.specs.Slacks.{NONE, Near, SmallerOf, Raised};
+ghost use Rattle.gaps.specs.Slacks.{NONE as NONE_SPEC, Near, SmallerOf, Raised};
 ghost use Rattle.yard.specs.Cells.{limit};
 ghost use Rattle.yard.specs.Squares.{way, RowBounded, Bounded, RowStaged, Closed};
 ghost use Rattle.yard.specs.Tables.{Made, TableMade, Blank, Leasable, Least, Slackable, SlackOf, RowKept, RowSlack, Single, Fresh, Agrees, SameRow};
@@ -34,7 +34,7 @@ type Limits = [i64; meaning::YARD_STEPS];
 
 // The row with the ways that begin with `base` and go on by the row `via`.
 fn stage_row(base: u64, via: Row, row: Row) -> Row
-    requires base_bound { base ≤ NONE }
+    requires base_bound { base ≤ NONE_SPEC }
     requires row_bounded { RowBounded via }
     ensures { RowStaged base via row result }
 {
@@ -115,7 +115,7 @@ fn least(m: usize, xs: &[u16], ys: &[u16], cs: &[i32], levels: &[u8]) -> Square
 // The slack of a pair whose least amount is w, counted from BIAS below 0, where its steps have the days dx, counted so too, and dy.
 fn slack_of(w: u64, dx: u64, dy: u64) -> u64
     requires dy_bound { dy < 4294967296 }
-    requires dx_bound { w < NONE → dx ≤ dy + w }
+    requires dx_bound { w < NONE_SPEC → dx ≤ dy + w }
     ensures { SlackOf w dx dy result }
 {
     if NONE <= w {
