@@ -5,7 +5,7 @@
 # and run under an emulator.
 
 # The crate whose archive holds the exported entry, and the one whose archive holds the program as one function; and where the archives stand, for x86-64.
-ENTRY=exports
+ENTRY=exports_c
 PROGRAM=program_c
 ARCHIVE=target/staticlib/libexports.a
 PROGRAM_ARCHIVE=target/staticlib/libprogram.a

@@ -26,8 +26,8 @@ tree=$work/tree
 mkdir -p "$tree/tools" "$tree/host/c" "$work/bin"
 cp dates "$tree/" && cp tools/build "$tree/tools/" && cp host/tools.sh "$tree/host/" && cp host/c/bare.c "$tree/host/c/" && cp -r include examples "$tree/" ||
     stop "no copy of the command"
-printf '%s\n' '# Words.' 'meaning:' 'lent: meaning # here too' 'text:' 'export_record: lent' 'exports staticlib: export_record' 'program: lent text' 'program_c staticlib: program' 'dates: program' >"$tree/crates.txt"
-for crate in meaning lent text export_record exports program program_c dates; do mkdir -p "$tree/crates/$crate/src" && echo one >"$tree/crates/$crate/src/lib.rt"; done
+printf '%s\n' '# Words.' 'meaning:' 'lent: meaning # here too' 'text:' 'export_record: lent' 'exports: export_record' 'exports_c staticlib: exports' 'program: lent text' 'program_c staticlib: program' 'dates: program' >"$tree/crates.txt"
+for crate in meaning lent text export_record exports exports_c program program_c dates; do mkdir -p "$tree/crates/$crate/src" && echo one >"$tree/crates/$crate/src/lib.rt"; done
 cat >"$work/bin/rt" <<STANDIN
 #!/usr/bin/env bash
 case \$1 in
@@ -48,7 +48,7 @@ if [ "\${DO:-}" = refuse ]; then
 fi
 case \$crate in
 program_c) crates='meaning lent text program' ;;
-exports) crates='meaning lent export_record' ;;
+exports_c) crates='meaning lent export_record exports' ;;
 *) exit 2 ;;
 esac
 for below in \$crates \$crate; do
@@ -70,7 +70,7 @@ for below in \$crates \$crate; do
     cp ../\$below/src/lib.rt ../\$below/out/stamp
 done
 case \$crate in
-exports) echo archive >out/libexports.a ;;
+exports_c) echo archive >out/libexports_c.a ;;
 *) if [ "\${DO:-}" = other ]; then cp '$work/other.a' out/libprogram_c.a; else cp '$PWD/$PROGRAM_ARCHIVE' out/libprogram_c.a; fi ;;
 esac
 STANDIN
@@ -159,11 +159,12 @@ other_kit() { sed -i '2s/.*/another kit/' "$tree/$PROGRAM_ARCHIVE.key" && "$tree
 one "and where another toolchain made the archive" other_kit
 builds_library() {
     "$tree/tools/build" library 2>"$work/err" && seconds_off | diff - <(
-        echo 'dates: proving and building, 4 crates; this takes minutes the first time'
-        echo 'dates: 1 of 4: meaning is proved since before'
-        echo 'dates: 2 of 4: lent is proved since before'
-        echo 'dates: 3 of 4: export_record proved (N s)'
-        echo 'dates: 4 of 4: exports proved, and its archive written'
+        echo 'dates: proving and building, 5 crates; this takes minutes the first time'
+        echo 'dates: 1 of 5: meaning is proved since before'
+        echo 'dates: 2 of 5: lent is proved since before'
+        echo 'dates: 3 of 5: export_record proved (N s)'
+        echo 'dates: 4 of 5: exports proved (N s)'
+        echo 'dates: 5 of 5: exports_c proved, and its archive written'
         echo 'dates: proved and built in N s'
     ) && called 4 && answers "$tree/dates" "$season"
 }
@@ -171,7 +172,7 @@ one "the library is built beside the program" builds_library
 library_is_there() { touch "$tree/crates/lent/src/lib.rt" && "$tree/tools/build" library 2>"$work/err" && diff "$work/err" /dev/null && called 4; }
 one "and not again where no source has changed" library_is_there
 for_arm() {
-    "$tree/tools/build" arm 2>"$work/err" && called 6 && [ "$(tail -n 2 "$work/called")" = $'lib --target aarch64-unknown-linux-gnu program_c\nlib --target aarch64-unknown-linux-gnu exports' ] &&
+    "$tree/tools/build" arm 2>"$work/err" && called 6 && [ "$(tail -n 2 "$work/called")" = $'lib --target aarch64-unknown-linux-gnu program_c\nlib --target aarch64-unknown-linux-gnu exports_c' ] &&
         [ -f "$tree/target/staticlib/aarch64/libprogram.a" ] && [ -f "$tree/target/staticlib/aarch64/libexports.a" ] && answers "$tree/dates" "$season"
 }
 one "both archives for Arm are made, beside the others" for_arm

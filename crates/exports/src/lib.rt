@@ -1,4 +1,5 @@
-// What others link: the whole script, and every call, exported. Each call is over records that C lends, gives its number back, and its values through references.
+// What others call: the whole script, and every call. Each call is over records that C lends, gives its number back, and its values through references. The crate exports_c
+// exports them.
 #![tactic(auto)]
 
 ghost use Rattle.std.specs.Prelude.{List, ℕ};
@@ -12,8 +13,7 @@ use gaps::Gaps;
 use meaning::Counts;
 
 // Runs the script and writes all answers into out; `written` is how many bytes they are. It gives back the refusal's number, 0 where there was none.
-#[unsafe(no_mangle)]
-pub extern "C" fn dates_run_script(script: &[u8], out: &mut [u8], written: &mut usize) -> u32
+pub fn dates_run_script(script: &[u8], out: &mut [u8], written: &mut usize) -> u32
     ensures { RunsScript script.now out.old result written.new out.new }
 {
     let ran = script_run::run_script(script, out);
@@ -22,8 +22,7 @@ pub extern "C" fn dates_run_script(script: &[u8], out: &mut [u8], written: &mut 
 }
 
 // Open: its number; the counts are brought up to date.
-#[unsafe(no_mangle)]
-pub extern "C" fn dates_open(
+pub fn dates_open(
     counts: &mut Counts,
     xs: &[u16],
     ys: &[u16],
@@ -46,8 +45,7 @@ pub extern "C" fn dates_open(
 }
 
 // Watch: its number; the counts are brought up to date.
-#[unsafe(no_mangle)]
-pub extern "C" fn dates_watch(
+pub fn dates_watch(
     counts: &mut Counts,
     xs: &[u16],
     ys: &[u16],
@@ -72,8 +70,7 @@ pub extern "C" fn dates_watch(
 }
 
 // Mark: its number; the counts are brought up to date.
-#[unsafe(no_mangle)]
-pub extern "C" fn dates_mark(
+pub fn dates_mark(
     counts: &mut Counts,
     xs: &[u16],
     ys: &[u16],
@@ -93,8 +90,7 @@ pub extern "C" fn dates_mark(
 }
 
 // Back: its number; the counts are brought up to date.
-#[unsafe(no_mangle)]
-pub extern "C" fn dates_back(
+pub fn dates_back(
     counts: &mut Counts,
     xs: &[u16],
     ys: &[u16],
@@ -114,8 +110,7 @@ pub extern "C" fn dates_back(
 }
 
 // Withdraw: its number; the counts are brought up to date.
-#[unsafe(no_mangle)]
-pub extern "C" fn dates_withdraw(
+pub fn dates_withdraw(
     counts: &mut Counts,
     xs: &[u16],
     ys: &[u16],
@@ -138,8 +133,7 @@ pub extern "C" fn dates_withdraw(
 }
 
 // Add: its number; `value` is how many steps moved, on CONFLICT the ring's length, else 0; the counts are brought up to date.
-#[unsafe(no_mangle)]
-pub extern "C" fn dates_add(
+pub fn dates_add(
     counts: &mut Counts,
     xs: &mut [u16],
     ys: &mut [u16],
@@ -167,8 +161,7 @@ pub extern "C" fn dates_add(
 }
 
 // Trial: its number; `value` is how many steps would move, on CONFLICT the ring's length, else 0.
-#[unsafe(no_mangle)]
-pub extern "C" fn dates_trial(
+pub fn dates_trial(
     counts: &Counts,
     xs: &[u16],
     ys: &[u16],
@@ -196,8 +189,7 @@ pub extern "C" fn dates_trial(
 }
 
 // Consequences: its number; `held` is how many watched rules hold in every arrangement, `excluded` how many in none, both 0 on a refusal.
-#[unsafe(no_mangle)]
-pub extern "C" fn dates_consequences(
+pub fn dates_consequences(
     counts: &Counts,
     xs: &[u16],
     ys: &[u16],
@@ -224,8 +216,7 @@ pub extern "C" fn dates_consequences(
 }
 
 // Ring check: its number; `verdict` is 1 where the list is such a ring, and 0 where it is not or on a refusal.
-#[unsafe(no_mangle)]
-pub extern "C" fn dates_ring_check(
+pub fn dates_ring_check(
     counts: &Counts,
     xs: &[u16],
     ys: &[u16],
@@ -252,8 +243,7 @@ pub extern "C" fn dates_ring_check(
 }
 
 // Last day: its number; `day` is the largest day of the plan, and 0 on a refusal.
-#[unsafe(no_mangle)]
-pub extern "C" fn dates_last_day(
+pub fn dates_last_day(
     counts: &Counts,
     xs: &[u16],
     ys: &[u16],
@@ -274,8 +264,7 @@ pub extern "C" fn dates_last_day(
 }
 
 // Gap: its number; `limited` is 1 and `limit` the limit of the pair x, y, or both are 0 where there is none; both are 0 on a refusal.
-#[unsafe(no_mangle)]
-pub extern "C" fn dates_gap(
+pub fn dates_gap(
     counts: &Counts,
     xs: &[u16],
     ys: &[u16],
@@ -300,8 +289,7 @@ pub extern "C" fn dates_gap(
 }
 
 // Start: its number; the counts are brought up to date, and the record is emptied.
-#[unsafe(no_mangle)]
-pub extern "C" fn dates_start(
+pub fn dates_start(
     counts: &mut Counts,
     kept: &mut Record,
     xs: &[u16],
@@ -331,8 +319,7 @@ pub extern "C" fn dates_start(
 }
 
 // Command: its number; `read` and `written` are the bytes read and the bytes written, both 0 on a refusal; the counts and the record are brought up to date.
-#[unsafe(no_mangle)]
-pub extern "C" fn dates_command(
+pub fn dates_command(
     text: &[u8],
     counts: &mut Counts,
     kept: &mut Record,
