@@ -49,8 +49,8 @@ kind_room Kind.Exit m n = []
 
 -- They are those of the command.
 mode_of_kind : (c : Command) (l : Lent) (g : ℕ) → First (kind_mode (kind_of c) l.notes) g → First (mode_needs c l) g
-mode_of_kind Command.set-logic l g h = h
-mode_of_kind Command.check-sat l g h = h
+mode_of_kind Command.set_logic l g h = h
+mode_of_kind Command.check_sat l g h = h
 mode_of_kind Command.exit l g h = h
 mode_of_kind (Command.declare w) l g h = h
 mode_of_kind (Command.assert t) l g h = h
@@ -74,8 +74,8 @@ uncut n most small h = by_size (dec_le n 10000000)
         absurd (omega arith)
 
 room_of_kind : (c : Command) (l : Lent) (g : ℕ) → l.tables.counts.marks ≤ MARKS → First (kind_room (kind_of c) l.tables.counts l.notes) g → First (room_needs c l) g
-room_of_kind Command.set-logic l g few h = h
-room_of_kind Command.check-sat l g few h = h
+room_of_kind Command.set_logic l g few h = h
+room_of_kind Command.check_sat l g few h = h
 room_of_kind Command.exit l g few h = h
 room_of_kind (Command.declare w) l g few h = h
 room_of_kind (Command.assert t) l g few h = h

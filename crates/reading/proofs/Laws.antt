@@ -30,8 +30,8 @@ pub record NewName (s : List ℕ) (w : Piece) : Type 0 where
   pub letters_are : bytes s w.place (w.place + length w.letters) ≡ w.letters
 
 abbrev Facts : List ℕ → Command → Type 0
-Facts s Command.set-logic = Unit {0}
-Facts s Command.check-sat = Unit {0}
+Facts s Command.set_logic = Unit {0}
+Facts s Command.check_sat = Unit {0}
 Facts s Command.exit = Unit {0}
 Facts s (Command.declare w) = NewName s w
 Facts s (Command.assert t) = Supported false t
@@ -145,12 +145,12 @@ module _ (s : List ℕ) where
       (λ h. by_test _ (same_bytes w W_declare_fun) _ _
       (λ h. by_then (λ x a. NewName s x) _ (expect_name s i) _ (name_says i) (λ x a k.
       next F (expect OPEN s a) _ (λ _ b. next F (expect CLOSE s b) _ (λ _ c. next F (expect_word W_Int s c) _ (λ _ d. close F (Command.declare x) d k)))))
-      (λ h. by_test _ (same_bytes w W_check_sat) _ _ (λ h. close F Command.check-sat i tt)
+      (λ h. by_test _ (same_bytes w W_check_sat) _ _ (λ h. close F Command.check_sat i tt)
       (λ h. by_test _ (same_bytes w W_push) _ _ (λ h. next F (expect NUMERAL s i) _ (λ n j. close F (Command.push n) j tt))
       (λ h. by_test _ (same_bytes w W_pop) _ _ (λ h. next F (expect NUMERAL s i) _ (λ n j. close F (Command.pop n) j tt))
       (λ h. by_test _ (same_bytes w W_get_value) _ _
       (λ h. next F (expect OPEN s i) _ (λ _ a. by_then (λ ws b. (1 ≤ length ws) × (0 + length ws ≤ ASKED)) _ (asked s a) _ (names_say (suc (length s)) 0 a) (λ ws b k. close F (Command.get_value ws) b (k.0, omega (arith, k.1)))))
-      (λ h. by_test _ (same_bytes w W_set_logic) _ _ (λ h. next F (expect_word W_QF_IDL s i) _ (λ _ j. close F Command.set-logic j tt))
+      (λ h. by_test _ (same_bytes w W_set_logic) _ _ (λ h. next F (expect_word W_QF_IDL s i) _ (λ _ j. close F Command.set_logic j tt))
       (λ h. by_test _ (same_bytes w W_exit) _ _ (λ h. close F Command.exit i tt) (λ h. stop F _ _))))))))
 
   reading_says : Says (Facts s) (bracketed s)

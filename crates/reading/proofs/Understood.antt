@@ -229,10 +229,10 @@ module _ (s : List ℕ) where
   -- The command that its name heads, where its closing bracket follows.
   headed_read : (c : Command) (p i e : ℕ) → Spells s i (spelt_inside c ++ (Sign.closes ∷ [])) e → Within c → headed (lexeme s (token_at s i)) p s (past s i) ≡ Read.got c e
   unfolding same_bytes
-  headed_read Command.set-logic p i e h fine =
+  headed_read Command.set_logic p i e h fine =
       let a = past s i in
-      ap (λ (w : List ℕ). headed w p s a) h.0.1 ∙ on_word a _ _ W_QF_IDL h.1.0 (on_close Command.set-logic (past s a) e h.1.1)
-  headed_read Command.check-sat p i e h fine = ap (λ (w : List ℕ). headed w p s (past s i)) h.0.1 ∙ on_close Command.check-sat (past s i) e h.1
+      ap (λ (w : List ℕ). headed w p s a) h.0.1 ∙ on_word a _ _ W_QF_IDL h.1.0 (on_close Command.set_logic (past s a) e h.1.1)
+  headed_read Command.check_sat p i e h fine = ap (λ (w : List ℕ). headed w p s (past s i)) h.0.1 ∙ on_close Command.check_sat (past s i) e h.1
   headed_read Command.exit p i e h fine = ap (λ (w : List ℕ). headed w p s (past s i)) h.0.1 ∙ on_close Command.exit (past s i) e h.1
   headed_read (Command.declare x) p i e h fine =
       let a = past s i in
@@ -264,8 +264,8 @@ module _ (s : List ℕ) where
 
   -- A command's name is a symbol.
   head_symbol : (c : Command) (m : List Sign) (i e : ℕ) → Spells s i (spelt_inside c ++ m) e → (token_at s i).kind ≡ SYMBOL
-  head_symbol Command.set-logic m i e h = h.0.0
-  head_symbol Command.check-sat m i e h = h.0.0
+  head_symbol Command.set_logic m i e h = h.0.0
+  head_symbol Command.check_sat m i e h = h.0.0
   head_symbol Command.exit m i e h = h.0.0
   head_symbol (Command.declare x) m i e h = h.0.0
   head_symbol (Command.assert t) m i e h = h.0.0

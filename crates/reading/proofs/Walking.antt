@@ -182,11 +182,11 @@ module _ (s : List ℕ) (R : Bool → ℕ → ℕ → Type 0) (W : Walk s R) whe
   headed_walks w p i =
       by_test _ (same_bytes w W_assert) _ _ (λ h. after true i (term _ s false i) _ (term_walks _ false i) (λ t j. closed_walks (Command.assert t) j))
       (λ h. by_test _ (same_bytes w W_declare_fun) _ _ (λ h. declared_walks i)
-      (λ h. by_test _ (same_bytes w W_check_sat) _ _ (λ h. closed_walks Command.check-sat i)
+      (λ h. by_test _ (same_bytes w W_check_sat) _ _ (λ h. closed_walks Command.check_sat i)
       (λ h. by_test _ (same_bytes w W_push) _ _ (λ h. after true i (expect NUMERAL s i) _ (numeral_walks i) (λ n j. closed_walks (Command.push n) j))
       (λ h. by_test _ (same_bytes w W_pop) _ _ (λ h. after true i (expect NUMERAL s i) _ (numeral_walks i) (λ n j. closed_walks (Command.pop n) j))
       (λ h. by_test _ (same_bytes w W_get_value) _ _ (λ h. asked_walks i)
-      (λ h. by_test _ (same_bytes w W_set_logic) _ _ (λ h. after true i (expect_word W_QF_IDL s i) _ (word_walks W_QF_IDL i) (λ _ j. closed_walks Command.set-logic j))
+      (λ h. by_test _ (same_bytes w W_set_logic) _ _ (λ h. after true i (expect_word W_QF_IDL s i) _ (word_walks W_QF_IDL i) (λ _ j. closed_walks Command.set_logic j))
       (λ h. by_test _ (same_bytes w W_exit) _ _ (λ h. closed_walks Command.exit i) (λ h. stop true i _ _))))))))
 
   -- A command: the opening bracket at the text's start, and the way from there past the bracket that closes it.

@@ -54,8 +54,8 @@ pub record Rowed (n : ℕ) (names lens : List ℕ) (rs : List Named) (k f : ℕ)
 
 -- The command as numbers: the ends of the name that it declares, how many rules or names it has, how many levels it opens or closes.
 abbrev pub kind_of : Command → Kind
-kind_of Command.set-logic = Kind.SetLogic
-kind_of Command.check-sat = Kind.CheckSat
+kind_of Command.set_logic = Kind.SetLogic
+kind_of Command.check_sat = Kind.CheckSat
 kind_of Command.exit = Kind.Exit
 kind_of (Command.declare w) = Kind.Declare w.place (w.place + length w.letters)
 kind_of (Command.assert t) = Kind.Assert (length (rules_of_term false t))
@@ -65,8 +65,8 @@ kind_of (Command.get_value ws) = Kind.GetValue (length ws)
 
 -- The rows have the rules of an asserted term, where there is a place for each, or the steps of the names asked for.
 abbrev pub Holding : (List ℕ → ℕ) → Command → Columns → Type 0
-Holding S Command.set-logic rows = Unit {0}
-Holding S Command.check-sat rows = Unit {0}
+Holding S Command.set_logic rows = Unit {0}
+Holding S Command.check_sat rows = Unit {0}
 Holding S Command.exit rows = Unit {0}
 Holding S (Command.declare w) rows = Unit {0}
 Holding S (Command.assert t) rows = length (rules_of_term false t) ≤ length rows.firsts → Laid rows 0 (map (resolved S) (rules_of_term false t))

@@ -123,11 +123,11 @@ abbrev pub headed : List ℕ → ℕ → List ℕ → ℕ → Read Command
 headed w p s i =
     cond (same_bytes w W_assert) (then (term DEPTH s false i) (λ t j. closed s (Command.assert t) j))
     (cond (same_bytes w W_declare_fun) (declared s i)
-    (cond (same_bytes w W_check_sat) (closed s Command.check-sat i)
+    (cond (same_bytes w W_check_sat) (closed s Command.check_sat i)
     (cond (same_bytes w W_push) (then (expect NUMERAL s i) (λ n j. closed s (Command.push n) j))
     (cond (same_bytes w W_pop) (then (expect NUMERAL s i) (λ n j. closed s (Command.pop n) j))
     (cond (same_bytes w W_get_value) (then (expect OPEN s i) (λ _ a. then (asked s a) (λ ws b. closed s (Command.get_value ws) b)))
-    (cond (same_bytes w W_set_logic) (then (expect_word W_QF_IDL s i) (λ _ j. closed s Command.set-logic j))
+    (cond (same_bytes w W_set_logic) (then (expect_word W_QF_IDL s i) (λ _ j. closed s Command.set_logic j))
     (cond (same_bytes w W_exit) (closed s Command.exit i) (Read.stop Why.other p))))))))
 
 -- The command after its opening bracket, which is the first token. It is headed by a symbol or reserved word.

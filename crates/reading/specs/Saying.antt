@@ -36,8 +36,8 @@ name_needs K (w ∷ ws) = needs NAME (K w.letters) ∷ name_needs K ws
 
 -- What a command needs of its names and amounts: a new name is not declared yet, every other is; the amounts of the rules are within bounds.
 abbrev pub said_needs : (List ℕ → Type 0) → Command → List Need
-said_needs K Command.set-logic = []
-said_needs K Command.check-sat = []
+said_needs K Command.set_logic = []
+said_needs K Command.check_sat = []
 said_needs K Command.exit = []
 said_needs K (Command.declare w) = needs NAME (K w.letters → ⊥) ∷ []
 said_needs K (Command.assert t) = term_needs K (rules_of_term false t)

@@ -32,8 +32,8 @@ spelt_names (w ∷ ws) = Sign.name w ∷ spelt_names ws
 
 -- What stands in a command after its opening bracket.
 abbrev pub spelt_inside : Command → List Sign
-spelt_inside Command.set-logic = Sign.word W_set_logic ∷ Sign.word W_QF_IDL ∷ []
-spelt_inside Command.check-sat = Sign.word W_check_sat ∷ []
+spelt_inside Command.set_logic = Sign.word W_set_logic ∷ Sign.word W_QF_IDL ∷ []
+spelt_inside Command.check_sat = Sign.word W_check_sat ∷ []
 spelt_inside Command.exit = Sign.word W_exit ∷ []
 spelt_inside (Command.declare w) = Sign.word W_declare_fun ∷ Sign.name w ∷ Sign.opens ∷ Sign.closes ∷ Sign.word W_Int ∷ []
 spelt_inside (Command.assert t) = Sign.word W_assert ∷ spelt t
@@ -74,8 +74,8 @@ Formed rest (Term.also t u) = (rest ≡ true) × (Formed false t × Formed true 
 
 -- A command within the limits: its term is not too deep and has no `and` under an odd number of `not`; it asks for one name or more, and not too many.
 abbrev pub Within : Command → Type 0
-Within Command.set-logic = Unit {0}
-Within Command.check-sat = Unit {0}
+Within Command.set_logic = Unit {0}
+Within Command.check_sat = Unit {0}
 Within Command.exit = Unit {0}
 Within (Command.declare w) = NameFine w
 Within (Command.assert t) = Formed false t × ((depth t ≤ DEPTH) × Supported false t)

@@ -81,7 +81,7 @@ Supported odd (also t u) = (odd ≡ false) × (Supported odd t × Supported odd 
 
 -- The listed commands.
 pub data Command : Type 0 where
-  set-logic check-sat exit : Command
+  set_logic check_sat exit : Command
   declare : (name : Piece) → Command
   assert : (term : Term) → Command
   push pop : (levels : Piece) → Command

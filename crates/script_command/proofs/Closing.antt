@@ -91,8 +91,8 @@ command_read (Read.stop Why.size i) is = absurd (omega (arith, is))
 
 -- The kind of exit is that of exit alone.
 exit_kind : (d : Command) (i : ℕ) → is_exit (kind_of d) ≡ exits (Read.got d i)
-exit_kind Command.set-logic i = refl
-exit_kind Command.check-sat i = refl
+exit_kind Command.set_logic i = refl
+exit_kind Command.check_sat i = refl
 exit_kind Command.exit i = refl
 exit_kind (Command.declare w) i = refl
 exit_kind (Command.assert t) i = refl

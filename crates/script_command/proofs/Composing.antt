@@ -142,10 +142,10 @@ module _
 
   by_command :
       (d : Command) (i : ℕ) → Holding (step_of before) d rows → Named_there d → First (command_needs d before) DONE → Parts (kind_of d) → Does (Read.got d i) k before w left
-  by_command Command.set-logic i holding there met m =
-      done (Read.got Command.set-logic i) (lent_same (still m.added m.dropped) m.noted_is m.declared.names_same m.declared.lens_same refl) m.count m.wrote
-  by_command Command.check-sat i holding there met m =
-      done (Read.got Command.check-sat i) (lent_same (still m.added m.dropped) m.noted_is m.declared.names_same m.declared.lens_same refl) m.count m.wrote
+  by_command Command.set_logic i holding there met m =
+      done (Read.got Command.set_logic i) (lent_same (still m.added m.dropped) m.noted_is m.declared.names_same m.declared.lens_same refl) m.count m.wrote
+  by_command Command.check_sat i holding there met m =
+      done (Read.got Command.check_sat i) (lent_same (still m.added m.dropped) m.noted_is m.declared.names_same m.declared.lens_same refl) m.count m.wrote
   by_command Command.exit i holding there met m =
       done (Read.got Command.exit i) (lent_same (still m.added m.dropped) m.noted_is m.declared.names_same m.declared.lens_same refl) m.count m.wrote
   by_command (Command.declare x) i holding there met m =

@@ -101,8 +101,8 @@ module _ (l : Lent) (f : Fine l) (e : ℕ) (few : l.notes.names ≤ e) (s : List
           }
 
   movable_of : (d : Command) → Holding (step_of l) d rows → First (command_needs d l) DONE → Can (kind_of d)
-  movable_of Command.set-logic holding met = quiet Kind.SetLogic refl few_marks (omega arith)
-  movable_of Command.check-sat holding met = quiet Kind.CheckSat refl few_marks (omega arith)
+  movable_of Command.set_logic holding met = quiet Kind.SetLogic refl few_marks (omega arith)
+  movable_of Command.check_sat holding met = quiet Kind.CheckSat refl few_marks (omega arith)
   movable_of Command.exit holding met = quiet Kind.Exit refl few_marks (omega arith)
   movable_of (Command.declare w) holding met = quiet (kind_of (Command.declare w)) refl few_marks (omega arith)
   movable_of (Command.assert u) holding met = asserting u holding met
@@ -115,8 +115,8 @@ module _ (l : Lent) (f : Fine l) (e : ℕ) (few : l.notes.names ≤ e) (s : List
   movable_of (Command.get_value ws) holding met = quiet (kind_of (Command.get_value ws)) refl few_marks (omega arith)
 
   name_fine : (d : Command) (i : ℕ) → reading s ≡ Read.got d i → First (command_needs d l) DONE → NameFine s l.notes.names (kind_of d)
-  name_fine Command.set-logic i is met = tt
-  name_fine Command.check-sat i is met = tt
+  name_fine Command.set_logic i is met = tt
+  name_fine Command.check_sat i is met = tt
   name_fine Command.exit i is met = tt
   name_fine (Command.declare w) i is met =
       let new = declared_new s w i is in
@@ -127,8 +127,8 @@ module _ (l : Lent) (f : Fine l) (e : ℕ) (few : l.notes.names ≤ e) (s : List
   name_fine (Command.get_value ws) i is met = tt
 
   names_fine : (d : Command) (i : ℕ) → reading s ≡ Read.got d i → Holding (step_of l) d rows → First (command_needs d l) DONE → NamesFine rows.firsts l.notes.names (kind_of d)
-  names_fine Command.set-logic i is holding met = tt
-  names_fine Command.check-sat i is holding met = tt
+  names_fine Command.set_logic i is holding met = tt
+  names_fine Command.check_sat i is holding met = tt
   names_fine Command.exit i is holding met = tt
   names_fine (Command.declare w) i is holding met = tt
   names_fine (Command.assert u) i is holding met = tt

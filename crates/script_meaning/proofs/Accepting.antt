@@ -91,8 +91,8 @@ module _ (l : Lent) (k : Story) (i : Links l k) where
 
   -- Every command needs what is told.
   command_same : (c : Command) → SameNeeds (command_needs c l) (told_needs c k)
-  command_same Command.set-logic = (refl, (logic_told false, tt))
-  command_same Command.check-sat = (refl, (logic_told true, tt))
+  command_same Command.set_logic = (refl, (logic_told false, tt))
+  command_same Command.check_sat = (refl, (logic_told true, tt))
   command_same Command.exit = tt
   command_same (Command.declare w) =
       let known = i.noted.same_names w.letters in

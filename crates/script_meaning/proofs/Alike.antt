@@ -81,8 +81,8 @@ counted c n m = with_notes n (on_tables (record { counts = c; rules = m.tables.r
 needs_by :
     (c : Command) (g : ℕ) (l m : Lent) → First (mode_needs c l ++ (said_needs (Known (with_notes l.notes m)) c ++ room_needs c l)) g →
     First (command_needs c (counted l.tables.counts l.notes m)) g
-needs_by Command.set-logic g l m h = h
-needs_by Command.check-sat g l m h = h
+needs_by Command.set_logic g l m h = h
+needs_by Command.check_sat g l m h = h
 needs_by Command.exit g l m h = h
 needs_by (Command.declare w) g l m h = h
 needs_by (Command.assert t) g l m h = h
@@ -303,8 +303,8 @@ module _ (l m : Lent) (a : Alike l m) where
 
   -- **The same command leaves the same**, and each prints from a place of its own.
   changes_alike : (r : Read Command) (l' m' : Lent) → Fine l → Fine m → NamesInForm r → First (read_needs r l) DONE → Changes r l l' → Changes r m m' → Alike l' m'
-  changes_alike (Read.got Command.set-logic e) l' m' f g named met p q = both_are l' m' p q (noted_alike logic_set (λ n. refl))
-  changes_alike (Read.got Command.check-sat e) l' m' f g named met p q = both_are l' m' p q (noted_alike sat_told (λ n. refl))
+  changes_alike (Read.got Command.set_logic e) l' m' f g named met p q = both_are l' m' p q (noted_alike logic_set (λ n. refl))
+  changes_alike (Read.got Command.check_sat e) l' m' f g named met p q = both_are l' m' p q (noted_alike sat_told (λ n. refl))
   changes_alike (Read.got Command.exit e) l' m' f g named met p q = both_are l' m' p q (noted_alike forgotten (λ n. refl))
   changes_alike (Read.got (Command.declare w) e) l' m' f g named met p q = both_are l' m' p q (named_alike f g w.letters (named w e refl) (declare_met w l met).1)
   changes_alike (Read.got (Command.assert t) e) l' m' f g named met (inl (some, p)) (inl (some', q)) = both_are l' m' p q (noted_alike forgotten (λ n. refl))
@@ -356,8 +356,8 @@ module _ (l m : Lent) (a : Alike l m) where
 
   -- **The same command prints the same.**
   pub printed_alike : Fine l → Fine m → (r : Read Command) → First (read_needs r l) DONE → prints r l ≡ prints r m
-  printed_alike f g (Read.got Command.set-logic e) met = refl
-  printed_alike f g (Read.got Command.check-sat e) met = ap (λ (n : Notes). either_answer (eqb n.broken 0) SAT UNSAT) a.same_notes
+  printed_alike f g (Read.got Command.set_logic e) met = refl
+  printed_alike f g (Read.got Command.check_sat e) met = ap (λ (n : Notes). either_answer (eqb n.broken 0) SAT UNSAT) a.same_notes
   printed_alike f g (Read.got Command.exit e) met = refl
   printed_alike f g (Read.got (Command.declare w) e) met = refl
   printed_alike f g (Read.got (Command.assert t) e) met = refl

@@ -59,8 +59,8 @@ module _ (l : Lent) (h : History) (i : InForce l h) where
 
   -- What was printed answers a command that is carried out, where those n bytes are left.
   answered : (r : Read Command) (k n : ℕ) (out : List ℕ) → First (read_needs r l) DONE → n ≡ length (prints r l) → part k n out ≡ prints r l → Answered r h k n out
-  answered (Read.got Command.set-logic e) k n out met long is = long
-  answered (Read.got Command.check-sat e) k n out met long is = checked_answer k n out is
+  answered (Read.got Command.set_logic e) k n out met long is = long
+  answered (Read.got Command.check_sat e) k n out met long is = checked_answer k n out is
   answered (Read.got Command.exit e) k n out met long is = long
   answered (Read.got (Command.declare w) e) k n out met long is = long
   answered (Read.got (Command.assert t) e) k n out met long is = long

@@ -38,8 +38,8 @@ module _ (w : Columns) where
       inr (none, (watching w t, (clash, (adds_watching (map (resolved (step_of before)) rs) before.tables clash t adds, ap (lent_watching w) is))))
 
   changes_watching : (r : Read Command) (before after : Lent) → Changes r before after → Changes r (lent_watching w before) (lent_watching w after)
-  changes_watching (Read.got Command.set-logic e) before after is = ap (lent_watching w) is
-  changes_watching (Read.got Command.check-sat e) before after is = ap (lent_watching w) is
+  changes_watching (Read.got Command.set_logic e) before after is = ap (lent_watching w) is
+  changes_watching (Read.got Command.check_sat e) before after is = ap (lent_watching w) is
   changes_watching (Read.got Command.exit e) before after is = ap (lent_watching w) is
   changes_watching (Read.got (Command.declare x) e) before after is = ap (lent_watching w) is
   changes_watching (Read.got (Command.assert t) e) before after adds = asserts_watching (rules_of_term false t) before after adds
@@ -51,8 +51,8 @@ module _ (w : Columns) where
   changes_watching (Read.stop Why.size i) before after none = none
 
   prints_watching : (r : Read Command) (l : Lent) → prints r (lent_watching w l) ≡ prints r l
-  prints_watching (Read.got Command.set-logic e) l = refl
-  prints_watching (Read.got Command.check-sat e) l = refl
+  prints_watching (Read.got Command.set_logic e) l = refl
+  prints_watching (Read.got Command.check_sat e) l = refl
   prints_watching (Read.got Command.exit e) l = refl
   prints_watching (Read.got (Command.declare x) e) l = refl
   prints_watching (Read.got (Command.assert t) e) l = refl

@@ -60,8 +60,8 @@ asserts_in_force t l m h i g supported met (inr (clean, (u, (clash, (adds, is)))
 changes_in_force :
     (r : Read Command) (l m : Lent) (h : History) → InForce l h → Fine m → NamesInForm r →
     ((t : Term) (e : ℕ) → r ≡ Read.got (Command.assert t) e → Supported false t) → First (read_needs r l) DONE → Changes r l m → InForce m (follows r h)
-changes_in_force (Read.got Command.set-logic e) l m h i g named supported met is = noted_in_force l m h true false l.out i g is
-changes_in_force (Read.got Command.check-sat e) l m h i g named supported met is = noted_in_force l m h _ _ _ i g is
+changes_in_force (Read.got Command.set_logic e) l m h i g named supported met is = noted_in_force l m h true false l.out i g is
+changes_in_force (Read.got Command.check_sat e) l m h i g named supported met is = noted_in_force l m h _ _ _ i g is
 changes_in_force (Read.got Command.exit e) l m h i g named supported met is = noted_in_force l m h _ _ _ i g is
 changes_in_force (Read.got (Command.declare w) e) l m h i g named supported met is =
     subst (λ (x : Lent). InForce x h) (sym is) (named_in_force w.letters l h i (subst Fine is g) (named w e refl).short (declare_met w l met).1)

@@ -157,8 +157,8 @@ pop_counted n l h c few u p k j levels clear =
 -- So every change.
 changes_counted :
     (r : Read Command) (l m : Lent) (h : History) → Fine l → First (read_needs r l) DONE → Changes r l m → AsMany l h → AsMany m (follows r h)
-changes_counted (Read.got Command.set-logic e) l m h f met is c = subst (λ (x : Lent). AsMany x h) (sym is) c
-changes_counted (Read.got Command.check-sat e) l m h f met is c = subst (λ (x : Lent). AsMany x h) (sym is) c
+changes_counted (Read.got Command.set_logic e) l m h f met is c = subst (λ (x : Lent). AsMany x h) (sym is) c
+changes_counted (Read.got Command.check_sat e) l m h f met is c = subst (λ (x : Lent). AsMany x h) (sym is) c
 changes_counted (Read.got Command.exit e) l m h f met is c = subst (λ (x : Lent). AsMany x h) (sym is) c
 changes_counted (Read.got (Command.declare w) e) l m h f met is c = subst (λ (x : Lent). AsMany x h) (sym is) c
 changes_counted (Read.got (Command.assert t) e) l m h f met (inl (some, is)) c = subst (λ (x : Lent). AsMany x (with_term t h)) (sym is) (broken_counted t l h f c some)
@@ -226,11 +226,11 @@ noted_forgotten l m k t b h n is =
 
 -- Every change keeps it.
 changes_noted : (r : Read Command) (l m : Lent) (k : Story) → Fine l → NamesInForm r → First (read_needs r l) DONE → Changes r l m → Noted l k → Noted m (onward r k)
-changes_noted (Read.got Command.set-logic e) l m k f named met is n =
-    subst (λ (x : Lent). Noted x (onward (Read.got Command.set-logic e) k)) (sym is)
+changes_noted (Read.got Command.set_logic e) l m k f named met is n =
+    subst (λ (x : Lent). Noted x (onward (Read.got Command.set_logic e) k)) (sym is)
     (record { same_logic = refl; as_many_names = n.as_many_names; same_names = n.same_names; same_sat = none_asked l.notes.broken })
-changes_noted (Read.got Command.check-sat e) l m k f named met is n =
-    subst (λ (x : Lent). Noted x (onward (Read.got Command.check-sat e) k)) (sym is)
+changes_noted (Read.got Command.check_sat e) l m k f named met is n =
+    subst (λ (x : Lent). Noted x (onward (Read.got Command.check_sat e) k)) (sym is)
     (record {
       same_logic = n.same_logic;
       as_many_names = n.as_many_names;
@@ -268,8 +268,8 @@ pub record Links (l : Lent) (k : Story) : Type 0 where
 
 -- What is asserted after a text is told by what was asserted before.
 pub told_asserted : (r : Read Command) (k : Story) → (onward r k).asserted ≡ follows r k.asserted
-told_asserted (Read.got Command.set-logic e) k = refl
-told_asserted (Read.got Command.check-sat e) k = refl
+told_asserted (Read.got Command.set_logic e) k = refl
+told_asserted (Read.got Command.check_sat e) k = refl
 told_asserted (Read.got Command.exit e) k = refl
 told_asserted (Read.got (Command.declare w) e) k = refl
 told_asserted (Read.got (Command.assert t) e) k = refl

@@ -108,8 +108,8 @@ both_told [] b x y = y
 both_told (n ∷ a) b (here, x) y = (here, both_told a b x y)
 
 mode_told : (c : Command) (l : Lent) → Told (mode_needs c l)
-mode_told Command.set-logic l = (Bool-discrete l.notes.logic false, tt)
-mode_told Command.check-sat l = (Bool-discrete l.notes.logic true, tt)
+mode_told Command.set_logic l = (Bool-discrete l.notes.logic false, tt)
+mode_told Command.check_sat l = (Bool-discrete l.notes.logic true, tt)
 mode_told Command.exit l = tt
 mode_told (Command.declare w) l = (Bool-discrete l.notes.logic true, tt)
 mode_told (Command.assert t) l = (Bool-discrete l.notes.logic true, tt)
@@ -118,8 +118,8 @@ mode_told (Command.pop n) l = (Bool-discrete l.notes.logic true, tt)
 mode_told (Command.get_value ws) l = (Bool-discrete l.notes.logic true, (Bool-discrete l.notes.sat true, tt))
 
 said_told : (c : Command) (l : Lent) → Told (said_needs (Known l) c)
-said_told Command.set-logic l = tt
-said_told Command.check-sat l = tt
+said_told Command.set_logic l = tt
+said_told Command.check_sat l = tt
 said_told Command.exit l = tt
 said_told (Command.declare w) l = (not? (known? l w.letters), tt)
 said_told (Command.assert t) l = rules_told l (rules_of_term false t)
@@ -128,8 +128,8 @@ said_told (Command.pop n) l = tt
 said_told (Command.get_value ws) l = names_told l ws
 
 room_told : (c : Command) (l : Lent) → Told (room_needs c l)
-room_told Command.set-logic l = tt
-room_told Command.check-sat l = tt
+room_told Command.set_logic l = tt
+room_told Command.check_sat l = tt
 room_told Command.exit l = tt
 room_told (Command.declare w) l = (dec_lt l.notes.names STEPS, tt)
 room_told (Command.assert t) l = (leads? (ℕ_discrete l.notes.broken 0) (dec_le (l.tables.counts.rules + length (rules_of_term false t)) RULES), tt)

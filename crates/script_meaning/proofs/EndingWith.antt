@@ -24,8 +24,8 @@ use Rattle.script_meaning.proofs.Accepting.{accepted, told_one}
 
 -- A script ends at `exit`, and at no other command.
 exit_read : (r : Read Command) → exits r ≡ true → (e : ℕ) × (r ≡ Read.got Command.exit e)
-exit_read (Read.got Command.set-logic e) is = absurd (false≢true is)
-exit_read (Read.got Command.check-sat e) is = absurd (false≢true is)
+exit_read (Read.got Command.set_logic e) is = absurd (false≢true is)
+exit_read (Read.got Command.check_sat e) is = absurd (false≢true is)
 exit_read (Read.got Command.exit e) is = (e, refl)
 exit_read (Read.got (Command.declare w) e) is = absurd (false≢true is)
 exit_read (Read.got (Command.assert t) e) is = absurd (false≢true is)
@@ -81,8 +81,8 @@ ends_told s i l k g h w out plays story t some told = ends_same s i story g h to
 -- ---- never SHORT
 
 told_refuse : (c : Command) (k : Story) → T (all_refuse (told_needs c k))
-told_refuse Command.set-logic k = tt
-told_refuse Command.check-sat k = tt
+told_refuse Command.set_logic k = tt
+told_refuse Command.check_sat k = tt
 told_refuse Command.exit k = tt
 told_refuse (Command.declare w) k = tt
 told_refuse (Command.assert t) k =

@@ -39,8 +39,8 @@ adds_same (r ∷ l) t u v x y (inr (a, (held, rest))) (inr (b, (held', rest'))) 
 
 -- Every command changes one thing only, and does one thing only.
 changes_same : (r : Read Command) (l a b : Lent) → Changes r l a → Changes r l b → a ≡ b
-changes_same (Read.got Command.set-logic e) l a b a-is b-is = a-is ∙ sym b-is
-changes_same (Read.got Command.check-sat e) l a b a-is b-is = a-is ∙ sym b-is
+changes_same (Read.got Command.set_logic e) l a b a-is b-is = a-is ∙ sym b-is
+changes_same (Read.got Command.check_sat e) l a b a-is b-is = a-is ∙ sym b-is
 changes_same (Read.got Command.exit e) l a b a-is b-is = a-is ∙ sym b-is
 changes_same (Read.got (Command.declare w) e) l a b a-is b-is = a-is ∙ sym b-is
 changes_same (Read.got (Command.assert t) e) l a b (inl (some, a-is)) (inl (some', b-is)) = a-is ∙ sym b-is

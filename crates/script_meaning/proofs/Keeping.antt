@@ -201,9 +201,9 @@ NamesInForm r = (w : Piece) (e : ℕ) → r ≡ Read.got (Command.declare w) e �
 
 -- Every change that is made leaves what is sound and has room.
 pub changes_fine : (r : Read Command) (l m : Lent) → Fine l → NamesInForm r → First (read_needs r l) DONE → Changes r l m → Fine m
-changes_fine (Read.got Command.set-logic e) l m f named met is =
+changes_fine (Read.got Command.set_logic e) l m f named met is =
     subst Fine (sym is) (with_record l true false l.notes.broken f f.sound.level_open (λ some. refl))
-changes_fine (Read.got Command.check-sat e) l m f named met is =
+changes_fine (Read.got Command.check_sat e) l m f named met is =
     subst Fine (sym is) (with_record l l.notes.logic (eqb l.notes.broken 0) l.notes.broken f f.sound.level_open (ne_eqb l.notes.broken 0))
 changes_fine (Read.got Command.exit e) l m f named met is =
     subst Fine (sym is) (with_record l l.notes.logic false l.notes.broken f f.sound.level_open (λ other. refl))

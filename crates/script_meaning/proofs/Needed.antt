@@ -129,8 +129,8 @@ module _ (K : List ℕ → Type 0) where
   names_refuse (w ∷ ws) = names_refuse ws
 
   pub said_refuse : (c : Command) → T (all_refuse (said_needs K c))
-  said_refuse Command.set-logic = tt
-  said_refuse Command.check-sat = tt
+  said_refuse Command.set_logic = tt
+  said_refuse Command.check_sat = tt
   said_refuse Command.exit = tt
   said_refuse (Command.declare w) = tt
   said_refuse (Command.assert t) = rules_refuse (rules_of_term false t)
@@ -141,8 +141,8 @@ module _ (K : List ℕ → Type 0) where
 -- ---- commands
 
 pub mode_refuse : (c : Command) (l : Lent) → T (all_refuse (mode_needs c l))
-mode_refuse Command.set-logic l = tt
-mode_refuse Command.check-sat l = tt
+mode_refuse Command.set_logic l = tt
+mode_refuse Command.check_sat l = tt
 mode_refuse Command.exit l = tt
 mode_refuse (Command.declare w) l = tt
 mode_refuse (Command.assert t) l = tt
@@ -151,8 +151,8 @@ mode_refuse (Command.pop n) l = tt
 mode_refuse (Command.get_value ws) l = tt
 
 pub room_refuse : (c : Command) (l : Lent) → T (all_refuse (room_needs c l))
-room_refuse Command.set-logic l = tt
-room_refuse Command.check-sat l = tt
+room_refuse Command.set_logic l = tt
+room_refuse Command.check_sat l = tt
 room_refuse Command.exit l = tt
 room_refuse (Command.declare w) l = tt
 room_refuse (Command.assert t) l = tt

@@ -49,8 +49,8 @@ adds_orderly (r ∷ l) t u clash k (here, there) room (inr (v, (h, rest))) o =
 
 -- **Every command** that is carried out leaves the rules in order: so does every change that is made.
 changes_orderly : (r : Read Command) (l m : Lent) → Fine l → First (read_needs r l) DONE → Changes r l m → Orderly l.tables → Orderly m.tables
-changes_orderly (Read.got Command.set-logic e) l m f met is o = subst (λ (x : Lent). Orderly x.tables) (sym is) o
-changes_orderly (Read.got Command.check-sat e) l m f met is o = subst (λ (x : Lent). Orderly x.tables) (sym is) o
+changes_orderly (Read.got Command.set_logic e) l m f met is o = subst (λ (x : Lent). Orderly x.tables) (sym is) o
+changes_orderly (Read.got Command.check_sat e) l m f met is o = subst (λ (x : Lent). Orderly x.tables) (sym is) o
 changes_orderly (Read.got Command.exit e) l m f met is o = subst (λ (x : Lent). Orderly x.tables) (sym is) o
 changes_orderly (Read.got (Command.declare w) e) l m f met is o = subst (λ (x : Lent). Orderly x.tables) (sym is) o
 changes_orderly (Read.got (Command.assert t) e) l m f met (inl (some, is)) o = subst (λ (x : Lent). Orderly x.tables) (sym is) o

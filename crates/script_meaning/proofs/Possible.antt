@@ -94,8 +94,8 @@ pop_some n t b = (
 
 -- A text whose needs are all met can be carried out.
 changes_some : (r : Read Command) (l : Lent) → Fine l → First (read_needs r l) DONE → (m : Lent) × Changes r l m
-changes_some (Read.got Command.set-logic e) l f met = (_, refl)
-changes_some (Read.got Command.check-sat e) l f met = (_, refl)
+changes_some (Read.got Command.set_logic e) l f met = (_, refl)
+changes_some (Read.got Command.check_sat e) l f met = (_, refl)
 changes_some (Read.got Command.exit e) l f met = (_, refl)
 changes_some (Read.got (Command.declare w) e) l f met = (_, refl)
 changes_some (Read.got (Command.assert t) e) l f met = tell (ℕ_discrete l.notes.broken 0)

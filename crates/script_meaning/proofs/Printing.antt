@@ -34,8 +34,8 @@ pub record Written (k n : ℕ) (w : List ℕ) (before after : List ℕ) : Type 0
 
 -- No change is made in the bytes for the answer.
 pub changes_out : (r : Read Command) (l m : Lent) → Changes r l m → m.out ≡ l.out
-changes_out (Read.got Command.set-logic e) l m is = ap (λ (x : Lent). x.out) is
-changes_out (Read.got Command.check-sat e) l m is = ap (λ (x : Lent). x.out) is
+changes_out (Read.got Command.set_logic e) l m is = ap (λ (x : Lent). x.out) is
+changes_out (Read.got Command.check_sat e) l m is = ap (λ (x : Lent). x.out) is
 changes_out (Read.got Command.exit e) l m is = ap (λ (x : Lent). x.out) is
 changes_out (Read.got (Command.declare w) e) l m is = ap (λ (x : Lent). x.out) is
 changes_out (Read.got (Command.assert t) e) l m (inl (some, is)) = ap (λ (x : Lent). x.out) is
@@ -77,8 +77,8 @@ FewAsked r = (ws : List Piece) (e : ℕ) → r ≡ Read.got (Command.get_value w
 
 -- Every command has room for what it prints.
 pub prints_room : (r : Read Command) (l : Lent) → Fine l → FewAsked r → First (read_needs r l) DONE → length (prints r l) ≤ ROOM
-prints_room (Read.got Command.set-logic e) l f few met = omega arith
-prints_room (Read.got Command.check-sat e) l f few met = answer_room (eqb l.notes.broken 0)
+prints_room (Read.got Command.set_logic e) l f few met = omega arith
+prints_room (Read.got Command.check_sat e) l f few met = answer_room (eqb l.notes.broken 0)
 prints_room (Read.got Command.exit e) l f few met = omega arith
 prints_room (Read.got (Command.declare w) e) l f few met = omega arith
 prints_room (Read.got (Command.assert t) e) l f few met = omega arith

@@ -33,8 +33,8 @@ with_asserted h k = record { names = k.names; logic = k.logic; asked = false; as
 
 -- What is known after a text that was read as r and is carried out.
 abbrev pub onward : Read Command → Story → Story
-onward (Read.got Command.set-logic e) k = record { names = k.names; logic = true; asked = false; asserted = k.asserted }
-onward (Read.got Command.check-sat e) k = record { names = k.names; logic = k.logic; asked = true; asserted = k.asserted }
+onward (Read.got Command.set_logic e) k = record { names = k.names; logic = true; asked = false; asserted = k.asserted }
+onward (Read.got Command.check_sat e) k = record { names = k.names; logic = k.logic; asked = true; asserted = k.asserted }
 onward (Read.got Command.exit e) k = with_asserted k.asserted k
 onward (Read.got (Command.declare w) e) k = record { names = w.letters ∷ k.names; logic = k.logic; asked = false; asserted = k.asserted }
 onward (Read.got (Command.assert t) e) k = with_asserted (with_term t k.asserted) k
@@ -60,8 +60,8 @@ rules_asserted (l ∷ h) = rules_in l + rules_asserted h
 -- What a command needs: the logic, once; for `get_value` that the last question printed `sat`; names declared, or not yet; amounts within bounds; and room for STEPS names, RULES rules, as long as
 -- what is asserted is satisfiable, and MARKS levels. There is one level more than are pushed.
 abbrev pub told_needs : Command → Story → List Need
-told_needs Command.set-logic k = needs MODE (k.logic ≡ false) ∷ []
-told_needs Command.check-sat k = needs MODE (k.logic ≡ true) ∷ []
+told_needs Command.set_logic k = needs MODE (k.logic ≡ false) ∷ []
+told_needs Command.check_sat k = needs MODE (k.logic ≡ true) ∷ []
 told_needs Command.exit k = []
 told_needs (Command.declare w) k = needs MODE (k.logic ≡ true) ∷ needs NAME (OneOf k.names w.letters → ⊥) ∷ needs FULL (length k.names < STEPS) ∷ []
 told_needs (Command.assert t) k =

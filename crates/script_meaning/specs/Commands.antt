@@ -13,8 +13,8 @@ use Rattle.script_meaning.specs.Effect.{Does}
 
 -- Where a command may stand: the logic is set, for `set-logic` not yet; `get_value` only after a `sat`; `exit` anywhere.
 abbrev pub mode_needs : Command → Lent → List Need
-mode_needs Command.set-logic l = needs MODE (l.notes.logic ≡ false) ∷ []
-mode_needs Command.check-sat l = needs MODE (l.notes.logic ≡ true) ∷ []
+mode_needs Command.set_logic l = needs MODE (l.notes.logic ≡ false) ∷ []
+mode_needs Command.check_sat l = needs MODE (l.notes.logic ≡ true) ∷ []
 mode_needs Command.exit l = []
 mode_needs (Command.declare w) l = needs MODE (l.notes.logic ≡ true) ∷ []
 mode_needs (Command.assert t) l = needs MODE (l.notes.logic ≡ true) ∷ []
@@ -24,8 +24,8 @@ mode_needs (Command.get_value ws) l = needs MODE (l.notes.logic ≡ true) ∷ ne
 
 -- The places that it takes, or the levels that it closes. A term's rules need places only while no level counts as contradictory.
 abbrev pub room_needs : Command → Lent → List Need
-room_needs Command.set-logic l = []
-room_needs Command.check-sat l = []
+room_needs Command.set_logic l = []
+room_needs Command.check_sat l = []
 room_needs Command.exit l = []
 room_needs (Command.declare w) l = needs FULL (l.notes.names < STEPS) ∷ []
 room_needs (Command.assert t) l = needs FULL (l.notes.broken ≡ 0 → l.tables.counts.rules + length (rules_of_term false t) ≤ RULES) ∷ []

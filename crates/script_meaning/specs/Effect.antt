@@ -123,8 +123,8 @@ Asserts rs before after =
 
 -- What is printed where a text is carried out that was read as r: `sat` exactly when no level counts as contradictory; the days of the names asked for; `unsupported`.
 abbrev pub prints : Read Command → Lent → List ℕ
-prints (Read.got Command.set-logic e) l = []
-prints (Read.got Command.check-sat e) l = either_answer (eqb l.notes.broken 0) SAT UNSAT
+prints (Read.got Command.set_logic e) l = []
+prints (Read.got Command.check_sat e) l = either_answer (eqb l.notes.broken 0) SAT UNSAT
 prints (Read.got Command.exit e) l = []
 prints (Read.got (Command.declare w) e) l = []
 prints (Read.got (Command.assert t) e) l = []
@@ -135,8 +135,8 @@ prints (Read.stop w i) l = UNSUPPORTED
 
 -- What it changes, but for the bytes printed. Nothing where it is unsupported; what departs from the form, or has a size fault, is not carried out.
 abbrev pub Changes : Read Command → Lent → Lent → Type 0
-Changes (Read.got Command.set-logic e) before after = after ≡ with_notes (logic_set before.notes) before
-Changes (Read.got Command.check-sat e) before after = after ≡ with_notes (sat_told before.notes) before
+Changes (Read.got Command.set_logic e) before after = after ≡ with_notes (logic_set before.notes) before
+Changes (Read.got Command.check_sat e) before after = after ≡ with_notes (sat_told before.notes) before
 Changes (Read.got Command.exit e) before after = after ≡ with_notes (forgotten before.notes) before
 Changes (Read.got (Command.declare w) e) before after = after ≡ with_name w.letters before
 Changes (Read.got (Command.assert t) e) before after = Asserts (rules_of_term false t) before after

@@ -14,8 +14,8 @@ part k n out = take n (drop k out)
 -- What stands in `out`, n bytes from place k on, after a text that was read as r was carried out where h is asserted. For `check-sat`: `sat` exactly when h is
 -- satisfiable, and `unsat` exactly when it is not. For `get_value`: each name asked for with its day in the earliest plan of h.
 abbrev pub Answered : Read Command → History → ℕ → ℕ → List ℕ → Type 0
-Answered (Read.got Command.set-logic e) h k n out = n ≡ 0
-Answered (Read.got Command.check-sat e) h k n out = ((part k n out ≡ SAT) ↔ Satisfiable h) × ((part k n out ≡ UNSAT) ↔ (Satisfiable h → ⊥))
+Answered (Read.got Command.set_logic e) h k n out = n ≡ 0
+Answered (Read.got Command.check_sat e) h k n out = ((part k n out ≡ SAT) ↔ Satisfiable h) × ((part k n out ≡ UNSAT) ↔ (Satisfiable h → ⊥))
 Answered (Read.got Command.exit e) h k n out = n ≡ 0
 Answered (Read.got (Command.declare w) e) h k n out = n ≡ 0
 Answered (Read.got (Command.assert t) e) h k n out = n ≡ 0

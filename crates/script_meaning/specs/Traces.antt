@@ -34,8 +34,8 @@ with_levels (suc n) h = [] ∷ with_levels n h
 -- What is asserted after a text that was read as r and is carried out: the term of an assertion is asserted, whatever is asserted already; `push` puts empty levels on, `pop` takes
 -- the newest levels off, and nothing else asserts or forgets anything.
 abbrev pub follows : Read Command → History → History
-follows (Read.got Command.set-logic e) h = h
-follows (Read.got Command.check-sat e) h = h
+follows (Read.got Command.set_logic e) h = h
+follows (Read.got Command.check_sat e) h = h
 follows (Read.got Command.exit e) h = h
 follows (Read.got (Command.declare w) e) h = h
 follows (Read.got (Command.assert t) e) h = with_term t h

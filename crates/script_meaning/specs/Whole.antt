@@ -14,8 +14,8 @@ use Rattle.script_meaning.specs.Commands.{text_needs}
 
 -- The command is exit.
 abbrev pub exits : Read Command → Bool
-exits (Read.got Command.set-logic e) = false
-exits (Read.got Command.check-sat e) = false
+exits (Read.got Command.set_logic e) = false
+exits (Read.got Command.check_sat e) = false
 exits (Read.got Command.exit e) = true
 exits (Read.got (Command.declare w) e) = false
 exits (Read.got (Command.assert t) e) = false

@@ -18,8 +18,8 @@ abbrev named : Lent → ℕ
 named l = l.notes.names
 
 changes_named : (r : Read Command) (before after : Lent) → Changes r before after → named before ≤ named after
-changes_named (Read.got Command.set-logic e) before after is = omega (arith, ap named is)
-changes_named (Read.got Command.check-sat e) before after is = omega (arith, ap named is)
+changes_named (Read.got Command.set_logic e) before after is = omega (arith, ap named is)
+changes_named (Read.got Command.check_sat e) before after is = omega (arith, ap named is)
 changes_named (Read.got Command.exit e) before after is = omega (arith, ap named is)
 changes_named (Read.got (Command.declare w) e) before after is = omega (arith, ap named is)
 changes_named (Read.got (Command.assert t) e) before after (inl (some, is)) = omega (arith, ap named is)

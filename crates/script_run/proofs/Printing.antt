@@ -24,8 +24,8 @@ first_same s l o g =
 
 -- What was read prints the same, whatever bytes are lent, and changes the same.
 prints_same : (r : Read Command) (l : Lent) (o : List ℕ) → prints r l ≡ prints r (with_out o l)
-prints_same (Read.got Command.set-logic e) l o = refl
-prints_same (Read.got Command.check-sat e) l o = refl
+prints_same (Read.got Command.set_logic e) l o = refl
+prints_same (Read.got Command.check_sat e) l o = refl
 prints_same (Read.got Command.exit e) l o = refl
 prints_same (Read.got (Command.declare w) e) l o = refl
 prints_same (Read.got (Command.assert t) e) l o = refl
@@ -35,8 +35,8 @@ prints_same (Read.got (Command.get_value ws) e) l o = refl
 prints_same (Read.stop w i) l o = refl
 
 changes_same : (r : Read Command) (l m : Lent) (o : List ℕ) → Changes r l m → Changes r (with_out o l) (with_out o m)
-changes_same (Read.got Command.set-logic e) l m o is = ap (with_out o) is
-changes_same (Read.got Command.check-sat e) l m o is = ap (with_out o) is
+changes_same (Read.got Command.set_logic e) l m o is = ap (with_out o) is
+changes_same (Read.got Command.check_sat e) l m o is = ap (with_out o) is
 changes_same (Read.got Command.exit e) l m o is = ap (with_out o) is
 changes_same (Read.got (Command.declare w) e) l m o is = ap (with_out o) is
 changes_same (Read.got (Command.assert t) e) l m o (inl (some, is)) = inl (some, ap (with_out o) is)

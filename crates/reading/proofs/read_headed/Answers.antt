@@ -43,7 +43,7 @@ pub returns-then-same-3 : goal.returns-then-same-3
 returns-then-same-3 c = heard_no _ _ _ _ _ _ _ _ c.same.result c.same.ensures c.if-same.false
     (heard_no _ _ _ _ _ _ _ _ c.same-2.result c.same-2.ensures c.if-same-2.false
     (heard_yes _ _ _ _ _ _ _ _ c.same-3.result c.same-3.ensures c.if-same-3.true
-    (c.close_command.ensures _ _ _ Command.check-sat _ (record { kind_is = refl; fault_first = refl; holding = λ z. tt }))))
+    (c.close_command.ensures _ _ _ Command.check_sat _ (record { kind_is = refl; fault_first = refl; holding = λ z. tt }))))
 
 pub same-requires-4 : goal.same-requires-4
 same-requires-4 c = let p = c.requires in record {
@@ -134,7 +134,7 @@ returns-then-same-7 c = let s = c.args.s.now in
     (heard_no _ _ _ _ _ _ _ _ c.same-5.result c.same-5.ensures c.if-same-5.false
     (heard_no _ _ _ _ _ _ _ _ c.same-6.result c.same-6.ensures c.if-same-6.false
     (heard_yes _ _ _ _ _ _ _ _ c.same-7.result c.same-7.ensures c.if-same-7.true
-    (heard_on _ _ _ _ _ (expect_word W_QF_IDL s b) _ o.0 w.result.at o.1 (c.close_command-then-same-7.ensures _ _ _ Command.set-logic _ (record { kind_is = refl; fault_first = refl; holding = λ z. tt })))))))))
+    (heard_on _ _ _ _ _ (expect_word W_QF_IDL s b) _ o.0 w.result.at o.1 (c.close_command-then-same-7.ensures _ _ _ Command.set_logic _ (record { kind_is = refl; fault_first = refl; holding = λ z. tt })))))))))
 
 pub same-requires-8 : goal.same-requires-8
 same-requires-8 c = let p = c.requires in record {
