@@ -2,7 +2,7 @@
 -- first ones, they are so after.
 use Prim.Native.Nat.{ℕ, ◌+◌, ◌<◌}
 use mathlib.Core.Path.{◌≡◌, refl, sym, ◌∙◌, ap, subst}
-use mathlib.Core.Bool.{Bool, true, false, true≢false, false≢true}
+use mathlib.Core.Bool.{Bool, true}
 use mathlib.Core.List.{List}
 use lib.ListN.{length, set}
 use lib.Seq.{get_or-set_same, get_or-set_other}
@@ -11,7 +11,7 @@ use native.Mathlib.Omega.{arith}
 use native.Mathlib.Decide.{ℕ_discrete}
 use Rattle.meaning.specs.declared.Counts.{Counts}
 use Rattle.meaning.specs.Bounds.{RULES}
-use Rattle.meaning.specs.Rules.{InBounds, more, plus, rule}
+use Rattle.meaning.specs.Rules.{InBounds, Fits, more, plus, rule}
 use Rattle.meaning.specs.Tables.{Tables, at, held, put, lowest_free}
 use Rattle.meaning.specs.Promise.{Planned}
 use Rattle.meaning.specs.Calls.{rules_of, held_in}
@@ -24,12 +24,11 @@ use Rattle.lent.specs.Promises.{Border}
 use Rattle.lent.proofs.Cells.{lowest_behind}
 use Rattle.inner_watch.proofs.Equal.{tables_equal}
 use Rattle.inner_add.specs.Lending.{Holdable}
-use Rattle.inner_add.specs.Fit.{Tells, one_more}
+use Rattle.inner_add.specs.Fit.{Taken, Left, one_more}
 use Rattle.inner_add.proofs.Answers.{base}
-use Rattle.inner_add.proofs.Linked.{ready_linked, tells_held}
-use Rattle.inner_add.proofs.Extent.{ready_within, tells_beyond}
+use Rattle.inner_add.proofs.Linked.{ready_linked, taken_held, left_held}
+use Rattle.inner_add.proofs.Extent.{ready_within, taken_beyond}
 use Rattle.script_meaning.specs.Effect.{HeldNow}
-use Rattle.asserts.specs.One.{AddsOne}
 use Rattle.asserts.specs.Within.{Within}
 use Rattle.asserts.proofs.Reach.{wider}
 use Rattle.asserts.proofs.Linking.{amendable, chains_inserted}
@@ -80,21 +79,20 @@ module _
           rw (get_or-set_other levels m i (counts.marks + 1) 0 other) (asked.1.1.1.1.1 all i (omega (arith, behind, lowest, below, other)))
 
   module _
-      (fits : Bool) (moved last' : ℕ) (xs' ys' : List ℕ) (cs' : List ℤ) (days' : List ℕ)
-      (tells : Tells e (linked nexts) m (rule x y c) (columns xs ys cs) days counts.last fits moved (columns xs' ys' cs') days' last') where
-    told : Tells counts.steps (held_by levels) m (rule x y c) (columns xs ys cs) days counts.last fits moved (columns xs' ys' cs') days' last'
-    told =
-        tells_beyond counts.steps e asked.1.1.1.1.0.steps_there (held_by levels) number m xs ys cs days heads nexts x y c
-        whole.base.earliest asked.1.1.1.1.0.rules_within whole.free counts.last fits moved (columns xs' ys' cs') days' last' (tells_held asked.1.0 tells)
+      (moved last' : ℕ) (xs' ys' : List ℕ) (cs' : List ℤ) (days' : List ℕ)
+      (tells : Taken e (linked nexts) m (rule x y c) (columns xs ys cs) days counts.last moved (columns xs' ys' cs') days' last') where
+    taken : Taken counts.steps (held_by levels) m (rule x y c) (columns xs ys cs) days counts.last moved (columns xs' ys' cs') days' last'
+    taken =
+        taken_beyond counts.steps e asked.1.1.1.1.0.steps_there (held_by levels) number m xs ys cs days heads nexts x y c
+        whole.base.earliest asked.1.1.1.1.0.rules_within whole.free counts.last moved (columns xs' ys' cs') days' last' (taken_held asked.1.0 tells)
 
     -- The tables with the rule held.
     abbrev with_it : Counts → Tables
     with_it after = unwatched after xs' ys' cs' days' (set levels m (counts.marks + 1))
 
     -- Where it fits, it is held with one more rule counted and the last day told.
-    holds : fits ≡ true → (after : Counts) → after ≡ one_more last' counts → HeldNow (rule x y c) before (with_it after)
-    holds is after counted =
-        let taken = told.when_fits is in
+    holds : (after : Counts) → after ≡ one_more last' counts → HeldNow (rule x y c) before (with_it after)
+    holds after counted =
         record {
           fits = more_fits (rules_of before) (held_in before) m (rule x y c) whole.free (λ v. pos (at days' v)) taken.planned.earliest.plan;
           rule_held = tables_equal _ _ (counted ∙ ap (λ j. one_more j counts) (taken.last_day asked.0.sound.last_largest))
@@ -103,36 +101,39 @@ module _
         }
 
     -- Then it can be put on its chain, and with that it is added.
-    pub new_amendable : fits ≡ true → Amendable counts.steps m xs' heads nexts × (linked nexts m → ⊥)
-    new_amendable is = (
+    pub new_amendable : Amendable counts.steps m xs' heads nexts × (linked nexts m → ⊥)
+    new_amendable = (
       subst (λ (j : ℕ). Amendable counts.steps j xs' heads nexts) (sym lowest)
-          (amendable (rule x y c) before (with_it (one_more last' counts)) (holds is (one_more last' counts) refl) heads nexts asked.0 good asked.1.1.1.0 asked.1.0),
+          (amendable (rule x y c) before (with_it (one_more last' counts)) (holds (one_more last' counts) refl) heads nexts asked.0 good asked.1.1.1.0 asked.1.0),
       λ on. whole.free (asked.1.0.only m on),
     )
 
     pub one_held :
-        fits ≡ true → (after : Counts) → after ≡ one_more last' counts → (heads' nexts' : List ℕ) → length heads' ≡ length heads → length nexts' ≡ length nexts →
+        (after : Counts) → after ≡ one_more last' counts → (heads' nexts' : List ℕ) → length heads' ≡ length heads → length nexts' ≡ length nexts →
         ChainsNow counts.steps (plus (linked nexts) m) xs' heads' nexts' →
-        AddsOne (rule x y c) before false (with_it after)
+        HeldNow (rule x y c) before (with_it after)
         × (LentChains after.steps (held_by (set levels m (counts.marks + 1))) xs' heads' nexts'
         × (packed ≡ true → AllHeld after.rules (set levels m (counts.marks + 1))))
-    one_held is after counted heads' nexts' heads_long nexts_long now_on = (
-      record { held_now = λ e. holds is after counted; unfit = λ e. absurd (false≢true e); unchanged = λ e. absurd (false≢true e) },
+    one_held after counted heads' nexts' heads_long nexts_long now_on = (
+      holds after counted,
       (
-        chains_inserted (rule x y c) before (with_it after) (holds is after counted) heads nexts asked.0 good asked.1.1.1.0 asked.1.0 heads' nexts' heads_long
+        chains_inserted (rule x y c) before (with_it after) (holds after counted) heads nexts asked.0 good asked.1.1.1.0 asked.1.0 heads' nexts' heads_long
             nexts_long (subst (λ (j : ℕ). ChainsNow counts.steps (plus (linked nexts) j) xs' heads' nexts') lowest now_on),
         λ all. subst (λ (j : Counts). AllHeld j.rules (set levels m (counts.marks + 1))) (sym counted) (one_behind all),
       ),
     )
 
+  module _
+      (xs' ys' : List ℕ) (cs' : List ℤ) (days' : List ℕ)
+      (tells : Left (linked nexts) (rule x y c) (columns xs ys cs) days (columns xs' ys' cs') days') where
     -- Where it does not fit, nothing changed.
     pub one_clash :
-        fits ≡ false →
-        AddsOne (rule x y c) before true (unwatched counts xs' ys' cs' days' levels)
+        (Fits (rules_of before) (held_in before) (rule x y c) → ⊥) × (unwatched counts xs' ys' cs' days' levels ≡ before)
         × (LentChains counts.steps (held_by levels) xs' heads nexts × (packed ≡ true → AllHeld counts.rules levels))
-    one_clash is =
-        let left = told.when_not is in
+    one_clash =
+        let left = left_held asked.1.0 tells in
         let stays : unwatched counts xs' ys' cs' days' levels ≡ before = tables_equal _ _ refl left.rules_stay left.days_stay refl refl in (
-          record { held_now = λ e. absurd (true≢false e); unfit = λ e. left.unfit; unchanged = λ e. stays },
+          left.unfit,
+          stays,
           (subst (λ (t : Tables). LentChains t.counts.steps (held t) t.rules.firsts heads nexts) (sym stays) asked.1.0, asked.1.1.1.1.1),
         )

@@ -5,29 +5,16 @@ use mathlib.Core.Path.{◌≡◌, refl, sym, ap, ◌∙◌, subst}
 use mathlib.Core.Bool.{Bool, true, false}
 use mathlib.Core.List.{List, [], ◌∷◌}
 use mathlib.Core.Logic.{inl, inr}
-use lib.ListN.{length}
-use lib.IntN.{ℤ}
 use Rattle.meaning.specs.Bounds.{RULES}
-use Rattle.meaning.specs.Rules.{Rule, InBounds}
+use Rattle.meaning.specs.Rules.{Rule, InBounds, Fits}
 use Rattle.meaning.specs.Tables.{Columns, Tables, rule_at}
+use Rattle.meaning.specs.Calls.{rules_of, held_in}
 use Rattle.meaning.proofs.Sequences.{Kept}
 use Rattle.lent.specs.Promises.{Border}
 use Rattle.script_meaning.specs.Effect.{HeldNow, AddsAll}
 use Rattle.script_meaning.proofs.Adding.{holds_kept}
-use Rattle.asserts.specs.One.{AddsOne}
 use Rattle.asserts.specs.Rows.{rows_from, RowsFine}
 use Rattle.asserts.proofs.Reach.{wider, AllWithin, held_within}
-
--- The lists that are lent are as long as at start.
-pub record AsLong
-    (xs₀ ys₀ : List ℕ) (cs₀ : List ℤ) (days₀ levels₀ heads₀ nexts₀ xs ys : List ℕ) (cs : List ℤ) (days levels heads nexts : List ℕ) : Type 0 where
-  pub xs_long : length xs ≡ length xs₀
-  pub ys_long : length ys ≡ length ys₀
-  pub cs_long : length cs ≡ length cs₀
-  pub days_long : length days ≡ length days₀
-  pub levels_long : length levels ≡ length levels₀
-  pub heads_long : length heads ≡ length heads₀
-  pub nexts_long : length nexts ≡ length nexts₀
 
 -- The rules of no row; those of a row and of the rows after it.
 pub rows_none : (rows : Columns) (k : ℕ) → rows_from rows k 0 ≡ []
@@ -79,12 +66,12 @@ module _ (e : ℕ) (rows : Columns) (k : ℕ) (start : Tables) where
       on clash u h = left.goes_on clash u (subst (λ (l : List Rule). AddsAll l t clash u) (sym split) h)
 
       -- The next rule does not fit: adding stops.
-      pub left_clash : (clash : Bool) (u : Tables) → clash ≡ true → AddsOne (rule_at rows i) t clash u → AddsAll (rows_from rows 0 k) start clash u
-      left_clash clash u is one = on clash u (inl (one.unfit is, (one.unchanged is, is)))
+      pub left_clash : (u : Tables) → (Fits (rules_of t) (held_in t) (rule_at rows i) → ⊥) → u ≡ t → AddsAll (rows_from rows 0 k) start true u
+      left_clash u unfit same = on true u (inl (unfit, (same, refl)))
 
       -- The next rule is held: the others are left to add.
-      pub left_held : (clash : Bool) (u : Tables) → clash ≡ false → AddsOne (rule_at rows i) t clash u → Left e rows k start (i + 1) u
-      left_held clash u is one =
+      pub left_held : (u : Tables) → HeldNow (rule_at rows i) t u → Left e rows k start (i + 1) u
+      left_held u held =
           record {
             border = record { room = kept.room; sound = kept.sound };
             within = held_within e (rule_at rows i) t u before next_place next_good.steps_in left.within held;
@@ -93,9 +80,6 @@ module _ (e : ℕ) (rows : Columns) (k : ℕ) (start : Tables) where
             goes_on = λ clash v rest. on clash v (inr (u, (held, rest)));
           }
         where
-          held : HeldNow (rule_at rows i) t u
-          held = one.held_now is
-
           before : Kept t
           before = record { room = left.border.room; sound = left.border.sound }
 

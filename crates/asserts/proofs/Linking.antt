@@ -12,7 +12,7 @@ use Rattle.meaning.proofs.Places.{next_free, next_below, with_rule_held}
 use Rattle.chains.specs.Chains.{linked, Amendable, ChainsNow, LentChains}
 use Rattle.chains.proofs.Laws.{lent_agree}
 use Rattle.chains.proofs.Amending.{lent_now}
-use Rattle.chains.proofs.Held.{plus_same}
+use Rattle.chains.proofs.Holding.{plus_same}
 use Rattle.lent.specs.Lent.{held_by}
 use Rattle.lent.specs.Promises.{Border}
 use Rattle.script_meaning.specs.Effect.{HeldNow}

@@ -2,6 +2,7 @@
 #![tactic(auto)]
 
 ghost use Rattle.std.specs.Prelude.{◌≡◌, true, ℕ, ◌+◌, ◌≤◌, ◌<◌, length};
+ghost use Rattle.std.specs.Option.{unwrap_or};
 ghost use Rattle.meaning.specs.Bounds.{RULES};
 ghost use Rattle.meaning.specs.Rules.{InBounds, rule};
 ghost use Rattle.meaning.specs.Tables.{taken, lowest_free};
@@ -16,7 +17,7 @@ ghost use Rattle.asserts.specs.One.{AddsOne};
 
 use meaning::Counts;
 
-// What adding rules came to: the counts after it, and whether one of the rules did not fit.
+// What adding rules came to: the counts after it, and whether one of the rules did not fit. Both are told of every outcome, since the rules before a clash stay held; a Result would have the counts on both sides.
 #[derive(Drop)]
 pub struct Added {
     pub counts: Counts,
@@ -37,7 +38,7 @@ fn place_for(levels: &[u8], rules: usize, packed: bool) -> usize
     lent::next_free(levels, rules)
 }
 
-// Adds one rule and puts it on its chain; where it does not fit nothing changes. It and the rules held speak of steps below e alone, so no other step is looked at.
+// Adds one rule, puts it on its chain and gives the counts with it; where it does not fit it gives none, and nothing changes. It and the rules held speak of steps below e alone, so no other step is looked at.
 fn add_one(
     counts: Counts,
     xs: &mut [u16],
@@ -52,7 +53,7 @@ fn add_one(
     c: i32,
     e: u32,
     packed: bool,
-) -> Added
+) -> Option<Counts>
     requires border { Border (unwatched counts xs.old ys.old cs.old days.old levels.old) }
     requires lent_chains { LentChains counts.steps (held_by levels.old) xs.old heads.old nexts.old }
     requires in_bounds { InBounds e (rule x y c) }
@@ -60,25 +61,16 @@ fn add_one(
     requires within { Within e counts levels.old (columns xs.old ys.old cs.old) }
     requires all_held { packed ≡ true → AllHeld counts.rules levels.old }
     ensures adds_one { AddsOne (rule x y c) (unwatched counts xs.old ys.old cs.old days.old levels.old)
-        result.clash (unwatched result.counts xs.new ys.new cs.new days.new levels.new) }
-    ensures lent_chains_2 { LentChains result.counts.steps (held_by levels.new) xs.new heads.new nexts.new }
-    ensures all_held_2 { packed ≡ true → AllHeld result.counts.rules levels.new }
+        result (λ now. unwatched now xs.new ys.new cs.new days.new levels.new) }
+    ensures lent_chains_2 { LentChains (unwrap_or result counts).steps (held_by levels.new) xs.new heads.new nexts.new }
+    ensures all_held_2 { packed ≡ true → AllHeld (unwrap_or result counts).rules levels.new }
 {
     let n = e as usize;
     let m = place_for(levels, counts.rules as usize, packed);
-    let fitted = inner_add::fit(n, m, xs, ys, cs, days, heads, nexts, x, y, c, counts.last);
-    if fitted.fits {
-        levels[m] = (counts.marks + 1) as u8;
-        chains::insert(counts.steps as usize, xs, heads, nexts, m);
-        return Added {
-            counts: inner_add::one_more(counts, fitted.last),
-            clash: false,
-        };
-    }
-    Added {
-        counts: counts,
-        clash: true,
-    }
+    let risen = inner_add::fit(n, m, xs, ys, cs, days, heads, nexts, x, y, c, counts.last)?;
+    levels[m] = (counts.marks + 1) as u8;
+    chains::insert(counts.steps as usize, xs, heads, nexts, m);
+    Some(inner_add::one_more(counts, risen.last))
 }
 
 // Adds the rules of the first k rows, up to the first that does not fit. These and the rules held speak of steps below e alone.
@@ -112,18 +104,22 @@ pub fn add_rules(
         result.clash (unwatched result.counts xs.new ys.new cs.new days.new levels.new) }
     ensures lent_chains_2 { LentChains result.counts.steps (held_by levels.new) xs.new heads.new nexts.new }
 {
-    let mut i = 0usize;
     let mut held = counts;
-    while i < k {
+    // A row is one place of three columns; their zip, cut at k, would be longer.
+    for i in 0..k {
         let added = add_one(
             held, xs, ys, cs, days, levels, heads, nexts, row_xs[i], row_ys[i], row_cs[i], e,
             packed,
         );
-        if added.clash {
-            return added;
+        match added {
+            Some(now) => held = now,
+            None => {
+                return Added {
+                    counts: held,
+                    clash: true,
+                };
+            }
         }
-        held = added.counts;
-        i += 1;
     }
     Added {
         counts: held,

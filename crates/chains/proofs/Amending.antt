@@ -39,6 +39,10 @@ module _ (n m : ℕ) (xs heads nexts : List ℕ) (a : Amendable n m xs heads nex
       is : at heads (at xs m) ≡ suc (at heads (at xs m) - 1)
       is = omega (arith, above)
 
+  -- The last rule above m of the chain that the head leads to is that of the chain of m.
+  pub last_own : (j : ℕ) → m < at heads (at xs m) → (r : ℕ) → j ≡ at heads (at xs m) → LastAbove xs nexts (at xs (j - 1)) m r → LastAbove xs nexts (at xs m) m r
+  last_own j above r is = subst (λ a. LastAbove xs nexts a m r) (ap (λ h. at xs (h - 1)) is ∙ (head_rule above).1)
+
   -- ---- Rule m comes, which was on no chain.
   module _ (free : linked nexts m → ⊥) where
     -- With a link at m, and links elsewhere where there were links.

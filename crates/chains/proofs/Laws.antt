@@ -35,25 +35,6 @@ empty_more a heads h empty b l = by_place (ℕ_discrete b a)
     by_place (yes e) = rw e (get_or-set_same heads a 0 0 h)
     by_place (no apart) = get_or-set_other heads a b 0 0 apart ∙ empty b (omega arith)
 
--- From number m up to k no rule is on a chain now, and the places before m are as they were.
-pub record OffTo (m k : ℕ) (nexts nexts' : List ℕ) : Type 0 where
-  pub before : (j : ℕ) → j < m → at nexts' j ≡ at nexts j
-  pub off : (j : ℕ) → m ≤ j → j < k → at nexts' j ≡ OFF
-
-pub off_none : (m : ℕ) (nexts : List ℕ) → OffTo m m nexts nexts
-off_none m nexts = record { before = λ j h. refl; off = λ j h l. absurd (omega arith) }
-
--- Place k made so too.
-pub off_more : (m k : ℕ) (nexts nexts' : List ℕ) → m ≤ k → k < length nexts' → OffTo m k nexts nexts' → OffTo m (k + 1) nexts (set nexts' k OFF)
-off_more m k nexts nexts' above place to = record {
-  before = λ j h. get_or-set_other nexts' k j OFF 0 (λ e. omega arith) ∙ to.before j h;
-  off = λ j h l. by_place j h l (ℕ_discrete j k);
-}
-  where
-    by_place : (j : ℕ) → m ≤ j → j < k + 1 → Dec (j ≡ k) → at (set nexts' k OFF) j ≡ OFF
-    by_place j h l (yes e) = rw e (get_or-set_same nexts' k OFF 0 place)
-    by_place j h l (no apart) = get_or-set_other nexts' k j OFF 0 apart ∙ to.off j h (omega arith)
-
 -- Chains speak of the first steps of their own rules only, and of which numbers these are.
 pub chains_agree :
     (n : ℕ) (H G : ℕ → Type 0) (rank : ℕ → ℕ) (xs xs' heads nexts : List ℕ) → ((k : ℕ) → H k → G k) → ((k : ℕ) → G k → H k) → ((k : ℕ) → H k → at xs' k ≡ at xs k) →

@@ -1,2 +1,5 @@
 -- What the chains' contracts cite.
 pub mod Chains
+pub mod Links
+pub mod Walks
+pub mod Held

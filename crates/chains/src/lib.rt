@@ -5,10 +5,61 @@
 ghost use Rattle.std.specs.Prelude.{◌≡◌, ◌<◌, ◌≤◌, length};
 ghost use Rattle.meaning.specs.Rules.{plus};
 ghost use Rattle.meaning.specs.Tables.{at};
+ghost use Rattle.chains.specs.Links.{Falls, Falls-prop};
 ghost use Rattle.chains.specs.Chains.{Chained, Linkable, Empty, Pushed, Dropped, OffFrom, Buildable, linked, minus, Amendable, Descends, LastAbove, ChainsNow, Turnable};
 
-// In nexts the place of a rule that is on no chain has this, which is no link.
+use lent::Rules;
+
+// In nexts the place of a rule that is on no chain has this, which is no link. A link is a bare u16, as what holds an Option<u16> would be twice as much of the stack (host/c/stack.c).
 pub const OFF: u16 = 65535;
+
+// The rules on chains, by their first steps, and the days that go with them.
+#[derive(Clone, Copy)]
+pub struct Held<'a> {
+    pub rules: Rules<'a>,
+    pub days: &'a [u32],
+    pub heads: &'a [u16],
+    pub nexts: &'a [u16],
+}
+
+// A walk along a chain: it gives the rules from the link on, each after the newer ones.
+#[derive(Drop)]
+pub struct Links<'a> {
+    pub nexts: &'a [u16],
+    pub link: usize,
+    ghost falls: { Falls link nexts.now link } by { Falls-prop link nexts.now link },
+}
+
+impl<'a> Links<'a> {
+    // From this link on.
+    pub fn new(nexts: &'a [u16], link: usize) -> Links<'a>
+        requires { Falls link nexts.now link }
+        ensures nexts { result.nexts ≡ nexts.entry }
+        ensures link { result.link ≡ link }
+    {
+        Links { nexts, link }
+    }
+}
+
+impl<'a> Iterator for Links<'a> {
+    ghost use Rattle.std.specs.Iterator.{at_most};
+    ghost use Rattle.chains.specs.Walks.{Follows};
+
+    type Item = usize;
+
+    ghost next_gives = { Follows };
+
+    ghost remaining = { λ s. at_most s.link };
+
+    fn next(&mut self) -> Option<usize> {
+        if self.link == 0 {
+            return None;
+        }
+        let i = self.link - 1;
+        self.link = self.nexts[i] as usize;
+        Some(i)
+    }
+}
 
 // Puts rule m on the chain of its first step, as the newest.
 pub fn push(xs: &[u16], heads: &mut [u16], nexts: &mut [u16], m: usize)
@@ -82,12 +133,8 @@ pub fn remove(n: usize, xs: &[u16], heads: &mut [u16], nexts: &mut [u16], i: usi
 pub fn off_from(m: usize, nexts: &mut [u16])
     ensures { OffFrom m nexts.old nexts.new }
 {
-    let places = nexts.len();
-    let mut k = m;
-    while k < places {
-        nexts[k] = OFF;
-        k += 1;
-    }
+    let past = m.min(nexts.len());
+    nexts[past..].fill(OFF);
 }
 
 // Empties the chain of every step below n.
@@ -95,9 +142,7 @@ pub fn clear(n: usize, heads: &mut [u16])
     requires { n ≤ length heads.old }
     ensures { Empty n heads.new }
 {
-    for a in 0..n {
-        heads[a] = 0;
-    }
+    heads[..n].fill(0);
 }
 
 // Makes the chains of the first m rules over n steps, whatever heads and nexts held.

@@ -1,5 +1,5 @@
 -- From what a call does to the tables and to the gap table by itself to what it promises of both.
-use Prim.Native.Nat.{ℕ, suc, ◌+◌}
+use Prim.Native.Nat.{ℕ, suc, ◌+◌, ◌<◌}
 use native.Mathlib.Omega.{arith}
 use mathlib.Core.Path.{◌≡◌, refl, sym, subst}
 use mathlib.Core.List.{List}
@@ -7,7 +7,7 @@ use mathlib.Core.Logic.{inl, inr}
 use lib.IntN.{ℤ, pos, negsuc, neg_ℤ}
 use Rattle.meaning.specs.declared.Counts.{Counts}
 use Rattle.meaning.specs.Bounds.{NO_LIMIT, DONE}
-use Rattle.meaning.specs.Rules.{Rule}
+use Rattle.meaning.specs.Rules.{Rule, InAmount}
 use Rattle.meaning.specs.Tables.{Tables}
 use Rattle.meaning.specs.Promise.{Given, First}
 use Rattle.meaning.specs.Calls.{with_list, rules_of, held_in, add_meaning}
@@ -18,12 +18,12 @@ use Rattle.meaning.proofs.Sequences.{call_keeps}
 use Rattle.lent.specs.Lent.{tables}
 use Rattle.lent.specs.Idle.{unwatched}
 use Rattle.lent.specs.Promises.{Border}
-use Rattle.gaps.specs.Gaps.{Gaps, Limit, Says, InYard, Right, Remade}
+use Rattle.gaps.specs.Gaps.{Gaps, Limit, Says, cell, InYard, Right, Remade}
 use Rattle.gaps.specs.Beside.{GapTold}
 use Rattle.gaps.specs.Promises.{kind_of, size_of}
-use Rattle.gaps.specs.Slacks.{Raised}
+use Rattle.gaps.specs.Slacks.{Near, Raised}
 use Rattle.gaps.proofs.Right.{right_near, raised_remade}
-use Rattle.desk.specs.Yard.{Raisable, pair_needs}
+use Rattle.desk.specs.Yard.{pair_needs}
 
 -- Whatever a call answers on sound tables, it leaves sound ones.
 pub still_border : (c : Call) (t u : Tables) (g : Given) → Made c t g u → Border t → Border u
@@ -35,6 +35,13 @@ module _ (counts : Counts) (xs ys : List ℕ) (cs : List ℤ) (days levels wxs w
   remade_watching r = record { right = r.right; others = r.others; as_many = r.as_many; as_long = r.as_long }
 
 -- ---- an accepted Add
+
+-- The rule x, y, c can be brought into the gap table.
+pub record Raisable (n x y : ℕ) (c : ℤ) (gaps : Gaps) : Type 0 where
+  pub first_in : x < n
+  pub second_in : y < n
+  pub amount_in : InAmount c
+  pub near : (i j : ℕ) → InYard n i j → Near (cell gaps i j)
 
 module _ (r : Rule) (t u : Tables) (l l' : List ℕ) (g : Given) (a b : Gaps) (made : Made (Call.adds r l l') t g u) (right : Right t a) (done : g.number ≡ DONE) where
   met : AllMet (add_meaning r (with_list t l)).asks
@@ -53,10 +60,10 @@ module _ (r : Rule) (t u : Tables) (l l' : List ℕ) (g : Given) (a b : Gaps) (m
 -- ---- Gap
 
 -- A pair that is not refused is of one yard.
-pub pair_met : (n x y k : ℕ) → First (pair_needs n x y) k → k ≡ DONE → InYard n x y
-pair_met n x y k (inl f) is = absurd (omega (arith, f.0, is))
-pair_met n x y k (inr (few, inl f)) is = absurd (omega (arith, f.0, is))
-pair_met n x y k (inr (few, inr (there, f))) is = record { one_yard = few; row_in = there.0; column_in = there.1 }
+pub pair_met : (n x y : ℕ) → First (pair_needs n x y) DONE → InYard n x y
+pair_met n x y (inl f) = absurd (omega (arith, f.0))
+pair_met n x y (inr (few, inl f)) = absurd (omega (arith, f.0))
+pair_met n x y (inr (few, inr (there, f))) = record { one_yard = few; row_in = there.0; column_in = there.1 }
 
 up_alone : (n : ℕ) → n ≡ n + 0
 up_alone n = omega arith

@@ -8,11 +8,12 @@ use lib.ListN.{length, take}
 use lib.Seq.{length-take-le, get_or-take, take_all}
 use lib.IntN.{ℤ}
 use Rattle.meaning.specs.declared.Counts.{Counts}
-use Rattle.meaning.specs.declared.Reply.{Reply}
+use Rattle.meaning.specs.declared.Refusal.{Refusal}
+use Rattle.std.specs.Prelude.{Result}
 use Rattle.meaning.specs.Bounds.{DONE}
 use Rattle.meaning.specs.Rules.{InSteps, Reason, rule}
 use Rattle.meaning.specs.Tables.{Tables, at}
-use Rattle.meaning.specs.Promise.{Given, given}
+use Rattle.meaning.specs.Promise.{Given, number_told, value_told, given_value}
 use Rattle.meaning.specs.Calls.{WithLists, trial_meaning, rules_of, held_in, next_in, rules_and, held_and}
 use Rattle.meaning.proofs.Needs.{done_met, trial_rises}
 use Rattle.meaning.proofs.More.{more_all}
@@ -23,9 +24,9 @@ use Rattle.lent.specs.Promises.{Tries}
 use Rattle.desk.specs.Part.{PartOf, TrialPart, Handed}
 
 module _
-    (counts : Counts) (xs ys : List ℕ) (cs : List ℤ) (days levels wxs wys : List ℕ) (wcs : List ℤ) (one two : List ℕ) (x y : ℕ) (c : ℤ) (r : Reply)
-    (one' two' : List ℕ) (kept : Tries counts xs ys cs days levels wxs wys wcs one two x y c r one' two')
-    {P : Type 0} (one-start two-start start : P) (part : List ℕ) (is : TrialPart one-start two-start one' two' r start part) where
+    (counts : Counts) (xs ys : List ℕ) (cs : List ℤ) (days levels wxs wys : List ℕ) (wcs : List ℤ) (one two : List ℕ) (x y : ℕ) (c : ℤ) (answer : Result ℕ Refusal)
+    (one' two' : List ℕ) (kept : Tries counts xs ys cs days levels wxs wys wcs one two x y c (given_value answer) counts one' two')
+    {P : Type 0} (one-start two-start start : P) (part : List ℕ) (is : TrialPart one-start two-start one' two' counts.steps answer start part) where
   abbrev t : Tables
   t = tables counts xs ys cs days levels wxs wys wcs
 
@@ -33,7 +34,7 @@ module _
   lent = record { tables = t; one = one; two = two }
 
   abbrev g : Given
-  g = given r
+  g = given_value answer
 
   -- After Trial kept its promise the part is the days of all steps, the ring, or nothing.
   pub part_handed : Handed (rule x y c) t g one-start two-start start part
@@ -48,7 +49,7 @@ module _
       other e f = omega arith
 
       the-part : g.number ≡ DONE → part ≡ take counts.steps one'
-      the-part e = (is.days_part e).holds ∙ ap (λ (u : Tables). take u.counts.steps one') (kept.when_done e).tables_stay
+      the-part e = (is.days_part e).holds
 
       the-length : g.number ≡ DONE → length part ≡ counts.steps
       the-length e =
@@ -65,16 +66,16 @@ module _
 
 -- Two parts that the promise allows are equal.
 pub part_determined :
-    {P : Type 0} (one-start two-start : P) (one two : List ℕ) (reply : Reply) (start start' : P) (part part' : List ℕ)
-    → TrialPart one-start two-start one two reply start part → TrialPart one-start two-start one two reply start' part' → (start ≡ start') × (part ≡ part')
-part_determined {P} one-start two-start one two reply start start' part part' a b = tell (ℕ_discrete reply.number DONE)
+    {P : Type 0} (one-start two-start : P) (one two : List ℕ) (steps : ℕ) (answer : Result ℕ Refusal) (start start' : P) (part part' : List ℕ)
+    → TrialPart one-start two-start one two steps answer start part → TrialPart one-start two-start one two steps answer start' part' → (start ≡ start') × (part ≡ part')
+part_determined {P} one-start two-start one two steps answer start start' part part' a b = tell (ℕ_discrete (number_told answer) DONE)
   where
     same : (list-start : P) (list : List ℕ) (k : ℕ) → PartOf list-start list k start part → PartOf list-start list k start' part' → (start ≡ start') × (part ≡ part')
     same list-start list k p q = (p.same_start ∙ sym q.same_start, p.holds ∙ sym q.holds)
 
-    tell : Dec (reply.number ≡ DONE) → (start ≡ start') × (part ≡ part')
-    tell (yes e) = same one-start one reply.counts.steps (a.days_part e) (b.days_part e)
-    tell (no n) = same two-start two reply.one (a.ring_part n) (b.ring_part n)
+    tell : Dec (number_told answer ≡ DONE) → (start ≡ start') × (part ≡ part')
+    tell (yes e) = same one-start one steps (a.days_part e) (b.days_part e)
+    tell (no n) = same two-start two (value_told answer) (a.ring_part n) (b.ring_part n)
 
 -- A part from place 0 on starts where its list starts, and has the list's first places; all of them where more are asked for.
 pub from_start : (block offset : ℕ) → ◌≡◌ {A = ℕ × ℕ} (block, 0 * 4 + offset) (block, offset)

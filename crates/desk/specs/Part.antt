@@ -1,10 +1,10 @@
 -- The part of a list that is handed back after Trial.
-use Rattle.std.specs.Prelude.{ℕ, ◌≡◌, List, [], length, take}
-use Rattle.meaning.specs.declared.Reply.{Reply}
+use Rattle.std.specs.Prelude.{ℕ, ◌≡◌, List, [], length, take, Result}
+use Rattle.meaning.specs.declared.Refusal.{Refusal}
 use Rattle.meaning.specs.Bounds.{DONE, CONFLICT}
 use Rattle.meaning.specs.Rules.{Rule, Earliest, Reason}
 use Rattle.meaning.specs.Tables.{Tables, at}
-use Rattle.meaning.specs.Promise.{Given}
+use Rattle.meaning.specs.Promise.{Given, number_told, value_told}
 use Rattle.meaning.specs.Calls.{rules_of, held_in, next_in, rules_and, held_and}
 
 -- The part starts where the list starts and holds its first k places; all of it where the list has no more.
@@ -12,11 +12,11 @@ pub record PartOf {P : Type 0} (list-start : P) (list : List ℕ) (k : ℕ) (sta
   pub same_start : start ≡ list-start
   pub holds : part ≡ take k list
 
--- The part handed back after a Trial that gave this reply and left these lists: where the answer is DONE, of list one a place for each step; else of
+-- The part handed back after a Trial over so many steps that gave this answer and left these lists: where it was carried out, of list one a place for each step; else of
 -- list two as many places as the value says.
-pub record TrialPart {P : Type 0} (one-start two-start : P) (one two : List ℕ) (reply : Reply) (start : P) (part : List ℕ) : Type 0 where
-  pub days_part : reply.number ≡ DONE → PartOf one-start one reply.counts.steps start part
-  pub ring_part : (reply.number ≡ DONE → ⊥) → PartOf two-start two reply.one start part
+pub record TrialPart {P : Type 0} (one-start two-start : P) (one two : List ℕ) (steps : ℕ) (answer : Result ℕ Refusal) (start : P) (part : List ℕ) : Type 0 where
+  pub days_part : number_told answer ≡ DONE → PartOf one-start one steps start part
+  pub ring_part : (number_told answer ≡ DONE → ⊥) → PartOf two-start two (value_told answer) start part
 
 -- What a caller of Trial with the rule r then has in the part: the days of all steps, which are the earliest plan with r, at the start of list one; on
 -- CONFLICT the ring, which is the reason, and on any other refusal nothing, at the start of list two.

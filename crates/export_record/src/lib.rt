@@ -102,13 +102,23 @@ pub fn start(
         (bare result.number)
         (lent_by_c result.counts xs.now ys.now cs.now days.new levels.new wxs.now wys.now wcs.now result.kept names.now lens.now out) }
 {
-    let notes = script_meaning::no_notes();
-    let reply = script_calls::start(
-        counts, notes, xs, ys, cs, days, levels, wxs, wys, wcs, names, lens,
+    let mut opened = counts;
+    let mut noted = script_meaning::no_notes();
+    let started = script_calls::start(
+        &mut opened,
+        &mut noted,
+        xs,
+        ys,
+        cs,
+        days,
+        levels,
+        wxs,
+        wys,
+        wcs,
+        names,
+        lens,
     );
-    let opened = reply.counts;
-    let noted = reply.notes;
-    let number = reply.number;
+    let number = meaning::number(started);
     let after = brought(number, noted, kept);
     ScriptTold {
         counts: opened,

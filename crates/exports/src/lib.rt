@@ -2,15 +2,16 @@
 // exports them.
 #![tactic(auto)]
 
-ghost use Rattle.std.specs.Prelude.{List, ℕ};
-ghost use Rattle.meaning.specs.Promise.{Obeys, bare, gave};
-ghost use Rattle.gaps.specs.Promises.{OpensTo, WatchesTo, AddsTo, MarksTo, GoesBackTo, WithdrawsTo, TriesTo, SplitsTo, ChecksRingTo, TellsLastDayTo, TellsGapTo};
+ghost use Rattle.std.specs.Prelude.{◌≡◌, List, ℕ};
+ghost use Rattle.meaning.specs.Promise.{Obeys, bare, gave, number_told, value_told, counts_told};
+ghost use Rattle.gaps.specs.Promises.{Opens, Watches, Adds, Marks, GoesBack, Withdraws, Tries, Splits, ChecksRing, TellsLastDay, TellsGap};
 ghost use Rattle.export_record.specs.Records.{lent_by_c, start_by_c, command_by_c};
 ghost use Rattle.script_meaning.specs.Whole.{RunsScript};
 
 use export_record::Record;
 use gaps::Gaps;
-use meaning::Counts;
+use lent::{Rules, Tables};
+use meaning::{Counts, Refusal};
 
 // Runs the script and writes all answers into out; `written` is how many bytes they are. It gives back the refusal's number, 0 where there was none.
 pub fn dates_run_script(script: &[u8], out: &mut [u8], written: &mut usize) -> u32
@@ -21,128 +22,179 @@ pub fn dates_run_script(script: &[u8], out: &mut [u8], written: &mut usize) -> u
     ran.number
 }
 
+// The number of an answer that gives counts back, which are stored.
+fn stored(answer: Result<Counts, Refusal>, counts: &mut Counts) -> u32
+    ensures number { result ≡ number_told answer }
+    ensures counts { counts.new ≡ counts_told counts.old answer }
+{
+    match answer {
+        Ok(after) => {
+            *counts = after;
+            meaning::DONE
+        }
+        Err(refusal) => refusal.number(),
+    }
+}
+
+// The number of an answer, and what it tells into `value`: on CONFLICT the ring's length, on any other refusal 0.
+fn told(answer: Result<u32, Refusal>, value: &mut u32) -> u32
+    ensures number { result ≡ number_told answer }
+    ensures value { value.new ≡ value_told answer }
+{
+    match answer {
+        Ok(number) => {
+            *value = number;
+            meaning::DONE
+        }
+        Err(refusal) => {
+            *value = refusal.ring();
+            refusal.number()
+        }
+    }
+}
+
 // Open: its number; the counts are brought up to date.
-pub fn dates_open(
+pub fn dates_open<'a>(
     counts: &mut Counts,
-    xs: &[u16],
-    ys: &[u16],
-    cs: &[i32],
-    days: &mut [u32],
-    levels: &mut [u8],
-    wxs: &[u16],
-    wys: &[u16],
-    wcs: &[i32],
+    xs: &'a [u16],
+    ys: &'a [u16],
+    cs: &'a [i32],
+    days: &'a mut [u32],
+    levels: &'a mut [u8],
+    wxs: &'a [u16],
+    wys: &'a [u16],
+    wcs: &'a [i32],
     gaps: &mut Gaps,
     steps: u32,
 ) -> u32
-    ensures { OpensTo counts.old xs.now ys.now cs.now days.old levels.old wxs.now wys.now wcs.now gaps.old steps (bare result) counts.new days.new levels.new gaps.new }
+    ensures { Opens counts.old xs.now ys.now cs.now days.old levels.old wxs.now wys.now wcs.now gaps.old steps (bare result) counts.new days.new levels.new gaps.new }
 {
-    let out = desk::open(
-        *counts, xs, ys, cs, days, levels, wxs, wys, wcs, gaps, steps,
-    );
-    *counts = out.counts;
-    out.number
+    let rules = Rules { xs, ys, cs };
+    let watched = Rules {
+        xs: wxs,
+        ys: wys,
+        cs: wcs,
+    };
+    let answer = desk::open(*counts, rules, days, levels, watched, gaps, steps);
+    stored(answer, counts)
 }
 
 // Watch: its number; the counts are brought up to date.
-pub fn dates_watch(
+pub fn dates_watch<'a>(
     counts: &mut Counts,
-    xs: &[u16],
-    ys: &[u16],
-    cs: &[i32],
-    days: &[u32],
-    levels: &[u8],
-    wxs: &mut [u16],
-    wys: &mut [u16],
-    wcs: &mut [i32],
+    xs: &'a [u16],
+    ys: &'a [u16],
+    cs: &'a [i32],
+    days: &'a [u32],
+    levels: &'a [u8],
+    wxs: &'a mut [u16],
+    wys: &'a mut [u16],
+    wcs: &'a mut [i32],
     gaps: &Gaps,
     x: u32,
     y: u32,
     c: i32,
 ) -> u32
-    ensures { WatchesTo counts.old xs.now ys.now cs.now days.now levels.now wxs.old wys.old wcs.old gaps.now x y c (bare result) counts.new wxs.new wys.new wcs.new }
+    ensures { Watches counts.old xs.now ys.now cs.now days.now levels.now wxs.old wys.old wcs.old gaps.now x y c (bare result) counts.new wxs.new wys.new wcs.new }
 {
-    let out = desk::watch(
-        *counts, xs, ys, cs, days, levels, wxs, wys, wcs, gaps, x, y, c,
-    );
-    *counts = out.counts;
-    out.number
+    let rules = Rules { xs, ys, cs };
+    let answer = desk::watch(*counts, rules, days, levels, wxs, wys, wcs, gaps, x, y, c);
+    stored(answer, counts)
 }
 
 // Mark: its number; the counts are brought up to date.
-pub fn dates_mark(
+pub fn dates_mark<'a>(
     counts: &mut Counts,
-    xs: &[u16],
-    ys: &[u16],
-    cs: &[i32],
-    days: &[u32],
-    levels: &[u8],
-    wxs: &[u16],
-    wys: &[u16],
-    wcs: &[i32],
+    xs: &'a [u16],
+    ys: &'a [u16],
+    cs: &'a [i32],
+    days: &'a [u32],
+    levels: &'a [u8],
+    wxs: &'a [u16],
+    wys: &'a [u16],
+    wcs: &'a [i32],
     gaps: &Gaps,
 ) -> u32
-    ensures { MarksTo counts.old xs.now ys.now cs.now days.now levels.now wxs.now wys.now wcs.now gaps.now (bare result) counts.new }
+    ensures { Marks counts.old xs.now ys.now cs.now days.now levels.now wxs.now wys.now wcs.now gaps.now (bare result) counts.new }
 {
-    let out = desk::mark(*counts, xs, ys, cs, days, levels, wxs, wys, wcs, gaps);
-    *counts = out.counts;
-    out.number
+    let rules = Rules { xs, ys, cs };
+    let watched = Rules {
+        xs: wxs,
+        ys: wys,
+        cs: wcs,
+    };
+    let tables = Tables {
+        rules,
+        days,
+        levels,
+        watched,
+    };
+    let answer = desk::mark(*counts, tables, gaps);
+    stored(answer, counts)
 }
 
 // Back: its number; the counts are brought up to date.
-pub fn dates_back(
+pub fn dates_back<'a>(
     counts: &mut Counts,
-    xs: &[u16],
-    ys: &[u16],
-    cs: &[i32],
-    days: &mut [u32],
-    levels: &mut [u8],
-    wxs: &[u16],
-    wys: &[u16],
-    wcs: &[i32],
+    xs: &'a [u16],
+    ys: &'a [u16],
+    cs: &'a [i32],
+    days: &'a mut [u32],
+    levels: &'a mut [u8],
+    wxs: &'a [u16],
+    wys: &'a [u16],
+    wcs: &'a [i32],
     gaps: &mut Gaps,
 ) -> u32
-    ensures { GoesBackTo counts.old xs.now ys.now cs.now days.old levels.old wxs.now wys.now wcs.now gaps.old (bare result) counts.new days.new levels.new gaps.new }
+    ensures { GoesBack counts.old xs.now ys.now cs.now days.old levels.old wxs.now wys.now wcs.now gaps.old (bare result) counts.new days.new levels.new gaps.new }
 {
-    let out = desk::back(*counts, xs, ys, cs, days, levels, wxs, wys, wcs, gaps);
-    *counts = out.counts;
-    out.number
+    let rules = Rules { xs, ys, cs };
+    let watched = Rules {
+        xs: wxs,
+        ys: wys,
+        cs: wcs,
+    };
+    let answer = desk::back(*counts, rules, days, levels, watched, gaps);
+    stored(answer, counts)
 }
 
 // Withdraw: its number; the counts are brought up to date.
-pub fn dates_withdraw(
+pub fn dates_withdraw<'a>(
     counts: &mut Counts,
-    xs: &[u16],
-    ys: &[u16],
-    cs: &[i32],
-    days: &mut [u32],
-    levels: &mut [u8],
-    wxs: &[u16],
-    wys: &[u16],
-    wcs: &[i32],
+    xs: &'a [u16],
+    ys: &'a [u16],
+    cs: &'a [i32],
+    days: &'a mut [u32],
+    levels: &'a mut [u8],
+    wxs: &'a [u16],
+    wys: &'a [u16],
+    wcs: &'a [i32],
     gaps: &mut Gaps,
     number: u32,
 ) -> u32
-    ensures { WithdrawsTo counts.old xs.now ys.now cs.now days.old levels.old wxs.now wys.now wcs.now gaps.old number (bare result) counts.new days.new levels.new gaps.new }
+    ensures { Withdraws counts.old xs.now ys.now cs.now days.old levels.old wxs.now wys.now wcs.now gaps.old number (bare result) counts.new days.new levels.new gaps.new }
 {
-    let out = desk::withdraw(
-        *counts, xs, ys, cs, days, levels, wxs, wys, wcs, gaps, number,
-    );
-    *counts = out.counts;
-    out.number
+    let rules = Rules { xs, ys, cs };
+    let watched = Rules {
+        xs: wxs,
+        ys: wys,
+        cs: wcs,
+    };
+    let answer = desk::withdraw(*counts, rules, days, levels, watched, gaps, number);
+    stored(answer, counts)
 }
 
 // Add: its number; `value` is how many steps moved, on CONFLICT the ring's length, else 0; the counts are brought up to date.
-pub fn dates_add(
+pub fn dates_add<'a>(
     counts: &mut Counts,
-    xs: &mut [u16],
-    ys: &mut [u16],
-    cs: &mut [i32],
-    days: &mut [u32],
-    levels: &mut [u8],
-    wxs: &[u16],
-    wys: &[u16],
-    wcs: &[i32],
+    xs: &'a mut [u16],
+    ys: &'a mut [u16],
+    cs: &'a mut [i32],
+    days: &'a mut [u32],
+    levels: &'a mut [u8],
+    wxs: &'a [u16],
+    wys: &'a [u16],
+    wcs: &'a [i32],
     gaps: &mut Gaps,
     list: &mut [u32],
     x: u32,
@@ -150,27 +202,40 @@ pub fn dates_add(
     c: i32,
     value: &mut u32,
 ) -> u32
-    ensures { AddsTo counts.old xs.old ys.old cs.old days.old levels.old wxs.now wys.now wcs.now gaps.old list.old x y c (gave result value.new 0) counts.new xs.new ys.new cs.new days.new levels.new gaps.new list.new }
+    ensures { Adds counts.old xs.old ys.old cs.old days.old levels.old wxs.now wys.now wcs.now gaps.old list.old x y c (gave result value.new 0) counts.new xs.new ys.new cs.new days.new levels.new gaps.new list.new }
 {
-    let out = desk::add(
-        *counts, xs, ys, cs, days, levels, wxs, wys, wcs, gaps, list, x, y, c,
+    let watched = Rules {
+        xs: wxs,
+        ys: wys,
+        cs: wcs,
+    };
+    let answer = desk::add(
+        *counts, xs, ys, cs, days, levels, watched, gaps, list, x, y, c,
     );
-    *counts = out.counts;
-    *value = out.one;
-    out.number
+    match answer {
+        Ok(added) => {
+            *counts = added.counts;
+            *value = added.moved;
+            meaning::DONE
+        }
+        Err(refusal) => {
+            *value = refusal.ring();
+            refusal.number()
+        }
+    }
 }
 
 // Trial: its number; `value` is how many steps would move, on CONFLICT the ring's length, else 0.
-pub fn dates_trial(
+pub fn dates_trial<'a>(
     counts: &Counts,
-    xs: &[u16],
-    ys: &[u16],
-    cs: &[i32],
-    days: &[u32],
-    levels: &[u8],
-    wxs: &[u16],
-    wys: &[u16],
-    wcs: &[i32],
+    xs: &'a [u16],
+    ys: &'a [u16],
+    cs: &'a [i32],
+    days: &'a [u32],
+    levels: &'a [u8],
+    wxs: &'a [u16],
+    wys: &'a [u16],
+    wcs: &'a [i32],
     gaps: &Gaps,
     one: &mut [u32],
     two: &mut [u32],
@@ -179,53 +244,81 @@ pub fn dates_trial(
     c: i32,
     value: &mut u32,
 ) -> u32
-    ensures { TriesTo counts.now xs.now ys.now cs.now days.now levels.now wxs.now wys.now wcs.now gaps.now one.old two.old x y c (gave result value.new 0) counts.now one.new two.new }
+    ensures { Tries counts.now xs.now ys.now cs.now days.now levels.now wxs.now wys.now wcs.now gaps.now one.old two.old x y c (gave result value.new 0) counts.now one.new two.new }
 {
-    let out = desk::trial(
-        *counts, xs, ys, cs, days, levels, wxs, wys, wcs, gaps, one, two, x, y, c,
-    );
-    *value = out.one;
-    out.number
+    let rules = Rules { xs, ys, cs };
+    let watched = Rules {
+        xs: wxs,
+        ys: wys,
+        cs: wcs,
+    };
+    let tables = Tables {
+        rules,
+        days,
+        levels,
+        watched,
+    };
+    let tried = desk::trial(*counts, tables, gaps, one, two, x, y, c);
+    told(tried, value)
 }
 
 // Consequences: its number; `held` is how many watched rules hold in every arrangement, `excluded` how many in none, both 0 on a refusal.
-pub fn dates_consequences(
+pub fn dates_consequences<'a>(
     counts: &Counts,
-    xs: &[u16],
-    ys: &[u16],
-    cs: &[i32],
-    days: &[u32],
-    levels: &[u8],
-    wxs: &[u16],
-    wys: &[u16],
-    wcs: &[i32],
+    xs: &'a [u16],
+    ys: &'a [u16],
+    cs: &'a [i32],
+    days: &'a [u32],
+    levels: &'a [u8],
+    wxs: &'a [u16],
+    wys: &'a [u16],
+    wcs: &'a [i32],
     gaps: &Gaps,
     one: &mut [u32],
     two: &mut [u32],
     held: &mut u32,
     excluded: &mut u32,
 ) -> u32
-    ensures { SplitsTo counts.now xs.now ys.now cs.now days.now levels.now wxs.now wys.now wcs.now gaps.now one.old two.old (gave result held.new excluded.new) counts.now one.new two.new }
+    ensures { Splits counts.now xs.now ys.now cs.now days.now levels.now wxs.now wys.now wcs.now gaps.now one.old two.old (gave result held.new excluded.new) counts.now one.new two.new }
 {
-    let out = desk::consequences(
-        *counts, xs, ys, cs, days, levels, wxs, wys, wcs, gaps, one, two,
-    );
-    *held = out.one;
-    *excluded = out.two;
-    out.number
+    let rules = Rules { xs, ys, cs };
+    let watched = Rules {
+        xs: wxs,
+        ys: wys,
+        cs: wcs,
+    };
+    let tables = Tables {
+        rules,
+        days,
+        levels,
+        watched,
+    };
+    let split = desk::consequences(*counts, tables, gaps, one, two);
+    match split {
+        Ok(lengths) => {
+            *held = lengths.held;
+            *excluded = lengths.excluded;
+            meaning::DONE
+        }
+        Err(refusal) => {
+            *held = 0;
+            *excluded = 0;
+            refusal.number()
+        }
+    }
 }
 
 // Ring check: its number; `verdict` is 1 where the list is such a ring, and 0 where it is not or on a refusal.
-pub fn dates_ring_check(
+pub fn dates_ring_check<'a>(
     counts: &Counts,
-    xs: &[u16],
-    ys: &[u16],
-    cs: &[i32],
-    days: &[u32],
-    levels: &[u8],
-    wxs: &[u16],
-    wys: &[u16],
-    wcs: &[i32],
+    xs: &'a [u16],
+    ys: &'a [u16],
+    cs: &'a [i32],
+    days: &'a [u32],
+    levels: &'a [u8],
+    wxs: &'a [u16],
+    wys: &'a [u16],
+    wcs: &'a [i32],
     gaps: &Gaps,
     list: &[u32],
     x: u32,
@@ -233,59 +326,114 @@ pub fn dates_ring_check(
     c: i32,
     verdict: &mut u32,
 ) -> u32
-    ensures { ChecksRingTo counts.now xs.now ys.now cs.now days.now levels.now wxs.now wys.now wcs.now gaps.now list.now x y c (gave result verdict.new 0) counts.now }
+    ensures { ChecksRing counts.now xs.now ys.now cs.now days.now levels.now wxs.now wys.now wcs.now gaps.now list.now x y c (gave result verdict.new 0) counts.now }
 {
-    let out = desk::ring_check(
-        *counts, xs, ys, cs, days, levels, wxs, wys, wcs, gaps, list, x, y, c,
-    );
-    *verdict = out.one;
-    out.number
+    let rules = Rules { xs, ys, cs };
+    let watched = Rules {
+        xs: wxs,
+        ys: wys,
+        cs: wcs,
+    };
+    let tables = Tables {
+        rules,
+        days,
+        levels,
+        watched,
+    };
+    let checked = desk::ring_check(*counts, tables, gaps, list, x, y, c);
+    match checked {
+        Ok(ring) => {
+            *verdict = ring as u32;
+            meaning::DONE
+        }
+        Err(refusal) => {
+            *verdict = 0;
+            refusal.number()
+        }
+    }
 }
 
 // Last day: its number; `day` is the largest day of the plan, and 0 on a refusal.
-pub fn dates_last_day(
+pub fn dates_last_day<'a>(
     counts: &Counts,
-    xs: &[u16],
-    ys: &[u16],
-    cs: &[i32],
-    days: &[u32],
-    levels: &[u8],
-    wxs: &[u16],
-    wys: &[u16],
-    wcs: &[i32],
+    xs: &'a [u16],
+    ys: &'a [u16],
+    cs: &'a [i32],
+    days: &'a [u32],
+    levels: &'a [u8],
+    wxs: &'a [u16],
+    wys: &'a [u16],
+    wcs: &'a [i32],
     gaps: &Gaps,
     day: &mut u32,
 ) -> u32
-    ensures { TellsLastDayTo counts.now xs.now ys.now cs.now days.now levels.now wxs.now wys.now wcs.now gaps.now (gave result day.new 0) counts.now }
+    ensures { TellsLastDay counts.now xs.now ys.now cs.now days.now levels.now wxs.now wys.now wcs.now gaps.now (gave result day.new 0) counts.now }
 {
-    let out = desk::last_day(*counts, xs, ys, cs, days, levels, wxs, wys, wcs, gaps);
-    *day = out.one;
-    out.number
+    let rules = Rules { xs, ys, cs };
+    let watched = Rules {
+        xs: wxs,
+        ys: wys,
+        cs: wcs,
+    };
+    let tables = Tables {
+        rules,
+        days,
+        levels,
+        watched,
+    };
+    let largest = desk::last_day(*counts, tables, gaps);
+    told(largest, day)
 }
 
 // Gap: its number; `limited` is 1 and `limit` the limit of the pair x, y, or both are 0 where there is none; both are 0 on a refusal.
-pub fn dates_gap(
+pub fn dates_gap<'a>(
     counts: &Counts,
-    xs: &[u16],
-    ys: &[u16],
-    cs: &[i32],
-    days: &[u32],
-    levels: &[u8],
-    wxs: &[u16],
-    wys: &[u16],
-    wcs: &[i32],
+    xs: &'a [u16],
+    ys: &'a [u16],
+    cs: &'a [i32],
+    days: &'a [u32],
+    levels: &'a [u8],
+    wxs: &'a [u16],
+    wys: &'a [u16],
+    wcs: &'a [i32],
     gaps: &Gaps,
     x: u32,
     y: u32,
     limited: &mut u32,
     limit: &mut i64,
 ) -> u32
-    ensures { TellsGapTo counts.now xs.now ys.now cs.now days.now levels.now wxs.now wys.now wcs.now gaps.now x y result limited.new limit.new counts.now }
+    ensures { TellsGap counts.now xs.now ys.now cs.now days.now levels.now wxs.now wys.now wcs.now gaps.now x y result limited.new limit.new counts.now }
 {
-    let out = desk::gap(*counts, xs, ys, cs, days, levels, wxs, wys, wcs, gaps, x, y);
-    *limited = out.limited;
-    *limit = out.limit;
-    out.number
+    let rules = Rules { xs, ys, cs };
+    let watched = Rules {
+        xs: wxs,
+        ys: wys,
+        cs: wcs,
+    };
+    let tables = Tables {
+        rules,
+        days,
+        levels,
+        watched,
+    };
+    let between = desk::gap(*counts, tables, gaps, x, y);
+    match between {
+        Ok(Some(days_between)) => {
+            *limited = 1;
+            *limit = days_between;
+            meaning::DONE
+        }
+        Ok(None) => {
+            *limited = 0;
+            *limit = 0;
+            meaning::DONE
+        }
+        Err(refusal) => {
+            *limited = 0;
+            *limit = 0;
+            refusal.number()
+        }
+    }
 }
 
 // Start: its number; the counts are brought up to date, and the record is emptied.

@@ -3,7 +3,7 @@
 
 ghost use Rattle.std.specs.Prelude.{List, ℕ};
 ghost use Rattle.meaning.specs.Promise.{Obeys, bare, gave};
-ghost use Rattle.gaps.specs.Promises.{OpensTo, WatchesTo, AddsTo, MarksTo, GoesBackTo, WithdrawsTo, TriesTo, SplitsTo, ChecksRingTo, TellsLastDayTo, TellsGapTo};
+ghost use Rattle.gaps.specs.Promises.{Opens, Watches, Adds, Marks, GoesBack, Withdraws, Tries, Splits, ChecksRing, TellsLastDay, TellsGap};
 ghost use Rattle.export_record.specs.Records.{lent_by_c, start_by_c, command_by_c};
 ghost use Rattle.script_meaning.specs.Whole.{RunsScript};
 
@@ -34,7 +34,7 @@ pub extern "C" fn dates_open(
     gaps: &mut Gaps,
     steps: u32,
 ) -> u32
-    ensures { OpensTo counts.old xs.now ys.now cs.now days.old levels.old wxs.now wys.now wcs.now gaps.old steps (bare result) counts.new days.new levels.new gaps.new }
+    ensures { Opens counts.old xs.now ys.now cs.now days.old levels.old wxs.now wys.now wcs.now gaps.old steps (bare result) counts.new days.new levels.new gaps.new }
 {
     exports::dates_open(counts, xs, ys, cs, days, levels, wxs, wys, wcs, gaps, steps)
 }
@@ -56,7 +56,7 @@ pub extern "C" fn dates_watch(
     y: u32,
     c: i32,
 ) -> u32
-    ensures { WatchesTo counts.old xs.now ys.now cs.now days.now levels.now wxs.old wys.old wcs.old gaps.now x y c (bare result) counts.new wxs.new wys.new wcs.new }
+    ensures { Watches counts.old xs.now ys.now cs.now days.now levels.now wxs.old wys.old wcs.old gaps.now x y c (bare result) counts.new wxs.new wys.new wcs.new }
 {
     exports::dates_watch(
         counts, xs, ys, cs, days, levels, wxs, wys, wcs, gaps, x, y, c,
@@ -77,7 +77,7 @@ pub extern "C" fn dates_mark(
     wcs: &[i32],
     gaps: &Gaps,
 ) -> u32
-    ensures { MarksTo counts.old xs.now ys.now cs.now days.now levels.now wxs.now wys.now wcs.now gaps.now (bare result) counts.new }
+    ensures { Marks counts.old xs.now ys.now cs.now days.now levels.now wxs.now wys.now wcs.now gaps.now (bare result) counts.new }
 {
     exports::dates_mark(counts, xs, ys, cs, days, levels, wxs, wys, wcs, gaps)
 }
@@ -96,7 +96,7 @@ pub extern "C" fn dates_back(
     wcs: &[i32],
     gaps: &mut Gaps,
 ) -> u32
-    ensures { GoesBackTo counts.old xs.now ys.now cs.now days.old levels.old wxs.now wys.now wcs.now gaps.old (bare result) counts.new days.new levels.new gaps.new }
+    ensures { GoesBack counts.old xs.now ys.now cs.now days.old levels.old wxs.now wys.now wcs.now gaps.old (bare result) counts.new days.new levels.new gaps.new }
 {
     exports::dates_back(counts, xs, ys, cs, days, levels, wxs, wys, wcs, gaps)
 }
@@ -116,7 +116,7 @@ pub extern "C" fn dates_withdraw(
     gaps: &mut Gaps,
     number: u32,
 ) -> u32
-    ensures { WithdrawsTo counts.old xs.now ys.now cs.now days.old levels.old wxs.now wys.now wcs.now gaps.old number (bare result) counts.new days.new levels.new gaps.new }
+    ensures { Withdraws counts.old xs.now ys.now cs.now days.old levels.old wxs.now wys.now wcs.now gaps.old number (bare result) counts.new days.new levels.new gaps.new }
 {
     exports::dates_withdraw(
         counts, xs, ys, cs, days, levels, wxs, wys, wcs, gaps, number,
@@ -142,7 +142,7 @@ pub extern "C" fn dates_add(
     c: i32,
     value: &mut u32,
 ) -> u32
-    ensures { AddsTo counts.old xs.old ys.old cs.old days.old levels.old wxs.now wys.now wcs.now gaps.old list.old x y c (gave result value.new 0) counts.new xs.new ys.new cs.new days.new levels.new gaps.new list.new }
+    ensures { Adds counts.old xs.old ys.old cs.old days.old levels.old wxs.now wys.now wcs.now gaps.old list.old x y c (gave result value.new 0) counts.new xs.new ys.new cs.new days.new levels.new gaps.new list.new }
 {
     exports::dates_add(
         counts, xs, ys, cs, days, levels, wxs, wys, wcs, gaps, list, x, y, c, value,
@@ -169,7 +169,7 @@ pub extern "C" fn dates_trial(
     c: i32,
     value: &mut u32,
 ) -> u32
-    ensures { TriesTo counts.now xs.now ys.now cs.now days.now levels.now wxs.now wys.now wcs.now gaps.now one.old two.old x y c (gave result value.new 0) counts.now one.new two.new }
+    ensures { Tries counts.now xs.now ys.now cs.now days.now levels.now wxs.now wys.now wcs.now gaps.now one.old two.old x y c (gave result value.new 0) counts.now one.new two.new }
 {
     exports::dates_trial(
         counts, xs, ys, cs, days, levels, wxs, wys, wcs, gaps, one, two, x, y, c, value,
@@ -194,7 +194,7 @@ pub extern "C" fn dates_consequences(
     held: &mut u32,
     excluded: &mut u32,
 ) -> u32
-    ensures { SplitsTo counts.now xs.now ys.now cs.now days.now levels.now wxs.now wys.now wcs.now gaps.now one.old two.old (gave result held.new excluded.new) counts.now one.new two.new }
+    ensures { Splits counts.now xs.now ys.now cs.now days.now levels.now wxs.now wys.now wcs.now gaps.now one.old two.old (gave result held.new excluded.new) counts.now one.new two.new }
 {
     exports::dates_consequences(
         counts, xs, ys, cs, days, levels, wxs, wys, wcs, gaps, one, two, held, excluded,
@@ -220,7 +220,7 @@ pub extern "C" fn dates_ring_check(
     c: i32,
     verdict: &mut u32,
 ) -> u32
-    ensures { ChecksRingTo counts.now xs.now ys.now cs.now days.now levels.now wxs.now wys.now wcs.now gaps.now list.now x y c (gave result verdict.new 0) counts.now }
+    ensures { ChecksRing counts.now xs.now ys.now cs.now days.now levels.now wxs.now wys.now wcs.now gaps.now list.now x y c (gave result verdict.new 0) counts.now }
 {
     exports::dates_ring_check(
         counts, xs, ys, cs, days, levels, wxs, wys, wcs, gaps, list, x, y, c, verdict,
@@ -242,7 +242,7 @@ pub extern "C" fn dates_last_day(
     gaps: &Gaps,
     day: &mut u32,
 ) -> u32
-    ensures { TellsLastDayTo counts.now xs.now ys.now cs.now days.now levels.now wxs.now wys.now wcs.now gaps.now (gave result day.new 0) counts.now }
+    ensures { TellsLastDay counts.now xs.now ys.now cs.now days.now levels.now wxs.now wys.now wcs.now gaps.now (gave result day.new 0) counts.now }
 {
     exports::dates_last_day(counts, xs, ys, cs, days, levels, wxs, wys, wcs, gaps, day)
 }
@@ -265,7 +265,7 @@ pub extern "C" fn dates_gap(
     limited: &mut u32,
     limit: &mut i64,
 ) -> u32
-    ensures { TellsGapTo counts.now xs.now ys.now cs.now days.now levels.now wxs.now wys.now wcs.now gaps.now x y result limited.new limit.new counts.now }
+    ensures { TellsGap counts.now xs.now ys.now cs.now days.now levels.now wxs.now wys.now wcs.now gaps.now x y result limited.new limit.new counts.now }
 {
     exports::dates_gap(
         counts, xs, ys, cs, days, levels, wxs, wys, wcs, gaps, x, y, limited, limit,

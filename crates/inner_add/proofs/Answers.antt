@@ -4,10 +4,12 @@ use native.Mathlib.Omega.{arith}
 use native.Mathlib.Decide.{dec_lt}
 use mathlib.Core.Path.{◌≡◌, refl, sym, ◌∙◌, ap, subst}
 use mathlib.Core.List.{List}
+use Rattle.std.specs.Prelude.{Ok, Err}
 use lib.ListN.{length, set, take, replicate, get_or-replicate, length-replicate}
 use lib.IntN.{ℤ, pos}
 use Rattle.meaning.specs.declared.Counts.{Counts}
-use Rattle.meaning.specs.Bounds.{STEPS, RULES, LARGEST, DONE, CONFLICT}
+use Rattle.meaning.specs.declared.Refusal.TheVariants.{Conflict}
+use Rattle.meaning.specs.Bounds.{STEPS, RULES, LARGEST}
 use Rattle.meaning.specs.Rules.{Keeps, InBounds, Earliest, Fits, Reason, largest, more, plus, rule}
 use Rattle.meaning.specs.Tables.{Columns, ColumnsRoom, rule_at, put, at, lowest_free}
 use Rattle.meaning.specs.Promise as promise
@@ -166,7 +168,7 @@ module _
       (one two one' : List ℕ) → BothRoom one two → (k : ℕ) →
       promise.Planned counts.steps (more (rules xs ys cs) m (rule x y c)) (plus (held_by levels) m) one one' →
       k ≡ promise.moved counts.steps days one' →
-      TrialKept counts xs ys cs days levels one two x y c (promise.reply counts DONE k 0) one' two
+      TrialKept counts xs ys cs days levels one two x y c (Ok k) one' two
   trial_done one two one' long k p count wxs wys wcs b =
       let a = asked wxs wys wcs b in
       obeys_done _ _ k 0 _
@@ -176,7 +178,7 @@ module _
   -- Trial, on conflict.
   pub trial_conflict :
       (one two one' two' : List ℕ) → one' ≡ one → BothRoom one two → (k : ℕ) → ReasonIn (held_by levels) m xs ys cs x y c k two two' →
-      TrialKept counts xs ys cs days levels one two x y c (promise.reply counts CONFLICT k 0) one' two'
+      TrialKept counts xs ys cs days levels one two x y c (Err (Conflict k)) one' two'
   trial_conflict one two one' two' same long k ring wxs wys wcs b =
       let a = asked wxs wys wcs b in
       obeys_conflict _ _ k _ (first_conflict (rule x y c) _ a (take k two') (a.room, long.one_room, long.two_room) (reason_next ring).holds.refutes)
@@ -187,7 +189,7 @@ module _
       (list : List ℕ) → STEPS ≤ length list → (k : ℕ) (after : Counts) (xs' ys' : List ℕ) (cs' : List ℤ) (days' : List ℕ) (last' level : ℕ) → after ≡ one_more last' counts →
       level ≡ counts.marks + 1 →
       Taken counts.steps (held_by levels) m (rule x y c) (columns xs ys cs) days counts.last k (columns xs' ys' cs') days' last' →
-      AddKept counts xs ys cs days levels list x y c (promise.reply after DONE k 0) xs' ys' cs' days' (set levels m level) list
+      AddKept counts xs ys cs days levels list x y c (Ok (record { counts = after; moved = k })) after xs' ys' cs' days' (set levels m level) list
   add_done list long k after xs' ys' cs' days' last' level counted level_is t wxs wys wcs b =
       let a = asked wxs wys wcs b in
       obeys_done _ _ k 0 _
@@ -203,11 +205,11 @@ module _
 
   -- Add, on conflict.
   pub add_conflict :
-      (list list' : List ℕ) → STEPS ≤ length list → (k moved : ℕ) (xs' ys' : List ℕ) (cs' : List ℤ) (days' : List ℕ) →
-      Left (held_by levels) (rule x y c) (columns xs ys cs) days moved (columns xs' ys' cs') days' →
+      (list list' : List ℕ) → STEPS ≤ length list → (k : ℕ) (xs' ys' : List ℕ) (cs' : List ℤ) (days' : List ℕ) →
+      Left (held_by levels) (rule x y c) (columns xs ys cs) days (columns xs' ys' cs') days' →
       ReasonIn (held_by levels) m xs ys cs x y c k list list' →
-      AddKept counts xs ys cs days levels list x y c (promise.reply counts CONFLICT k 0) xs' ys' cs' days' levels list'
-  add_conflict list list' long k moved xs' ys' cs' days' left ring wxs wys wcs b =
+      AddKept counts xs ys cs days levels list x y c (Err (Conflict k)) counts xs' ys' cs' days' levels list'
+  add_conflict list list' long k xs' ys' cs' days' left ring wxs wys wcs b =
       let a = asked wxs wys wcs b in
       obeys_conflict _ _ k _ (first_conflict (rule x y c) _ a (take k list') (a.room, long) (reason_next ring).holds.refutes)
       (record { tables_stay = tables_equal _ _ refl left.rules_stay left.days_stay refl refl; ring_given = reason_next ring })
@@ -268,14 +270,14 @@ refuted n m xs ys cs days heads nexts x y c r unfit nexts_room list long =
 
 -- Where a rule was tried and left out, it can be held as before.
 pub left_ready :
-    {n : ℕ} {H : ℕ → Type 0} {order : ℕ → ℕ} {k : ℕ} {xs ys : List ℕ} {cs : List ℤ} {days heads nexts : List ℕ} {x y : ℕ} {c : ℤ} {moved : ℕ} {xs' ys' : List ℕ} {cs' : List ℤ} {days' : List ℕ} →
-    Left H (rule x y c) (columns xs ys cs) days moved (columns xs' ys' cs') days' → Holdable n H order k xs ys cs days heads nexts x y c → Holdable n H order k xs' ys' cs' days' heads nexts x y c
-left_ready {n} {H} {order} {k} {xs} {ys} {cs} {days} {heads} {nexts} {x} {y} {c} {moved} {xs'} {ys'} {cs'} {days'} left ready =
+    {n : ℕ} {H : ℕ → Type 0} {order : ℕ → ℕ} {k : ℕ} {xs ys : List ℕ} {cs : List ℤ} {days heads nexts : List ℕ} {x y : ℕ} {c : ℤ} {xs' ys' : List ℕ} {cs' : List ℤ} {days' : List ℕ} →
+    Left H (rule x y c) (columns xs ys cs) days (columns xs' ys' cs') days' → Holdable n H order k xs ys cs days heads nexts x y c → Holdable n H order k xs' ys' cs' days' heads nexts x y c
+left_ready {n} {H} {order} {k} {xs} {ys} {cs} {days} {heads} {nexts} {x} {y} {c} {xs'} {ys'} {cs'} {days'} left ready =
     subst (λ (r : Columns). Holdable n H order k r.firsts r.seconds r.amounts days' heads nexts x y c) (sym left.rules_stay)
     (subst (λ (l : List ℕ). Holdable n H order k xs ys cs l heads nexts x y c) (sym left.days_stay) ready)
 
 -- And it does not fit still.
 pub left_unfit :
-    {H : ℕ → Type 0} {xs ys : List ℕ} {cs : List ℤ} {days : List ℕ} {x y : ℕ} {c : ℤ} {moved : ℕ} {xs' ys' : List ℕ} {cs' : List ℤ} {days' : List ℕ} →
-    Left H (rule x y c) (columns xs ys cs) days moved (columns xs' ys' cs') days' → Fits (rules xs' ys' cs') H (rule x y c) → ⊥
+    {H : ℕ → Type 0} {xs ys : List ℕ} {cs : List ℤ} {days : List ℕ} {x y : ℕ} {c : ℤ} {xs' ys' : List ℕ} {cs' : List ℤ} {days' : List ℕ} →
+    Left H (rule x y c) (columns xs ys cs) days (columns xs' ys' cs') days' → Fits (rules xs' ys' cs') H (rule x y c) → ⊥
 left_unfit {H} {xs} {ys} {cs} {days} {x} {y} {c} left fits = left.unfit (subst (λ (r : Columns). Fits (rule_at r) H (rule x y c)) left.rules_stay fits)

@@ -3,7 +3,7 @@ use Prim.Native.Nat.{ℕ, zero, suc, ◌≤◌, ◌<◌}
 use native.Mathlib.Omega.{arith}
 use native.Mathlib.Decide.{dec_lt, dec_le}
 use mathlib.Core.Path.{◌≡◌, refl, sym, ◌∙◌, subst}
-use mathlib.Core.Bool.{Bool, cond}
+use mathlib.Core.Bool.{cond}
 use lib.Dec.{ltb}
 use mathlib.Core.List.{List}
 use lib.IntN.{ℤ, pos}
@@ -16,7 +16,7 @@ use Rattle.meaning.proofs.More.{arrangement_old}
 use Rattle.lent.specs.Lent.{columns}
 use Rattle.spread.specs.Ground.{rules}
 use Rattle.inner_add.specs.Lending.{Holdable}
-use Rattle.inner_add.specs.Fit.{Taken, Tells}
+use Rattle.inner_add.specs.Fit.{Taken}
 
 -- The days of the steps below e, and 0 from e on.
 cut : ℕ → (ℕ → ℕ) → ℕ → ℕ
@@ -88,34 +88,31 @@ module _ (n e : ℕ) (fewer : e ≤ n) (H : ℕ → Type 0) (order : ℕ → ℕ
         not_full = r.not_full;
       }
 
-  -- What is told on e steps holds on n.
-  pub tells_beyond :
-      Earliest n (rules xs ys cs) H (at days) → ((i : ℕ) → H i → InSteps e (rules xs ys cs i)) → (H k → ⊥) → (last : ℕ) (fits : Bool) (moved : ℕ) (after : Columns) (days' : List ℕ) (last' : ℕ) →
-      Tells e H k (rule x y c) (columns xs ys cs) days last fits moved after days' last' → Tells n H k (rule x y c) (columns xs ys cs) days last fits moved after days' last'
-  tells_beyond was within free last fits moved after days' last' t = record { when_fits = λ is. beyond (t.when_fits is); when_not = t.when_not }
+  -- What is held on e steps is held on n.
+  pub taken_beyond :
+      Earliest n (rules xs ys cs) H (at days) → ((i : ℕ) → H i → InSteps e (rules xs ys cs i)) → (H k → ⊥) → (last moved : ℕ) (after : Columns) (days' : List ℕ) (last' : ℕ) →
+      Taken e H k (rule x y c) (columns xs ys cs) days last moved after days' last' → Taken n H k (rule x y c) (columns xs ys cs) days last moved after days' last'
+  taken_beyond was within free last moved after days' last' taken = record {
+    written = taken.written;
+    planned = record {
+      earliest = record { plan = taken.planned.earliest.plan; no_later = no_later };
+      past = record { same_length = taken.planned.past.same_length; kept = λ i h. taken.planned.past.kept i (omega (arith, fewer)) };
+    };
+    count_moved = taken.count_moved ∙ moved_beyond n e days days' fewer taken.planned.past.kept;
+    last_day = λ known. taken.last_day (known ∙ largest_beyond e n (at days) fewer zeros) ∙ sym (largest_beyond e n (at days') fewer (λ v past below. taken.planned.past.kept v past ∙ zeros v past below));
+  }
     where
-      beyond : Taken e H k (rule x y c) (columns xs ys cs) days last moved after days' last' → Taken n H k (rule x y c) (columns xs ys cs) days last moved after days' last'
-      beyond taken = record {
-        written = taken.written;
-        planned = record {
-          earliest = record { plan = taken.planned.earliest.plan; no_later = no_later };
-          past = record { same_length = taken.planned.past.same_length; kept = λ i h. taken.planned.past.kept i (omega (arith, fewer)) };
-        };
-        count_moved = taken.count_moved ∙ moved_beyond n e days days' fewer taken.planned.past.kept;
-        last_day = λ known. taken.last_day (known ∙ largest_beyond e n (at days) fewer zeros) ∙ sym (largest_beyond e n (at days') fewer (λ v past below. taken.planned.past.kept v past ∙ zeros v past below));
-      }
-        where
-          zeros : (v : ℕ) → e ≤ v → v < n → at days v ≡ 0
-          zeros = day_0_beyond n e (rules xs ys cs) H (at days) was within
+      zeros : (v : ℕ) → e ≤ v → v < n → at days v ≡ 0
+      zeros = day_0_beyond n e (rules xs ys cs) H (at days) was within
 
-          no_later : (q : ℕ → ℕ) → Plan (more (rules xs ys cs) k (rule x y c)) (plus H k) q → (v : ℕ) → v < n → at days' v ≤ q v
-          no_later q p v h = tell (dec_lt v e)
-            where
-              tell : Dec (v < e) → at days' v ≤ q v
-              tell (yes below) = taken.planned.earliest.no_later q p v below
-              tell (no past) =
-                  omega (
-                    arith,
-                    taken.planned.past.kept v (omega (arith, past)),
-                    was.no_later q (arrangement_old (rules xs ys cs) H k (rule x y c) (λ w. pos (q w)) free p) v h,
-                  )
+      no_later : (q : ℕ → ℕ) → Plan (more (rules xs ys cs) k (rule x y c)) (plus H k) q → (v : ℕ) → v < n → at days' v ≤ q v
+      no_later q p v h = tell (dec_lt v e)
+        where
+          tell : Dec (v < e) → at days' v ≤ q v
+          tell (yes below) = taken.planned.earliest.no_later q p v below
+          tell (no past) =
+              omega (
+                arith,
+                taken.planned.past.kept v (omega (arith, past)),
+                was.no_later q (arrangement_old (rules xs ys cs) H k (rule x y c) (λ w. pos (q w)) free p) v h,
+              )

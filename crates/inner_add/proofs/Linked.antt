@@ -1,6 +1,5 @@
 -- The rules on the chains are those held: what can be planned and what is told, over the ones and over the others.
 use Prim.Native.Nat.{ℕ}
-use mathlib.Core.Bool.{Bool}
 use mathlib.Core.List.{List}
 use mathlib.Core.Path.{refl}
 use lib.IntN.{ℤ}
@@ -8,9 +7,9 @@ use Rattle.meaning.specs.Rules.{Rule}
 use Rattle.meaning.specs.Tables.{Columns}
 use Rattle.meaning.proofs.Theory.{earliest_same}
 use Rattle.chains.specs.Chains.{number, linked, LentChains}
-use Rattle.chains.proofs.Held.{plus_same, planned_same, unfit_same}
+use Rattle.chains.proofs.Holding.{plus_same, planned_same, unfit_same}
 use Rattle.inner_add.specs.Lending.{Holdable}
-use Rattle.inner_add.specs.Fit.{Tells, Shows}
+use Rattle.inner_add.specs.Fit.{Taken, Left, Shown}
 
 module _ {n : ℕ} {H : ℕ → Type 0} {xs heads nexts : List ℕ} (lent : LentChains n H xs heads nexts) where
   -- What can be held beside the rules held can be held beside those on the chains.
@@ -42,29 +41,20 @@ module _ {n : ℕ} {H : ℕ → Type 0} {xs heads nexts : List ℕ} (lent : Lent
       }
 
   -- What is told of the rules on the chains is told of those held.
-  pub tells_held :
-      {s k : ℕ} {r : Rule} {before : Columns} {days : List ℕ} {last : ℕ} {fits : Bool} {moved : ℕ} {after : Columns} {days' : List ℕ} {last' : ℕ} →
-      Tells s (linked nexts) k r before days last fits moved after days' last' → Tells s H k r before days last fits moved after days' last'
-  tells_held {k} t = record {
-    when_fits = λ e.
-        let taken = t.when_fits e in
-        record {
-          written = taken.written;
-          planned = planned_same (plus_same k lent.only) (plus_same k lent.on) taken.planned;
-          count_moved = taken.count_moved;
-          last_day = taken.last_day;
-        };
-    when_not = λ e.
-        let left = t.when_not e in
-        record { unfit = unfit_same lent.only lent.on left.unfit; rules_stay = left.rules_stay; days_stay = left.days_stay; none_moved = left.none_moved };
+  pub taken_held :
+      {s k : ℕ} {r : Rule} {before : Columns} {days : List ℕ} {last moved : ℕ} {after : Columns} {days' : List ℕ} {last' : ℕ} →
+      Taken s (linked nexts) k r before days last moved after days' last' → Taken s H k r before days last moved after days' last'
+  taken_held {k} taken = record {
+    written = taken.written;
+    planned = planned_same (plus_same k lent.only) (plus_same k lent.on) taken.planned;
+    count_moved = taken.count_moved;
+    last_day = taken.last_day;
   }
 
-  pub shows_held :
-      {s k : ℕ} {r : Rule} {before : Columns} {days list : List ℕ} {fits : Bool} {moved : ℕ} {list' : List ℕ} →
-      Shows s (linked nexts) k r before days list fits moved list' → Shows s H k r before days list fits moved list'
-  shows_held {k} t = record {
-    planned = λ e. planned_same (plus_same k lent.only) (plus_same k lent.on) (t.planned e);
-    count_moved = t.count_moved;
-    unfit = λ e. unfit_same lent.only lent.on (t.unfit e);
-    list_stays = t.list_stays;
-  }
+  pub left_held : {r : Rule} {before : Columns} {days : List ℕ} {after : Columns} {days' : List ℕ} → Left (linked nexts) r before days after days' → Left H r before days after days'
+  left_held left = record { unfit = unfit_same lent.only lent.on left.unfit; rules_stay = left.rules_stay; days_stay = left.days_stay }
+
+  pub shown_held :
+      {s k : ℕ} {r : Rule} {before : Columns} {days list : List ℕ} {moved : ℕ} {list' : List ℕ} →
+      Shown s (linked nexts) k r before days list moved list' → Shown s H k r before days list moved list'
+  shown_held {k} shown = record { planned = planned_same (plus_same k lent.only) (plus_same k lent.on) shown.planned; count_moved = shown.count_moved }

@@ -1,11 +1,12 @@
 -- The promises of Add and Trial, whatever the watched rules are.
-use Rattle.std.specs.Prelude.{ℕ, ◌≤◌, ◌<◌, ◌≡◌, List, [], ◌∷◌, length, ℤ}
+use Rattle.std.specs.Prelude.{ℕ, ◌≤◌, ◌<◌, ◌≡◌, List, [], ◌∷◌, length, ℤ, Result}
 use Rattle.meaning.specs.declared.Counts.{Counts}
-use Rattle.meaning.specs.declared.Reply.{Reply}
+use Rattle.meaning.specs.declared.Refusal.{Refusal}
+use Rattle.meaning.specs.declared.Added.{Added}
 use Rattle.meaning.specs.Bounds.{STEPS, RULES, MARKS, FULL}
 use Rattle.meaning.specs.Rules.{Rule}
 use Rattle.meaning.specs.Tables.{taken}
-use Rattle.meaning.specs.Promise.{Need, needs}
+use Rattle.meaning.specs.Promise.{Need, needs, given_value, given_added}
 use Rattle.meaning.specs.Calls.{rule_needs}
 use Rattle.lent.specs.Lent.{tables}
 use Rattle.lent.specs.Promises.{Border, Adds, Tries}
@@ -27,13 +28,13 @@ hold_needs counts r = rule_needs counts.steps r (needs FULL (counts.rules < RULE
 
 module _ (counts : Counts) (xs ys : List ℕ) (cs : List ℤ) (days levels : List ℕ) where
   -- Trial's promise, with any watched rules that have room and are sound.
-  abbrev pub TrialKept : List ℕ → List ℕ → ℕ → ℕ → ℤ → Reply → List ℕ → List ℕ → Type 0
+  abbrev pub TrialKept : List ℕ → List ℕ → ℕ → ℕ → ℤ → Result ℕ Refusal → List ℕ → List ℕ → Type 0
   TrialKept one two x y c r one' two' =
       (wxs wys : List ℕ) (wcs : List ℤ) →
-      Border (tables counts xs ys cs days levels wxs wys wcs) → Tries counts xs ys cs days levels wxs wys wcs one two x y c r one' two'
+      Border (tables counts xs ys cs days levels wxs wys wcs) → Tries counts xs ys cs days levels wxs wys wcs one two x y c (given_value r) counts one' two'
 
   -- Add's promise, likewise.
-  abbrev pub AddKept : List ℕ → ℕ → ℕ → ℤ → Reply → List ℕ → List ℕ → List ℤ → List ℕ → List ℕ → List ℕ → Type 0
-  AddKept list x y c r xs' ys' cs' days' levels' list' =
+  abbrev pub AddKept : List ℕ → ℕ → ℕ → ℤ → Result Added Refusal → Counts → List ℕ → List ℕ → List ℤ → List ℕ → List ℕ → List ℕ → Type 0
+  AddKept list x y c r counts' xs' ys' cs' days' levels' list' =
       (wxs wys : List ℕ) (wcs : List ℤ) →
-      Border (tables counts xs ys cs days levels wxs wys wcs) → Adds counts xs ys cs days levels wxs wys wcs list x y c r xs' ys' cs' days' levels' list'
+      Border (tables counts xs ys cs days levels wxs wys wcs) → Adds counts xs ys cs days levels wxs wys wcs list x y c (given_added r) counts' xs' ys' cs' days' levels' list'

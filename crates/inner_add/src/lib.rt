@@ -5,10 +5,10 @@
 
 ghost use Rattle.std.specs.Prelude.{◌≡◌, ◌<◌, ◌≤◌, length};
 ghost use Rattle.meaning.specs.Bounds.{STEPS, RULES};
-ghost use Rattle.meaning.specs.Promise.{First};
+ghost use Rattle.meaning.specs.Promise.{First, number_told, counts_added};
 ghost use Rattle.meaning.specs.Rules.{largest};
-ghost use Rattle.meaning.specs.Tables.{at};
-ghost use Rattle.lent.specs.Lent.{columns, held_by};
+ghost use Rattle.meaning.specs.Tables.{rule_at, at};
+ghost use Rattle.lent.specs.Lent.{columns_of, columns, held_by};
 ghost use Rattle.meaning.specs.Rules.{Fits, rule};
 ghost use Rattle.chains.specs.Chains.{number, linked, LentChains};
 ghost use Rattle.inner_add.specs.Planning.{Lack, Base, NoGains, Plannable, RulePlanned, Raised, Raisable};
@@ -18,7 +18,9 @@ ghost use Rattle.spread.specs.Ground.{rules};
 ghost use Rattle.shortest.specs.Clauses.{ReasonIn};
 ghost use Rattle.inner_add.specs.Kept.{BothRoom, Counted, hold_needs, TrialKept, AddKept};
 
-use meaning::{Counts, Reply};
+use chains::Held;
+use lent::Rules;
+use meaning::{Added, Counts, Refusal};
 
 // What the days lack for the rule x, y, c: 0 where they keep it.
 fn lack(days: &[u32], x: usize, y: usize, c: i32) -> u64
@@ -36,29 +38,33 @@ fn lack(days: &[u32], x: usize, y: usize, c: i32) -> u64
 
 // Plans the rule x, y, c, and says whether it fits: then the days with their gains are the earliest plan with it; else the gain asked of y, as
 // much as the days lack, has reached x.
-fn plan(
+fn plan<'a>(
     n: usize,
     m: usize,
-    xs: &[u16],
-    ys: &[u16],
-    cs: &[i32],
-    days: &[u32],
-    heads: &[u16],
-    nexts: &[u16],
+    rules: Rules<'a>,
+    days: &'a [u32],
+    heads: &'a [u16],
+    nexts: &'a [u16],
     x: usize,
     y: usize,
     c: i32,
     gains: &mut [u64],
     by: &mut [u16],
 ) -> bool
-    requires { Plannable n (linked nexts.now) number m xs.now ys.now cs.now days.now heads.now nexts.now gains.old by.old x y c }
-    ensures { RulePlanned n (linked nexts.now) m xs.now ys.now cs.now days.now gains.new by.new x y c result }
+    requires { Plannable n (linked nexts.now) number m rules.xs.now rules.ys.now rules.cs.now days.now heads.now nexts.now gains.old by.old x y c }
+    ensures { RulePlanned n (linked nexts.now) m rules.entry.xs.now rules.entry.ys.now rules.entry.cs.now days.now gains.new by.new x y c result }
 {
     let lacks = lack(days, x, y, c);
     if lacks == 0 {
         return true;
     }
-    spread::spread_one(n, xs, ys, cs, days, heads, nexts, y, lacks, x, gains, by);
+    let held = Held {
+        rules,
+        days,
+        heads,
+        nexts,
+    };
+    spread::spread_one(n, held, y, lacks, x, gains, by);
     gains[x] == 0
 }
 
@@ -80,10 +86,10 @@ fn write_days(n: usize, days: &[u32], gains: &[u64], list: &mut [u32]) -> u32
 }
 
 // Days that were raised: how many moved, and the last of them.
-#[derive(Drop)]
-struct Risen {
-    moved: u32,
-    last: u32,
+#[derive(Clone, Copy)]
+pub struct Risen {
+    pub moved: u32,
+    pub last: u32,
 }
 
 // Raises the first n days by their gains.
@@ -111,57 +117,41 @@ fn raise_days(n: usize, gains: &[u64], days: &mut [u32]) -> Risen
     }
 }
 
-// Whether a rule fits, how many steps have a day different from before where it does, and the last day then.
-#[derive(Drop)]
-pub struct Fitted {
-    pub fits: bool,
-    pub moved: u32,
-    pub last: u32,
-}
-
-// Says whether the rule x, y, c fits, and holds it then, with gains and by to work in: where it does not fit they are left as its ring is found from, and the last
-// day is the one handed over.
-fn fit_with(
+// Holds the rule x, y, c where it fits, and tells how the days rose, with gains and by to work in: where it does not fit they are left as its ring is found from.
+fn fit_with<'a>(
     n: usize,
     m: usize,
-    xs: &mut [u16],
-    ys: &mut [u16],
-    cs: &mut [i32],
-    days: &mut [u32],
-    heads: &[u16],
-    nexts: &[u16],
+    xs: &'a mut [u16],
+    ys: &'a mut [u16],
+    cs: &'a mut [i32],
+    days: &'a mut [u32],
+    heads: &'a [u16],
+    nexts: &'a [u16],
     x: u16,
     y: u16,
     c: i32,
     last: u32,
     gains: &mut [u64],
     by: &mut [u16],
-) -> Fitted
+) -> Option<Risen>
     requires holdable { Holdable n (linked nexts.now) number m xs.old ys.old cs.old days.old heads.now nexts.now x y c }
     requires no_gains { NoGains n gains.old by.old }
-    ensures { TellsWhy n (linked nexts.now) m xs.old ys.old cs.old days.old x y c last result.fits result.moved result.last
+    ensures { TellsWhy n (linked nexts.now) m xs.old ys.old cs.old days.old x y c last result
         xs.new ys.new cs.new days.new gains.new by.new }
 {
+    let rules = Rules { xs, ys, cs };
     if !plan(
-        n, m, xs, ys, cs, days, heads, nexts, x as usize, y as usize, c, gains, by,
+        n, m, rules, days, heads, nexts, x as usize, y as usize, c, gains, by,
     ) {
-        return Fitted {
-            fits: false,
-            moved: 0,
-            last: last,
-        };
+        return None;
     }
     let risen = raise_days(n, gains, days);
     inner_watch::write_rule(xs, ys, cs, m, x, y, c);
-    Fitted {
-        fits: true,
-        moved: risen.moved,
-        last: risen.last,
-    }
+    Some(risen)
 }
 
-// Says whether the rule x, y, c fits the rules on the chains over n steps, whose days have that last day. Where it does it is held under number m and the days are
-// brought to the earliest plan with it; where it does not nothing changes. The last day then is told.
+// Tries the rule x, y, c on the rules on the chains over n steps, whose days have that last day. Where it fits it is held under number m, the days are brought to the
+// earliest plan with it, and how they rose is told; where it does not nothing changes.
 pub fn fit(
     n: usize,
     m: usize,
@@ -175,19 +165,15 @@ pub fn fit(
     y: u16,
     c: i32,
     last: u32,
-) -> Fitted
+) -> Option<Risen>
     requires { Holdable n (linked nexts.now) number m xs.old ys.old cs.old days.old heads.now nexts.now x y c }
-    ensures { Tells n (linked nexts.now) m (rule x y c) (columns xs.old ys.old cs.old) days.old last result.fits result.moved
-        (columns xs.new ys.new cs.new) days.new result.last }
+    ensures { Tells n (linked nexts.now) m (rule x y c) (columns xs.old ys.old cs.old) days.old last result
+        (columns xs.new ys.new cs.new) days.new }
 {
     // A rule that the days keep already is held before any list is cleared.
     if lack(days, x as usize, y as usize, c) == 0 {
         inner_watch::write_rule(xs, ys, cs, m, x, y, c);
-        return Fitted {
-            fits: true,
-            moved: 0,
-            last: last,
-        };
+        return Some(Risen { moved: 0, last });
     }
     if n <= spread::FEW {
         let mut gains = [0u64; spread::FEW];
@@ -208,37 +194,31 @@ pub fn one_more(counts: Counts, last: u32) -> Counts
     requires { counts.rules < RULES }
     ensures { result ≡ one_more last counts }
 {
-    meaning::last_now(meaning::rules_now(counts, counts.rules + 1), last)
+    Counts {
+        rules: counts.rules + 1,
+        last,
+        ..counts
+    }
 }
 
-// The number of the first refusal of a rule that is to be held: STEP, AMOUNT, FULL; else 0.
-fn hold_verdict(counts: Counts, x: u32, y: u32, c: i32) -> u32
-    ensures { First (hold_needs counts (rule x y c)) result }
+// The first refusal of a rule that is to be held: STEP, AMOUNT, FULL.
+fn hold_verdict(counts: Counts, x: u32, y: u32, c: i32) -> Result<(), Refusal>
+    ensures { First (hold_needs counts (rule x y c)) (number_told result) }
 {
-    let number = inner_watch::rule_verdict(counts.steps, x, y, c);
-    if 0 < number {
-        return number;
-    }
+    inner_watch::rule_verdict(counts.steps, x, y, c)?;
     if meaning::RULES <= counts.rules as usize {
-        return meaning::FULL;
+        return Err(Refusal::Full);
     }
-    0
+    Ok(())
 }
 
-// Whether a rule fits, and how many steps would have a day different from before where it does.
-#[derive(Drop)]
-struct Shown {
-    fits: bool,
-    moved: u32,
-}
-
-// Says whether the rule x, y, c fits, and writes the days with it into the list where it does.
+// Writes the days with the rule x, y, c into the list where it fits, and tells how many steps would have a day different from before. Its lists are not on
+// the stack while the ring is found (host/c/stack.c), so it is not inlined.
+#[inline(never)]
 fn show(
     n: usize,
     m: usize,
-    xs: &[u16],
-    ys: &[u16],
-    cs: &[i32],
+    rules: Rules<'_>,
     days: &[u32],
     heads: &[u16],
     nexts: &[u16],
@@ -246,36 +226,26 @@ fn show(
     y: u16,
     c: i32,
     list: &mut [u32],
-) -> Shown
-    requires holdable { Holdable n (linked nexts.now) number m xs.now ys.now cs.now days.now heads.now nexts.now x y c }
+) -> Option<u32>
+    requires holdable { Holdable n (linked nexts.now) number m rules.xs.now rules.ys.now rules.cs.now days.now heads.now nexts.now x y c }
     requires in_bounds { STEPS ≤ length list.old }
-    ensures { Shows n (linked nexts.now) m (rule x y c) (columns xs.now ys.now cs.now) days.now list.old result.fits result.moved
-        list.new }
+    ensures { Shows n (linked nexts.now) m (rule x y c) (columns_of rules.entry) days.now list.old result list.new }
 {
     let mut gains = [0u64; meaning::STEPS];
     let mut by = [0u16; meaning::STEPS];
     if !plan(
-        n, m, xs, ys, cs, days, heads, nexts, x as usize, y as usize, c, &mut gains, &mut by,
+        n, m, rules, days, heads, nexts, x as usize, y as usize, c, &mut gains, &mut by,
     ) {
-        return Shown {
-            fits: false,
-            moved: 0,
-        };
+        return None;
     }
-    let moved = write_days(n, days, &gains, list);
-    Shown {
-        fits: true,
-        moved: moved,
-    }
+    Some(write_days(n, days, &gains, list))
 }
 
 // Why the rule x, y, c, which does not fit, is refused: writes the reason into the list and gives back its length. The chains are used up.
 fn why(
     n: usize,
     m: usize,
-    xs: &[u16],
-    ys: &[u16],
-    cs: &[i32],
+    rules: Rules<'_>,
     days: &[u32],
     heads: &mut [u16],
     nexts: &mut [u16],
@@ -284,67 +254,61 @@ fn why(
     c: i32,
     list: &mut [u32],
 ) -> u32
-    requires holdable { Holdable n (linked nexts.old) number m xs.now ys.now cs.now days.now heads.old nexts.old x y c }
-    requires fact { Fits (rules xs.now ys.now cs.now) (linked nexts.old) (rule x y c) → ⊥ }
+    requires holdable { Holdable n (linked nexts.old) number m rules.xs.now rules.ys.now rules.cs.now days.now heads.old nexts.old x y c }
+    requires fact { Fits (rule_at (columns_of rules)) (linked nexts.old) (rule x y c) → ⊥ }
     requires in_bounds { RULES ≤ length nexts.old }
     requires in_bounds_2 { STEPS ≤ length list.old }
-    ensures { ReasonIn (linked nexts.old) m xs.now ys.now cs.now x y c result list.old list.new }
+    ensures { ReasonIn (linked nexts.old) m rules.entry.xs.now rules.entry.ys.now rules.entry.cs.now x y c result list.old list.new }
 {
     let k = shortest::reason(
-        n, m, xs, ys, cs, days, heads, nexts, x as usize, y as usize, c, list,
+        n, m, rules, days, heads, nexts, x as usize, y as usize, c, list,
     );
     k as u32
 }
 
 // Trial: STEP, AMOUNT, FULL in this order where the rule cannot be asked for; the days it would give, in list one, where it fits; else the reason why it does not,
 // in list two. No table is written. The chains are used up.
-pub fn trial(
+pub fn trial<'a>(
     counts: Counts,
-    xs: &[u16],
-    ys: &[u16],
-    cs: &[i32],
-    days: &[u32],
+    rules: Rules<'a>,
+    days: &'a [u32],
     levels: &[u8],
-    heads: &mut [u16],
-    nexts: &mut [u16],
+    heads: &'a mut [u16],
+    nexts: &'a mut [u16],
     one: &mut [u32],
     two: &mut [u32],
     x: u32,
     y: u32,
     c: i32,
-) -> Reply
-    requires base { Base counts.steps (held_by levels.now) number xs.now ys.now cs.now days.now heads.old nexts.old }
-    requires lent_chains { LentChains counts.steps (held_by levels.now) xs.now heads.old nexts.old }
+) -> Result<u32, Refusal>
+    requires base { Base counts.steps (held_by levels.now) number rules.xs.now rules.ys.now rules.cs.now days.now heads.old nexts.old }
+    requires lent_chains { LentChains counts.steps (held_by levels.now) rules.xs.now heads.old nexts.old }
     requires counted { Counted counts levels.now }
     requires both_room { BothRoom one.old two.old }
-    ensures { TrialKept counts xs.now ys.now cs.now days.now levels.now one.old two.old
+    ensures { TrialKept counts rules.entry.xs.now rules.entry.ys.now rules.entry.cs.now days.now levels.now one.old two.old
         x y c result one.new two.new }
 {
-    let number = hold_verdict(counts, x, y, c);
-    if 0 < number {
-        return meaning::refused(counts, number);
-    }
+    hold_verdict(counts, x, y, c)?;
     let n = counts.steps as usize;
     let m = lent::next_free(levels, counts.rules as usize);
-    let shown = show(
-        n, m, xs, ys, cs, days, heads, nexts, x as u16, y as u16, c, one,
-    );
-    if shown.fits {
-        return meaning::done(counts, shown.moved, 0);
+    let first = x as u16;
+    let second = y as u16;
+    match show(n, m, rules, days, heads, nexts, first, second, c, one) {
+        Some(moved) => Ok(moved),
+        None => {
+            let length = why(n, m, rules, days, heads, nexts, first, second, c, two);
+            Err(Refusal::Conflict(length))
+        }
     }
-    let k = why(
-        n, m, xs, ys, cs, days, heads, nexts, x as u16, y as u16, c, two,
-    );
-    meaning::conflict(counts, k)
 }
 
 // Add: STEP, AMOUNT, FULL in this order where the rule cannot be asked for; where it fits it is held, under the lowest free number, and the days are brought up to date;
 // else the reason why it does not is in the list. The chains are used up.
-pub fn add(
+pub fn add<'a>(
     counts: Counts,
-    xs: &mut [u16],
-    ys: &mut [u16],
-    cs: &mut [i32],
+    xs: &'a mut [u16],
+    ys: &'a mut [u16],
+    cs: &'a mut [i32],
     days: &mut [u32],
     levels: &mut [u8],
     heads: &mut [u16],
@@ -353,21 +317,20 @@ pub fn add(
     x: u32,
     y: u32,
     c: i32,
-) -> Reply
+) -> Result<Added, Refusal>
     requires base { Base counts.steps (held_by levels.old) number xs.old ys.old cs.old days.old heads.old nexts.old }
     requires lent_chains { LentChains counts.steps (held_by levels.old) xs.old heads.old nexts.old }
     requires counted { Counted counts levels.old }
     requires in_bounds { STEPS ≤ length list.old }
     ensures { AddKept counts xs.old ys.old cs.old days.old levels.old list.old x y c result
-        xs.new ys.new cs.new days.new levels.new list.new }
+        (counts_added counts result) xs.new ys.new cs.new days.new levels.new list.new }
 {
-    let number = hold_verdict(counts, x, y, c);
-    if 0 < number {
-        return meaning::refused(counts, number);
-    }
+    hold_verdict(counts, x, y, c)?;
     let n = counts.steps as usize;
     let m = lent::next_free(levels, counts.rules as usize);
-    let fitted = fit(
+    let first = x as u16;
+    let second = y as u16;
+    match fit(
         n,
         m,
         xs,
@@ -376,17 +339,32 @@ pub fn add(
         days,
         heads,
         nexts,
-        x as u16,
-        y as u16,
+        first,
+        second,
         c,
         counts.last,
-    );
-    if fitted.fits {
-        levels[m] = (counts.marks + 1) as u8;
-        return meaning::done(one_more(counts, fitted.last), fitted.moved, 0);
+    ) {
+        Some(risen) => {
+            levels[m] = (counts.marks + 1) as u8;
+            Ok(Added {
+                counts: one_more(counts, risen.last),
+                moved: risen.moved,
+            })
+        }
+        None => {
+            let length = why(
+                n,
+                m,
+                Rules { xs, ys, cs },
+                days,
+                heads,
+                nexts,
+                first,
+                second,
+                c,
+                list,
+            );
+            Err(Refusal::Conflict(length))
+        }
     }
-    let k = why(
-        n, m, xs, ys, cs, days, heads, nexts, x as u16, y as u16, c, list,
-    );
-    meaning::conflict(counts, k)
 }

@@ -17,7 +17,7 @@ use Rattle.lent.specs.Promises.{Border}
 use Rattle.lent.specs.Lent.{held_by, Placed, Dated, KeptAt, Spare}
 use Rattle.chains.specs.Chains.{linked, minus, LentChains, Amendable, ChainsNow}
 use Rattle.chains.proofs.Amending.{lent_now}
-use Rattle.chains.proofs.Held.{planned_same}
+use Rattle.chains.proofs.Holding.{planned_same}
 use Rattle.inner_back.specs.Replan.{Plannable}
 use Rattle.inner_back.specs.Freeing.{Freeable}
 use Rattle.inner_back.proofs.Replanning.{plannable_fewer}

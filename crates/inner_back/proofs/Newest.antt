@@ -4,12 +4,11 @@ use native.Mathlib.Omega.{arith}
 use native.Mathlib.Decide.{ℕ_discrete, dec_lt}
 use mathlib.Core.Path.{◌≡◌, refl, sym, ◌∙◌, ap, subst}
 use mathlib.Core.List.{List}
-use lib.ListN.{length, set, length-set}
-use lib.Seq.{get_or-set_other}
+use lib.ListN.{length}
 use Rattle.meaning.specs.Bounds.{RULES}
 use Rattle.meaning.specs.Tables.{at, taken, freed_above}
 use Rattle.meaning.proofs.Lists.{past_same}
-use Rattle.meaning.proofs.Places.{cell_freed, taken_at_most, taken_all_held, taken_past, freed_length, freed_past, freed_stays, freed_gone}
+use Rattle.meaning.proofs.Places.{taken_at_most, taken_all_held, taken_past, freed_length, freed_past, freed_stays, freed_gone}
 use Rattle.lent.specs.Lent.{first, held_by, AllHeld, NoneAbove, FreeFrom}
 use Rattle.chains.specs.Chains.{LentChains}
 use Rattle.chains.proofs.Laws.{lent_held, held_lent}
@@ -36,25 +35,6 @@ high_more m k i c levels is here high j from h = tell (ℕ_discrete j c)
     tell : Dec (j ≡ c) → k + 1 < at levels j
     tell (yes e) = omega (arith, here, ap (at levels) e)
     tell (no d) = high j (omega arith) h
-
--- ---- places freed one after the other
-
--- None is freed yet.
-pub freed_first : (c : ℕ) (levels : List ℕ) → FreedFrom c c levels levels
-freed_first c levels = record { same_length = refl; freed = λ i from h. absurd (omega arith); below = λ i h. refl; above = λ i from. refl }
-
--- One place more.
-pub freed_more : {c i : ℕ} {levels levels' : List ℕ} → c ≤ i → FreedFrom c i levels levels' → FreedFrom c (i + 1) levels (set levels' i 0)
-freed_more {c} {i} {levels} {levels'} from-c f = record {
-  same_length = length-set levels' i 0 ∙ f.same_length;
-  freed = λ j from h. tell j from h (ℕ_discrete j i);
-  below = λ j h. get_or-set_other levels' i j 0 0 (λ e. omega arith) ∙ f.below j h;
-  above = λ j from. get_or-set_other levels' i j 0 0 (λ e. omega arith) ∙ f.above j (omega arith);
-}
-  where
-    tell : (j : ℕ) → c ≤ j → j < i + 1 → Dec (j ≡ i) → at (set levels' i 0) j ≡ 0
-    tell j from h (yes e) = ap (at (set levels' i 0)) e ∙ cell_freed levels' i
-    tell j from h (no d) = get_or-set_other levels' i j 0 0 d ∙ f.freed j from (omega arith)
 
 -- ---- rules held in the first places
 

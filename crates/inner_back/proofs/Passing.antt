@@ -7,7 +7,7 @@ use mathlib.Core.List.{List}
 use lib.ListN.{length, set, length-set}
 use Rattle.meaning.specs.Tables.{at}
 use Rattle.meaning.proofs.Lists.{past_refl}
-use Rattle.waiting.specs.Waiting.{Put}
+use Rattle.waiting.specs.Places.{Put}
 use Rattle.waiting.proofs.Places.{put_set}
 use Rattle.inner_back.specs.Replan.{Reaches, Brought}
 

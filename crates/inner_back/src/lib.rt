@@ -7,112 +7,80 @@
 ghost use Rattle.std.specs.Prelude.{ℕ, ◌^◌, ◌≤◌, ◌<◌, length, ◌≡◌, false};
 ghost use Rattle.meaning.specs.Bounds.{RULES, MARKS};
 ghost use Rattle.meaning.specs.Rules.{Earliest, largest};
-ghost use Rattle.meaning.specs.Tables.{at, taken, freed_above};
-ghost use Rattle.meaning.specs.Promise.{Planned};
-ghost use Rattle.lent.specs.Lent.{tables, first, held_by};
+ghost use Rattle.meaning.specs.Tables.{rule_at, at, taken, freed_above};
+ghost use Rattle.meaning.specs.Promise.{Planned, given, counts_told};
+ghost use Rattle.lent.specs.Lent.{columns_of, tables, first, held_by};
 ghost use Rattle.lent.specs.Promises.{Border, GoesBack, Withdraws};
 ghost use Rattle.chains.specs.Chains.{linked, LentChains, Linkable};
-ghost use Rattle.spread.specs.Ground.{rules};
 ghost use Rattle.inner_back.specs.Replan.{Plannable, PlanRoom, Reachable, Reaches, Bringable, Brought};
 ghost use Rattle.inner_back.specs.Freeing.{Freeable, CutAt, FreedFrom, Sifted};
 
-use meaning::{Counts, Reply};
+use chains::Held;
+use lent::Rules;
+use meaning::{Counts, Refusal};
 
 // Back: NOMARK where no mark is open; else the newest mark and every rule added while it was open are dropped, and the days are the earliest plan of the rest.
 pub fn back(
     counts: Counts,
-    xs: &[u16],
-    ys: &[u16],
-    cs: &[i32],
+    rules: Rules<'_>,
     days: &mut [u32],
     levels: &mut [u8],
-    wxs: &[u16],
-    wys: &[u16],
-    wcs: &[i32],
+    watched: Rules<'_>,
     heads: &mut [u16],
     nexts: &mut [u16],
-) -> Reply
-    requires border { Border (tables counts xs.now ys.now cs.now days.old levels.old wxs.now wys.now wcs.now) }
-    requires lent_chains { LentChains counts.steps (held_by levels.old) xs.now heads.old nexts.old }
-    ensures { GoesBack counts xs.now ys.now cs.now days.old levels.old
-        wxs.now wys.now wcs.now result days.new levels.new }
+) -> Result<Counts, Refusal>
+    requires border { Border (tables counts rules.xs.now rules.ys.now rules.cs.now days.old levels.old watched.xs.now watched.ys.now watched.cs.now) }
+    requires lent_chains { LentChains counts.steps (held_by levels.old) rules.xs.now heads.old nexts.old }
+    ensures { GoesBack counts rules.entry.xs.now rules.entry.ys.now rules.entry.cs.now days.old levels.old watched.entry.xs.now watched.entry.ys.now watched.entry.cs.now (given result) (counts_told counts result) days.new levels.new }
 {
     if counts.marks == 0 {
-        return meaning::refused(counts, meaning::NOMARK);
+        return Err(Refusal::NoMark);
     }
     let open = counts.marks - 1;
     let steps = counts.steps as usize;
-    let rules = counts.rules as usize;
-    let left = free_above(steps, open as usize, rules, xs, levels, heads, nexts);
-    let last = replan(
-        steps,
-        left < rules,
-        xs,
-        ys,
-        cs,
-        days,
-        heads,
-        nexts,
-        counts.last,
-    );
-    meaning::done(
-        meaning::last_now(
-            meaning::marks_now(meaning::rules_now(counts, left as u32), open),
-            last,
-        ),
-        0,
-        0,
-    )
+    let were = counts.rules as usize;
+    let left = free_above(steps, open as usize, were, rules.xs, levels, heads, nexts);
+    let last = replan(steps, left < were, rules, days, heads, nexts, counts.last);
+    Ok(Counts {
+        rules: left as u32,
+        marks: open,
+        last,
+        ..counts
+    })
 }
 
 // Withdraw: ABSENT where no rule is held under the number; else that rule is dropped, and the days are the earliest plan of the rest.
 pub fn withdraw(
     counts: Counts,
-    xs: &[u16],
-    ys: &[u16],
-    cs: &[i32],
+    rules: Rules<'_>,
     days: &mut [u32],
     levels: &mut [u8],
-    wxs: &[u16],
-    wys: &[u16],
-    wcs: &[i32],
+    watched: Rules<'_>,
     heads: &mut [u16],
     nexts: &mut [u16],
     number: u32,
-) -> Reply
-    requires border { Border (tables counts xs.now ys.now cs.now days.old levels.old wxs.now wys.now wcs.now) }
-    requires lent_chains { LentChains counts.steps (held_by levels.old) xs.now heads.old nexts.old }
-    ensures { Withdraws counts xs.now ys.now cs.now days.old levels.old
-        wxs.now wys.now wcs.now number result days.new levels.new }
+) -> Result<Counts, Refusal>
+    requires border { Border (tables counts rules.xs.now rules.ys.now rules.cs.now days.old levels.old watched.xs.now watched.ys.now watched.cs.now) }
+    requires lent_chains { LentChains counts.steps (held_by levels.old) rules.xs.now heads.old nexts.old }
+    ensures { Withdraws counts rules.entry.xs.now rules.entry.ys.now rules.entry.cs.now days.old levels.old watched.entry.xs.now watched.entry.ys.now watched.entry.cs.now number (given result) (counts_told counts result) days.new levels.new }
 {
     let i = number as usize;
     if meaning::RULES <= i {
-        return meaning::refused(counts, meaning::ABSENT);
+        return Err(Refusal::Absent);
     }
     if levels[i] == 0 {
-        return meaning::refused(counts, meaning::ABSENT);
+        return Err(Refusal::Absent);
     }
     let steps = counts.steps as usize;
-    let spare = lent::slack(xs, ys, cs, days, i);
-    chains::remove(steps, xs, heads, nexts, i);
+    let spare = rules.slack(days, i);
+    chains::remove(steps, rules.xs, heads, nexts, i);
     levels[i] = 0;
-    let last = replan(
-        steps,
-        spare < 1,
-        xs,
-        ys,
-        cs,
-        days,
-        heads,
-        nexts,
-        counts.last,
-    );
-    let left = counts.rules - 1;
-    meaning::done(
-        meaning::last_now(meaning::rules_now(counts, left), last),
-        0,
-        0,
-    )
+    let latest = replan(steps, spare < 1, rules, days, heads, nexts, counts.last);
+    Ok(Counts {
+        rules: counts.rules - 1,
+        last: latest,
+        ..counts
+    })
 }
 
 // Frees every place of a level above k, of m rules held over n steps, and leaves the chains of the rules that stay. Gives back how many these are. Where those that go
@@ -256,9 +224,7 @@ fn free_from(c: usize, m: usize, levels: &mut [u8])
     requires m_in_bounds { m ≤ length levels.old }
     ensures { FreedFrom c m levels.old levels.new }
 {
-    for i in c..m {
-        levels[i] = 0;
-    }
+    levels[c..m].fill(0);
 }
 
 // Brings the days of n steps, which keep every rule on the chains and have that last day, to the earliest plan of those rules. Gives back the last day then. Where
@@ -266,51 +232,45 @@ fn free_from(c: usize, m: usize, levels: &mut [u8])
 pub fn replan(
     n: usize,
     loose: bool,
-    xs: &[u16],
-    ys: &[u16],
-    cs: &[i32],
+    rules: Rules<'_>,
     days: &mut [u32],
     heads: &[u16],
     nexts: &[u16],
     last: u32,
 ) -> u32
-    requires plannable { Plannable n (linked nexts.now) xs.now ys.now cs.now days.old }
-    requires earliest { loose ≡ false → Earliest n (rules xs.now ys.now cs.now) (linked nexts.now) (at days.old) }
-    requires lent_chains { LentChains n (linked nexts.now) xs.now heads.now nexts.now }
+    requires plannable { Plannable n (linked nexts.now) rules.xs.now rules.ys.now rules.cs.now days.old }
+    requires earliest { loose ≡ false → Earliest n (rule_at (columns_of rules)) (linked nexts.now) (at days.old) }
+    requires lent_chains { LentChains n (linked nexts.now) rules.xs.now heads.now nexts.now }
     requires last_value { last ≡ largest n (at days.old) }
-    ensures planned { Planned n (rules xs.now ys.now cs.now) (linked nexts.now) days.old days.new }
+    ensures planned { Planned n (rule_at (columns_of rules.entry)) (linked nexts.now) days.old days.new }
     ensures value { result ≡ largest n (at days.new) }
 {
     if !loose {
         return last;
     }
-    plan(n, xs, ys, cs, days, heads, nexts, last)
+    plan(n, rules, days, heads, nexts, last)
 }
 
 // Brings the days of n steps, which keep every rule on the chains and have that last day, to the earliest plan of those rules. Gives back the last day then.
 fn plan(
     n: usize,
-    xs: &[u16],
-    ys: &[u16],
-    cs: &[i32],
+    rules: Rules<'_>,
     days: &mut [u32],
     heads: &[u16],
     nexts: &[u16],
     last: u32,
 ) -> u32
-    requires plannable { Plannable n (linked nexts.now) xs.now ys.now cs.now days.old }
-    requires lent_chains { LentChains n (linked nexts.now) xs.now heads.now nexts.now }
+    requires plannable { Plannable n (linked nexts.now) rules.xs.now rules.ys.now rules.cs.now days.old }
+    requires lent_chains { LentChains n (linked nexts.now) rules.xs.now heads.now nexts.now }
     requires last_value { last ≡ largest n (at days.old) }
-    ensures planned { Planned n (rules xs.now ys.now cs.now) (linked nexts.now) days.old days.new }
+    ensures planned { Planned n (rule_at (columns_of rules.entry)) (linked nexts.now) days.old days.new }
     ensures value { result ≡ largest n (at days.new) }
 {
     let mut gains = [0u64; meaning::STEPS];
     let mut by = [0u16; meaning::STEPS];
     plan_with(
         n,
-        xs,
-        ys,
-        cs,
+        rules,
         days,
         heads,
         nexts,
@@ -321,27 +281,36 @@ fn plan(
 }
 
 // The same, where the lists for the gains and the rules they come by are lent too.
-fn plan_with(
+fn plan_with<'a>(
     n: usize,
-    xs: &[u16],
-    ys: &[u16],
-    cs: &[i32],
-    days: &mut [u32],
-    heads: &[u16],
-    nexts: &[u16],
+    rules: Rules<'a>,
+    days: &'a mut [u32],
+    heads: &'a [u16],
+    nexts: &'a [u16],
     last: u64,
     gains: &mut [u64],
     by: &mut [u16],
 ) -> u32
-    requires plannable { Plannable n (linked nexts.now) xs.now ys.now cs.now days.old }
-    requires lent_chains { LentChains n (linked nexts.now) xs.now heads.now nexts.now }
+    requires plannable { Plannable n (linked nexts.now) rules.xs.now rules.ys.now rules.cs.now days.old }
+    requires lent_chains { LentChains n (linked nexts.now) rules.xs.now heads.now nexts.now }
     requires last_value { (last ≡ largest n (at days.old)) × (last < 2 ^ 32) }
     requires plan_room { PlanRoom n gains.old by.old }
-    ensures planned { Planned n (rules xs.now ys.now cs.now) (linked nexts.now) days.old days.new }
+    ensures planned { Planned n (rule_at (columns_of rules.entry)) (linked nexts.now) days.old days.new }
     ensures value { result ≡ largest n (at days.new) }
 {
     ask(n, last, days, gains);
-    spread::spread(n, xs, ys, cs, days, heads, nexts, n, gains, by);
+    spread::spread(
+        n,
+        Held {
+            rules,
+            days,
+            heads,
+            nexts,
+        },
+        n,
+        gains,
+        by,
+    );
     bring(n, last, gains, days)
 }
 

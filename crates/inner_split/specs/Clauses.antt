@@ -1,8 +1,9 @@
 -- What the functions of Consequences ask and promise.
-use Rattle.std.specs.Prelude.{ℕ, ◌+◌, ◌^◌, ◌≤◌, ◌<◌, ◌≡◌, List, length, get_or, ℤ, pos}
-use Rattle.meaning.specs.Rules.{InSteps, InBounds, Always, Never}
+use Rattle.std.specs.Prelude.{ℕ, ◌+◌, ◌^◌, ◌≤◌, ◌<◌, ◌≡◌, Bool, List, length, get_or, ℤ, pos}
+use Rattle.meaning.specs.Rules.{InBounds, Always, Never}
 use Rattle.meaning.specs.Tables.{ColumnsRoom, at}
 use Rattle.meaning.specs.Reckoning.{up, dn}
+use Rattle.lent.specs.Decides.{Decides}
 use Rattle.lent.specs.Lent.{columns}
 use Rattle.chains.specs.Chains.{Chained}
 use Rattle.spread.specs.Ground.{rules}
@@ -40,25 +41,12 @@ pub record ChainsBy (n w : ℕ) (steps heads nexts : List ℕ) : Type 0 where
   pub nexts_room : w ≤ length nexts
   pub chained : Chained n w steps heads nexts
 
--- w watched rules over n steps have their places and their steps are below n; each step has a day and a gain.
-pub record Judgeable (n w : ℕ) (wxs wys : List ℕ) (wcs : List ℤ) (days gains : List ℕ) : Type 0 where
-  pub watched_room : ColumnsRoom w (columns wxs wys wcs)
-  pub in_steps : (j : ℕ) → j < w → InSteps n (rules wxs wys wcs j)
-  pub gained : (v : ℕ) → v < n → Gained days gains v
-
 -- w watched rules over n steps have their places and are within bounds, and have their chains by first step and by second step.
 pub record Watching (n w : ℕ) (wxs wys : List ℕ) (wcs : List ℤ) (wxheads wxnexts wyheads wynexts : List ℕ) : Type 0 where
   pub watched_room : ColumnsRoom w (columns wxs wys wcs)
   pub in_bounds : (j : ℕ) → j < w → InBounds n (rules wxs wys wcs j)
   pub by_first : ChainsBy n w wxs wxheads wxnexts
   pub by_second : ChainsBy n w wys wyheads wynexts
-
--- There are places for the gains of n steps, for the rules that they come by, and for two verdicts on each of w watched rules.
-pub record Places (n w : ℕ) (gains by always never : List ℕ) : Type 0 where
-  pub gains_room : n ≤ length gains
-  pub by_room : n ≤ length by
-  pub always_room : w ≤ length always
-  pub never_room : w ≤ length never
 
 module _ (H : ℕ → Type 0) (xs ys : List ℕ) (cs : List ℤ) (wxs wys : List ℕ) (wcs : List ℤ) where
   -- The watched rule under j holds in every arrangement of the rules held, whose numbers H holds of.
@@ -71,11 +59,11 @@ module _ (H : ℕ → Type 0) (xs ys : List ℕ) (cs : List ℤ) (wxs wys : List
 
   -- Verdicts were passed on the watched rules of step a, of which there are w in all: `always` on those whose first step it is, and `never` on
   -- those whose second step it is.
-  pub record JudgedStep (w a : ℕ) (always never always' never' : List ℕ) : Type 0 where
-    pub in_all : Judged InAll w wxs a always always'
-    pub in_none : Judged InNone w wys a never never'
+  pub record JudgedStep (w a : ℕ) (always never always' never' : List Bool) : Type 0 where
+    pub in_all : Judged (λ j says. Decides says (InAll j)) w wxs a always always'
+    pub in_none : Judged (λ j says. Decides says (InNone j)) w wys a never never'
 
   -- Both verdicts were passed on each of w watched rules.
-  pub record JudgedAll (w : ℕ) (always never : List ℕ) : Type 0 where
+  pub record JudgedAll (w : ℕ) (always never : List Bool) : Type 0 where
     pub in_all : Decided InAll w always
     pub in_none : Decided InNone w never

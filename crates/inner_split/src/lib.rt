@@ -4,58 +4,25 @@
 // exactly when its negation holds in every arrangement.
 #![tactic(auto)]
 
-ghost use Rattle.std.specs.Prelude.{◌≡◌, ℕ, ◌^◌, ◌<◌, ◌≤◌, length};
+ghost use Rattle.std.specs.Prelude.{◌≡◌, ℕ, ◌+◌, ◌^◌, ◌<◌, ◌≤◌, length, Ok};
 ghost use Rattle.meaning.specs.Bounds.{WATCHED};
-ghost use Rattle.meaning.specs.Rules.{negation};
+ghost use Rattle.meaning.specs.Promise.{given_lengths};
 ghost use Rattle.meaning.specs.Tables.{at};
+ghost use Rattle.lent.specs.Decides.{Decides};
 ghost use Rattle.lent.specs.Lent.{tables, held_by};
 ghost use Rattle.lent.specs.Promises.{Border, Splits};
 ghost use Rattle.chains.specs.Chains.{number, linked, LentChains};
 ghost use Rattle.spread.specs.Ground.{Ground, rules};
-ghost use Rattle.inner_split.specs.Carries.{GAIN, Carries, Near, Telling};
-ghost use Rattle.inner_split.specs.Verdicts.{Verdict, Judged, Picked};
-ghost use Rattle.inner_split.specs.Clauses.{Gained, Reach, Testable, Within, Broken, ChainsBy, Judgeable, Watching, Places, JudgedStep, JudgedAll};
+ghost use Rattle.inner_split.specs.Carries.{GAIN, Near, Telling};
+ghost use Rattle.inner_split.specs.Verdicts.{Judged, Picked};
+ghost use Rattle.inner_split.specs.Clauses.{Gained, Reach, Testable, Within, Broken, ChainsBy, Watching, JudgedStep, JudgedAll};
 
-use meaning::{Counts, Reply};
+use chains::Held;
+use lent::Rules;
+use meaning::{Counts, Lengths};
 
 // The gain that is asked for at a step: more than a day and an amount come to.
 const GAIN: u64 = 2147483648;
-
-// Takes the gain of every step below n away.
-fn clear(n: usize, gains: &mut [u64])
-    requires { n ≤ length gains.old }
-    ensures { (v : ℕ) → v < n → at gains.new v ≡ 0 }
-{
-    for v in 0..n {
-        gains[v] = 0;
-    }
-}
-
-// Asks for the gain at step a alone and spreads it, whatever the gains were: they then tell of each rule that leads from a whether it holds in every
-// arrangement.
-fn gains_from(
-    n: usize,
-    xs: &[u16],
-    ys: &[u16],
-    cs: &[i32],
-    days: &[u32],
-    heads: &[u16],
-    nexts: &[u16],
-    a: usize,
-    gains: &mut [u64],
-    by: &mut [u16],
-)
-    requires ground { Ground n (linked nexts.now) number xs.now ys.now cs.now days.now heads.now nexts.now }
-    requires near { Near n days.now }
-    requires a_lt_n { a < n }
-    requires n_in_bounds { n ≤ length gains.old }
-    requires n_in_bounds_2 { n ≤ length by.old }
-    ensures { Telling n (rules xs.now ys.now cs.now) (linked nexts.now) (at days.now) a
-        (at gains.new) }
-{
-    clear(n, gains);
-    spread::spread_one(n, xs, ys, cs, days, heads, nexts, a, GAIN, n, gains, by);
-}
 
 // The day of step v with its gain.
 fn carried(days: &[u32], gains: &[u64], v: usize) -> u64
@@ -65,185 +32,161 @@ fn carried(days: &[u32], gains: &[u64], v: usize) -> u64
     lent::day_at(days, v) + gains[v]
 }
 
-// 1 where day `far` is within what the watched rule under j leaves its first step, its second step being on its day with its gain; else 0.
-fn holds(far: u64, wys: &[u16], wcs: &[i32], days: &[u32], gains: &[u64], j: usize) -> u8
-    requires testable { Testable wys.now wcs.now days.now gains.now j }
+// Whether day `far` is within what the watched rule under j leaves its first step, its second step being on its day with its gain.
+fn holds(far: u64, rules: Rules<'_>, days: &[u32], gains: &[u64], j: usize) -> bool
+    requires testable { Testable rules.ys.now rules.cs.now days.now gains.now j }
     requires far_bound { far < 2 ^ 33 }
-    ensures { Verdict result (Within far wys.now wcs.now days.now gains.now j) }
+    ensures { Decides result (Within far rules.entry.ys.now rules.entry.cs.now days.now gains.now j) }
 {
-    let reach = carried(days, gains, lent::number_at(wys, j));
-    if far + lent::BIAS <= reach + lent::amount_at(wcs, j) {
-        1
-    } else {
-        0
-    }
+    let reach = carried(days, gains, lent::number_at(rules.ys, j));
+    far + lent::BIAS <= reach + lent::amount_at(rules.cs, j)
 }
 
-// 1 where the watched rule under j is broken with its second step on day `far`, its first step being on its day with its gain; else 0.
-fn breaks(far: u64, wxs: &[u16], wcs: &[i32], days: &[u32], gains: &[u64], j: usize) -> u8
-    requires testable { Testable wxs.now wcs.now days.now gains.now j }
+// Whether the watched rule under j is broken with its second step on day `far`, its first step being on its day with its gain.
+fn breaks(far: u64, rules: Rules<'_>, days: &[u32], gains: &[u64], j: usize) -> bool
+    requires testable { Testable rules.xs.now rules.cs.now days.now gains.now j }
     requires far_bound { far < 2 ^ 33 }
-    ensures { Verdict result (Broken far wxs.now wcs.now days.now gains.now j) }
+    ensures { Decides result (Broken far rules.entry.xs.now rules.entry.cs.now days.now gains.now j) }
 {
-    let reach = carried(days, gains, lent::number_at(wxs, j));
-    if far + lent::amount_at(wcs, j) < reach + lent::BIAS {
-        1
-    } else {
-        0
-    }
+    let reach = carried(days, gains, lent::number_at(rules.xs, j));
+    far + lent::amount_at(rules.cs, j) < reach + lent::BIAS
 }
 
-// Passes a verdict on each watched rule whose first step is a, along the chain of a: 1 where the gains carry the rule, else 0. Every other verdict
-// stays.
-fn judge_firsts(
+// Chains of the watched rules, by the steps of one column.
+#[derive(Clone, Copy)]
+struct Chains<'a> {
+    heads: &'a [u16],
+    nexts: &'a [u16],
+}
+
+// Passes a verdict on each of w rules whose step is a, along the chain of a: what the test says of it. Every other verdict stays.
+fn judge_chain<F: Fn(usize) -> bool>(
     n: usize,
     w: usize,
-    wxs: &[u16],
-    wys: &[u16],
-    wcs: &[i32],
-    days: &[u32],
-    heads: &[u16],
-    nexts: &[u16],
+    steps: &[u16],
+    chains: Chains<'_>,
     a: usize,
-    gains: &[u64],
-    always: &mut [u8],
+    test: F,
+    verdicts: &mut [bool],
 )
-    requires judgeable { Judgeable n w wxs.now wys.now wcs.now days.now gains.now }
-    requires chains_by { ChainsBy n w wxs.now heads.now nexts.now }
+    requires chains_by { ChainsBy n w steps.now chains.heads.now chains.nexts.now }
     requires a_lt_n { a < n }
-    requires w_in_bounds { w ≤ length always.old }
-    ensures { Judged (λ j. Carries (at days.now) (at gains.now) (rules wxs.now wys.now wcs.now j))
-        w wxs.now a always.old always.new }
+    requires w_in_bounds { w ≤ length verdicts.old }
+    requires callable { (j : ℕ) → j < w → F.pre test j }
+    ensures { Judged (λ j passes. F.post test j passes) w steps.now a verdicts.old verdicts.new }
 {
-    let far = lent::day_at(days, a) + GAIN;
-    let mut link = lent::number_at(heads, a);
+    // A chain is walked by its links: it lies in lists of fixed length, since the library takes no memory.
+    let mut link = lent::number_at(chains.heads, a);
     while 0 < link {
         let j = link - 1;
-        always[j] = holds(far, wys, wcs, days, gains, j);
-        link = lent::number_at(nexts, j);
+        verdicts[j] = test(j);
+        link = lent::number_at(chains.nexts, j);
     }
 }
 
-// Passes a verdict on each watched rule whose second step is a, along the chain of a: 1 where the gains carry its negation, else 0. Every other
-// verdict stays.
-fn judge_seconds(
-    n: usize,
-    w: usize,
-    wxs: &[u16],
-    wys: &[u16],
-    wcs: &[i32],
-    days: &[u32],
-    heads: &[u16],
-    nexts: &[u16],
-    a: usize,
-    gains: &[u64],
-    never: &mut [u8],
-)
-    requires judgeable { Judgeable n w wxs.now wys.now wcs.now days.now gains.now }
-    requires chains_by { ChainsBy n w wys.now heads.now nexts.now }
-    requires a_lt_n { a < n }
-    requires w_in_bounds { w ≤ length never.old }
-    ensures { Judged (λ j. Carries (at days.now) (at gains.now) (negation (rules wxs.now wys.now wcs.now j)))
-        w wys.now a never.old never.new }
-{
-    let far = lent::day_at(days, a) + GAIN;
-    let mut link = lent::number_at(heads, a);
-    while 0 < link {
-        let j = link - 1;
-        never[j] = breaks(far, wxs, wcs, days, gains, j);
-        link = lent::number_at(nexts, j);
-    }
+// What Consequences go by: so many steps, the rules held, on chains by their first steps, and so many watched rules, with their chains by first steps and by second
+// steps.
+#[derive(Clone, Copy)]
+struct Split<'a, 'c> {
+    steps: usize,
+    held: Held<'a>,
+    count: usize,
+    watched: Rules<'a>,
+    firsts: Chains<'c>,
+    seconds: Chains<'c>,
+    ghost ground: { Ground steps (linked held.nexts.now) number held.rules.xs.now held.rules.ys.now held.rules.cs.now held.days.now held.heads.now held.nexts.now },
+    ghost near: { Near steps held.days.now },
+    ghost watching: { Watching steps count watched.xs.now watched.ys.now watched.cs.now firsts.heads.now firsts.nexts.now seconds.heads.now seconds.nexts.now },
 }
 
-// Passes the verdicts on the watched rules of step a: whether each whose first step it is holds in every arrangement, and whether each whose second
-// step it is holds in none. Where a is a step of no watched rule, nothing is spread and no verdict changes.
-fn judge(
-    n: usize,
-    xs: &[u16],
-    ys: &[u16],
-    cs: &[i32],
-    days: &[u32],
-    heads: &[u16],
-    nexts: &[u16],
-    w: usize,
-    wxs: &[u16],
-    wys: &[u16],
-    wcs: &[i32],
-    wxheads: &[u16],
-    wxnexts: &[u16],
-    wyheads: &[u16],
-    wynexts: &[u16],
-    a: usize,
-    gains: &mut [u64],
-    by: &mut [u16],
-    always: &mut [u8],
-    never: &mut [u8],
-)
-    requires ground { Ground n (linked nexts.now) number xs.now ys.now cs.now days.now heads.now nexts.now }
-    requires near { Near n days.now }
-    requires watching { Watching n w wxs.now wys.now wcs.now wxheads.now wxnexts.now wyheads.now wynexts.now }
-    requires places { Places n w gains.old by.old always.old never.old }
-    requires a_lt_n { a < n }
-    ensures { JudgedStep (linked nexts.now) xs.now ys.now cs.now wxs.now wys.now wcs.now w a
-        always.old never.old always.new never.new }
-{
-    if lent::number_at(wxheads, a) + lent::number_at(wyheads, a) == 0 {
-        return;
+impl Split<'_, '_> {
+    // Asks for the gain at step a alone and spreads it, whatever the gains were: they then tell of each rule that leads from a whether it holds in every
+    // arrangement.
+    fn gains_from(self, a: usize, gains: &mut [u64], by: &mut [u16])
+        requires a_lt_steps { a < self.steps }
+        requires gains_room { self.steps ≤ length gains.old }
+        requires by_room { self.steps ≤ length by.old }
+        ensures { Telling self.entry.steps (rules self.entry.held.rules.xs.now self.entry.held.rules.ys.now self.entry.held.rules.cs.now) (linked self.entry.held.nexts.now)
+            (at self.entry.held.days.now) a (at gains.new) }
+    {
+        let held = self.held;
+        gains[..self.steps].fill(0);
+        spread::spread_one(self.steps, held, a, GAIN, self.steps, gains, by);
     }
-    gains_from(n, xs, ys, cs, days, heads, nexts, a, gains, by);
-    judge_firsts(
-        n, w, wxs, wys, wcs, days, wxheads, wxnexts, a, gains, always,
-    );
-    judge_seconds(n, w, wxs, wys, wcs, days, wyheads, wynexts, a, gains, never);
-}
 
-// Passes both verdicts on every watched rule, step by step.
-fn judge_all(
-    n: usize,
-    xs: &[u16],
-    ys: &[u16],
-    cs: &[i32],
-    days: &[u32],
-    heads: &[u16],
-    nexts: &[u16],
-    w: usize,
-    wxs: &[u16],
-    wys: &[u16],
-    wcs: &[i32],
-    wxheads: &[u16],
-    wxnexts: &[u16],
-    wyheads: &[u16],
-    wynexts: &[u16],
-    gains: &mut [u64],
-    by: &mut [u16],
-    always: &mut [u8],
-    never: &mut [u8],
-)
-    requires ground { Ground n (linked nexts.now) number xs.now ys.now cs.now days.now heads.now nexts.now }
-    requires near { Near n days.now }
-    requires watching { Watching n w wxs.now wys.now wcs.now wxheads.now wxnexts.now wyheads.now wynexts.now }
-    requires places { Places n w gains.old by.old always.old never.old }
-    ensures { JudgedAll (linked nexts.now) xs.now ys.now cs.now wxs.now wys.now wcs.now w
-        always.new never.new }
-{
-    for a in 0..n {
-        judge(
-            n, xs, ys, cs, days, heads, nexts, w, wxs, wys, wcs, wxheads, wxnexts, wyheads,
-            wynexts, a, gains, by, always, never,
+    // Passes the verdicts on the watched rules of step a: whether each whose first step it is holds in every arrangement, and whether each whose second
+    // step it is holds in none. Where a is a step of no watched rule, nothing is spread and no verdict changes.
+    fn judge(
+        self,
+        a: usize,
+        gains: &mut [u64],
+        by: &mut [u16],
+        always: &mut [bool],
+        never: &mut [bool],
+    )
+        requires a_lt_steps { a < self.steps }
+        requires gains_room { self.steps ≤ length gains.old }
+        requires by_room { self.steps ≤ length by.old }
+        requires always_room { self.count ≤ length always.old }
+        requires never_room { self.count ≤ length never.old }
+        ensures { JudgedStep (linked self.entry.held.nexts.now) self.entry.held.rules.xs.now self.entry.held.rules.ys.now self.entry.held.rules.cs.now
+            self.entry.watched.xs.now self.entry.watched.ys.now self.entry.watched.cs.now self.entry.count a always.old never.old always.new never.new }
+    {
+        if lent::number_at(self.firsts.heads, a) == 0
+            && lent::number_at(self.seconds.heads, a) == 0
+        {
+            return;
+        }
+        self.gains_from(a, gains, by);
+        let watched = self.watched;
+        let days = self.held.days;
+        let told: &[u64] = gains;
+        let far = lent::day_at(days, a) + GAIN;
+        judge_chain(
+            self.steps,
+            self.count,
+            watched.xs,
+            self.firsts,
+            a,
+            |j| holds(far, watched, days, told, j),
+            always,
+        );
+        judge_chain(
+            self.steps,
+            self.count,
+            watched.ys,
+            self.seconds,
+            a,
+            |j| breaks(far, watched, days, told, j),
+            never,
         );
     }
+
+    // Passes both verdicts on every watched rule, step by step.
+    fn judge_all(self, always: &mut [bool], never: &mut [bool])
+        requires always_room { self.count ≤ length always.old }
+        requires never_room { self.count ≤ length never.old }
+        ensures { JudgedAll (linked self.entry.held.nexts.now) self.entry.held.rules.xs.now self.entry.held.rules.ys.now self.entry.held.rules.cs.now
+            self.entry.watched.xs.now self.entry.watched.ys.now self.entry.watched.cs.now self.entry.count always.new never.new }
+    {
+        let mut gains = [0u64; meaning::STEPS];
+        let mut by = [0u16; meaning::STEPS];
+        for a in 0..self.steps {
+            self.judge(a, &mut gains, &mut by, always, never);
+        }
+    }
 }
 
-// Puts the numbers below w whose verdict is yes into the list, rising, and gives back how many there are. The places past them keep what they had.
-fn pick(w: usize, verdicts: &[u8], list: &mut [u32]) -> usize
-    requires w_bound { w ≤ WATCHED }
-    requires w_in_bounds { w ≤ length verdicts.now }
-    requires w_in_bounds_2 { w ≤ length list.old }
-    ensures { Picked w verdicts.now list.old list.new result }
+// Puts the numbers whose verdict is yes into the list, rising, and gives back how many there are. The places past them keep what they had.
+fn pick(verdicts: &[bool], list: &mut [u32]) -> usize
+    requires bound { length verdicts.now ≤ WATCHED }
+    requires room { length verdicts.now ≤ length list.old }
+    ensures { Picked (length verdicts.now) verdicts.now list.old list.new result }
 {
+    // The list is lent, so its places are written one after the other and not collected.
     let mut k = 0;
-    for j in 0..w {
-        if verdicts[j] != 0 {
+    for (j, says_yes) in verdicts.iter().enumerate() {
+        if *says_yes {
             list[k] = j as u32;
             k += 1;
         }
@@ -251,29 +194,29 @@ fn pick(w: usize, verdicts: &[u8], list: &mut [u32]) -> usize
     k
 }
 
-// Consequences: list one gets the numbers of the watched rules that hold in every arrangement, list two of those that hold in none; the lengths are
-// the values. It is always DONE, and the counts stay.
-pub fn consequences(
+// Consequences: list one gets the numbers of the watched rules that hold in every arrangement, list two of those that hold in none; how many these are is
+// told. It refuses nothing, and the counts stay.
+pub fn consequences<'a>(
     counts: Counts,
-    xs: &[u16],
-    ys: &[u16],
-    cs: &[i32],
-    days: &[u32],
+    xs: &'a [u16],
+    ys: &'a [u16],
+    cs: &'a [i32],
+    days: &'a [u32],
     levels: &[u8],
-    wxs: &[u16],
-    wys: &[u16],
-    wcs: &[i32],
-    heads: &[u16],
-    nexts: &[u16],
+    wxs: &'a [u16],
+    wys: &'a [u16],
+    wcs: &'a [i32],
+    heads: &'a [u16],
+    nexts: &'a [u16],
     one: &mut [u32],
     two: &mut [u32],
-) -> Reply
+) -> Lengths
     requires border { Border (tables counts xs.now ys.now cs.now days.now levels.now wxs.now wys.now wcs.now) }
     requires watched_in_bounds { counts.watched ≤ length one.old }
     requires watched_in_bounds_2 { counts.watched ≤ length two.old }
     requires lent_chains { LentChains counts.steps (held_by levels.now) xs.now heads.now nexts.now }
     ensures { Splits counts xs.now ys.now cs.now days.now levels.now
-        wxs.now wys.now wcs.now one.old two.old result one.new two.new }
+        wxs.now wys.now wcs.now one.old two.old (given_lengths (Ok result)) counts one.new two.new }
 {
     let n = counts.steps as usize;
     let w = counts.watched as usize;
@@ -283,32 +226,41 @@ pub fn consequences(
     let mut wyheads = [0u16; meaning::STEPS];
     let mut wynexts = [0u16; meaning::WATCHED];
     chains::build(n, w, wys, &mut wyheads, &mut wynexts);
-    let mut gains = [0u64; meaning::STEPS];
-    let mut by = [0u16; meaning::STEPS];
-    let mut always = [0u8; meaning::WATCHED];
-    let mut never = [0u8; meaning::WATCHED];
-    judge_all(
-        n,
-        xs,
-        ys,
-        cs,
+    let rules = Rules { xs, ys, cs };
+    let held = Held {
+        rules,
         days,
         heads,
         nexts,
-        w,
-        wxs,
-        wys,
-        wcs,
-        &wxheads,
-        &wxnexts,
-        &wyheads,
-        &wynexts,
-        &mut gains,
-        &mut by,
-        &mut always,
-        &mut never,
-    );
-    let in_all = pick(w, &always, one);
-    let in_none = pick(w, &never, two);
-    meaning::done(counts, in_all as u32, in_none as u32)
+    };
+    let watched = Rules {
+        xs: wxs,
+        ys: wys,
+        cs: wcs,
+    };
+    let firsts = Chains {
+        heads: &wxheads,
+        nexts: &wxnexts,
+    };
+    let seconds = Chains {
+        heads: &wyheads,
+        nexts: &wynexts,
+    };
+    let split = Split {
+        steps: n,
+        held,
+        count: w,
+        watched,
+        firsts,
+        seconds,
+    };
+    let mut always = [false; meaning::WATCHED];
+    let mut never = [false; meaning::WATCHED];
+    split.judge_all(&mut always, &mut never);
+    let in_all = pick(&always[..w], one);
+    let in_none = pick(&never[..w], two);
+    Lengths {
+        held: in_all as u32,
+        excluded: in_none as u32,
+    }
 }

@@ -5,30 +5,31 @@
 ghost use Rattle.std.specs.Prelude.{◌≡◌, ◌≤◌, length, []};
 ghost use Rattle.meaning.specs.Bounds.{RULES};
 ghost use Rattle.inner_watch.specs.Cleared.{Cleared, Freed};
-ghost use Rattle.meaning.specs.Promise.{First};
+ghost use Rattle.meaning.specs.Promise.{First, number_told, given, counts_told};
 ghost use Rattle.meaning.specs.Calls.{rule_needs};
 ghost use Rattle.meaning.specs.Tables.{put};
-ghost use Rattle.lent.specs.Lent.{columns, tables, Placed};
+ghost use Rattle.lent.specs.Lent.{tables_of, of_lists, columns, tables, Placed};
 ghost use Rattle.meaning.specs.Rules.{rule};
 ghost use Rattle.lent.specs.Promises.{Border, Watches, Marks};
 
-use meaning::{Counts, Reply};
+use lent::{Rules, Tables};
+use meaning::{Counts, Refusal};
 
-// The number of the first refusal of a rule handed to a call, over so many steps: STEP, AMOUNT; else 0. Steps are handed over as u32, so that none is cut short on
+// The first refusal of a rule handed to a call, over so many steps: STEP, AMOUNT. Steps are handed over as u32, so that none is cut short on
 // the way: one that is not below the count is STEP, however large.
-pub fn rule_verdict(steps: u32, x: u32, y: u32, c: i32) -> u32
-    ensures { First (rule_needs steps (rule x y c) []) result }
+pub fn rule_verdict(steps: u32, x: u32, y: u32, c: i32) -> Result<(), Refusal>
+    ensures { First (rule_needs steps (rule x y c) []) (number_told result) }
 {
     if steps <= x {
-        return meaning::STEP;
+        return Err(Refusal::Step);
     }
     if steps <= y {
-        return meaning::STEP;
+        return Err(Refusal::Step);
     }
     if !lent::amount_fits(c) {
-        return meaning::AMOUNT;
+        return Err(Refusal::Amount);
     }
-    0
+    Ok(())
 }
 
 // Writes the rule x, y, c under number i.
@@ -44,9 +45,7 @@ pub fn write_rule(xs: &mut [u16], ys: &mut [u16], cs: &mut [i32], i: usize, x: u
 // Watch: STEP or AMOUNT where the rule is not within bounds, FULL where no place is left; else the rule stands at the end of the watched list.
 pub fn watch(
     counts: Counts,
-    xs: &[u16],
-    ys: &[u16],
-    cs: &[i32],
+    rules: Rules<'_>,
     days: &[u32],
     levels: &[u8],
     wxs: &mut [u16],
@@ -55,43 +54,34 @@ pub fn watch(
     x: u32,
     y: u32,
     c: i32,
-) -> Reply
-    requires { Border (tables counts xs.now ys.now cs.now days.now levels.now wxs.old wys.old wcs.old) }
-    ensures { Watches counts xs.now ys.now cs.now days.now levels.now
-        wxs.old wys.old wcs.old x y c result wxs.new wys.new wcs.new }
+) -> Result<Counts, Refusal>
+    requires { Border (tables counts rules.xs.now rules.ys.now rules.cs.now days.now levels.now wxs.old wys.old wcs.old) }
+    ensures { Watches counts rules.entry.xs.now rules.entry.ys.now rules.entry.cs.now days.now levels.now wxs.old wys.old wcs.old x y c (given result) (counts_told counts result) wxs.new wys.new wcs.new }
 {
-    let number = rule_verdict(counts.steps, x, y, c);
-    if 0 < number {
-        return meaning::refused(counts, number);
-    }
+    rule_verdict(counts.steps, x, y, c)?;
     let at = counts.watched as usize;
     if meaning::WATCHED <= at {
-        return meaning::refused(counts, meaning::FULL);
+        return Err(Refusal::Full);
     }
     write_rule(wxs, wys, wcs, at, x as u16, y as u16, c);
-    meaning::done(meaning::watched_now(counts, counts.watched + 1), 0, 0)
+    Ok(Counts {
+        watched: counts.watched + 1,
+        ..counts
+    })
 }
 
 // Mark: FULL where no more may be open; else one more mark is.
-pub fn mark(
-    counts: Counts,
-    xs: &[u16],
-    ys: &[u16],
-    cs: &[i32],
-    days: &[u32],
-    levels: &[u8],
-    wxs: &[u16],
-    wys: &[u16],
-    wcs: &[i32],
-) -> Reply
-    requires { Border (tables counts xs.now ys.now cs.now days.now levels.now wxs.now wys.now wcs.now) }
-    ensures { Marks counts xs.now ys.now cs.now days.now levels.now
-        wxs.now wys.now wcs.now result }
+pub fn mark(counts: Counts, tables: Tables<'_>) -> Result<Counts, Refusal>
+    requires { Border (tables_of counts tables) }
+    ensures { of_lists (Marks counts) tables.entry (given result) (counts_told counts result) }
 {
     if meaning::MARKS <= counts.marks as usize {
-        return meaning::refused(counts, meaning::FULL);
+        return Err(Refusal::Full);
     }
-    meaning::done(meaning::marks_now(counts, counts.marks + 1), 0, 0)
+    Ok(Counts {
+        marks: counts.marks + 1,
+        ..counts
+    })
 }
 
 // Sets the first n days to 0.
@@ -99,9 +89,7 @@ pub fn clear_days(n: usize, days: &mut [u32])
     requires { n ≤ length days.old }
     ensures { Cleared n days.old days.new }
 {
-    for v in 0..n {
-        days[v] = 0;
-    }
+    days[..n].fill(0);
 }
 
 // Frees every place: the first RULES cells are 0.
@@ -109,7 +97,5 @@ pub fn free_all(levels: &mut [u8])
     requires { RULES ≤ length levels.old }
     ensures { Freed RULES levels.old levels.new }
 {
-    for i in 0..meaning::RULES {
-        levels[i] = 0;
-    }
+    levels[..meaning::RULES].fill(0);
 }

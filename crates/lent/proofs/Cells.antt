@@ -1,4 +1,4 @@
--- The cells of a column as they are passed: whether all are as asked; of the levels the least, the largest, and how many are held.
+-- The cells of a column: whether all are as asked; of the levels how many are held.
 use Prim.Native.Nat.{ℕ, zero, suc, ◌+◌, ◌≤◌, ◌<◌}
 use native.Mathlib.Omega.{arith}
 use native.Mathlib.Decide.{ℕ_discrete, dec_lt}
@@ -7,102 +7,63 @@ use mathlib.Core.Path.{◌≡◌, refl, sym, ◌∙◌, ap, subst}
 use mathlib.Core.Bool.{Bool, true, false}
 use mathlib.Core.List.{List}
 use mathlib.Core.Logic.{◌⊎◌, inl, inr}
-use borrow.Author.Count.{below_none, below_more}
 use Rattle.meaning.specs.Bounds.{RULES}
 use Rattle.meaning.specs.Tables.{at, taken, lowest_free}
-use Rattle.meaning.proofs.Places.{taken_free, taken_held, free_or_held, taken_all_held, lowest_only, lowest_free_there, lowest_below_held}
-use Rattle.lent.specs.Decides.{Decides, decides_yes, decides_no}
+use Rattle.meaning.specs.Rules.{largest}
+use Rattle.meaning.proofs.Places.{taken_free, taken_held, free_or_held, taken_all_held, lowest_only, lowest_free_there, lowest_below_held, lowest_at_most}
+use Rattle.lent.specs.Decides.{Decides, decides_same}
+use Rattle.lent.specs.Passing.{EachTested}
 use Rattle.lent.specs.Lent.{first, held_by, AllHeld, FreeFrom}
+use Rattle.std.proofs.Math.Nat.{sub-zero}
+use Rattle.std.proofs.lemmas.Bool.{ne_eqb, lt-ltb}
+use Rattle.std.specs.List.{fold, position, position_or_len}
+use Rattle.std.proofs.lemmas.List.Sums.{fold_more, position_or_len_is}
+use Rattle.std.proofs.Common.{max, Some, None, unwrap_or, cond, eqb, ltb, length, take, drop, get_or, ◌-◌}
+use Rattle.std.proofs.lemmas.List.{get_or-take, get_or-drop, length-take-le, length-drop}
 
--- ---- an answer over the cells passed
+-- ---- an answer over all cells
 
-module _ (P : ℕ → Type 0) where
-  -- Before the first cell it is yes.
-  pub decides_none : Decides true ((j : ℕ) → j < 0 → P j)
-  decides_none = decides_yes refl (below_none P)
-
-  -- A cell that fails makes it no, and one that does not leaves it.
-  pub decides_next :
-      (i : ℕ) (all all' : Bool) → ((P i → ⊥) × (all' ≡ false)) ⊎ (P i × (all' ≡ all)) → Decides all ((j : ℕ) → j < i → P j) → Decides all' ((j : ℕ) → j < i + 1 → P j)
-  decides_next i all all' (inl (fails, is)) d = decides_no is (λ h. fails (h i (omega arith)))
-  decides_next i all all' (inr (holds, is)) d = record {
-    so = λ e. below_more P i (d.so (sym is ∙ e)) holds;
-    not_so = λ e h. d.not_so (sym is ∙ e) (λ j below. h j (omega arith));
+-- A test of every cell tells whether P holds of every place, where what it says of a cell tells whether P holds of that place.
+module _ {T : Type 0} {says : T → Bool → Type 0} {r : Bool} (P : ℕ → Type 0) where
+  -- A test of the cells from place a up to place b.
+  pub part_decides :
+      (cells : List T) (d : T) (a b : ℕ) → a ≤ b → b ≤ length cells → ((i : ℕ) (v : Bool) → a ≤ i → i < b → says (get_or cells i d) v → Decides v (P i)) →
+      EachTested says (take (b - a) (drop a cells)) (length (take (b - a) (drop a cells))) r → Decides r ((i : ℕ) → a ≤ i → i < b → P i)
+  part_decides cells d a b order room here t = record {
+    so = λ e i from below. (here i true from below (said i from below true (t.each e (i - a) d (omega (arith, long, from, below))))).so refl;
+    not_so = λ e all. let (k, below, denied) = t.one e in
+        let in_part : a + k < b = omega (arith, long, below) in
+        let at_place = read k (omega (arith, long, below)) in
+        (here (a + k) false (omega arith) in_part (subst (λ x. says x false) at_place (denied d))).not_so refl (all (a + k) (omega arith) in_part);
   }
+    where
+      long : length (take (b - a) (drop a cells)) ≡ b - a
+      long = length-take-le (b - a) (drop a cells) (omega (arith, length-drop a cells, room))
 
--- ---- the least cell
+      read : (k : ℕ) → k < b - a → get_or (take (b - a) (drop a cells)) k d ≡ get_or cells (a + k) d
+      read k below = get_or-take (b - a) (drop a cells) k d below ∙ get_or-drop a cells k d
 
--- Of the cells below i none is below the least, which is one of them, or above 0.
-pub record Least (i least : ℕ) (l : List ℕ) : Type 0 where
-  pub lowest : (j : ℕ) → j < i → least ≤ at l j
-  pub is_one : (0 < least) ⊎ ((j : ℕ) × (j < i) × (least ≡ at l j))
+      said : (i : ℕ) → a ≤ i → i < b → (v : Bool) → says (get_or (take (b - a) (drop a cells)) (i - a) d) v → says (get_or cells i d) v
+      said i from below v = subst (λ x. says x v) (read (i - a) (omega (arith, from, below)) ∙ ap (λ k. get_or cells k d) (omega (arith, from)))
 
-pub least_none : (least : ℕ) (l : List ℕ) → 0 < least → Least 0 least l
-least_none least l some = record { lowest = λ j h. absurd (omega arith); is_one = inl some }
-
--- With the next cell, the lower of the two.
-pub least_more : (i least least' : ℕ) (l : List ℕ) → ((at l i < least) × (least' ≡ at l i)) ⊎ ((least ≤ at l i) × (least' ≡ least)) → Least i least l → Least (i + 1) least' l
-least_more i least least' l (inl (lower, is)) p = record { lowest = λ j h. there j h (ℕ_discrete j i); is_one = inr (i, omega arith, is) }
-  where
-    there : (j : ℕ) → j < i + 1 → Dec (j ≡ i) → least' ≤ at l j
-    there j h (yes e) = omega (arith, is, ap (at l) e)
-    there j h (no d) = omega (arith, is, lower, p.lowest j (omega arith))
-least_more i least least' l (inr (no_lower, is)) p = record { lowest = λ j h. there j h (ℕ_discrete j i); is_one = one p.is_one }
-  where
-    there : (j : ℕ) → j < i + 1 → Dec (j ≡ i) → least' ≤ at l j
-    there j h (yes e) = omega (arith, is, no_lower, ap (at l) e)
-    there j h (no d) = omega (arith, is, p.lowest j (omega arith))
-
-    one : (0 < least) ⊎ ((j : ℕ) × (j < i) × (least ≡ at l j)) → (0 < least') ⊎ ((j : ℕ) × (j < i + 1) × (least' ≡ at l j))
-    one (inl some) = inl (omega (arith, is))
-    one (inr (j, h, e)) = inr (j, omega arith, omega (arith, is, e))
-
-pub least_held : (m least : ℕ) (l : List ℕ) → 0 < least → Least m least l → AllHeld m l
-least_held m least l some p i h = omega (arith, some, p.lowest i h)
-
-pub least_free : (m least : ℕ) (l : List ℕ) → least ≡ 0 → Least m least l → AllHeld m l → ⊥
-least_free m least l none p held = tell p.is_one
-  where
-    tell : (0 < least) ⊎ ((j : ℕ) × (j < m) × (least ≡ at l j)) → ⊥
-    tell (inl some) = omega arith
-    tell (inr (j, h, e)) = omega (arith, e, none, held j h)
+  -- A test of the first m cells.
+  pub front_decides :
+      (cells : List T) (d : T) (m : ℕ) → m ≤ length cells → ((i : ℕ) (v : Bool) → i < m → says (get_or cells i d) v → Decides v (P i)) →
+      EachTested says (take m cells) (length (take m cells)) r → Decides r ((i : ℕ) → i < m → P i)
+  front_decides cells d m room here t =
+      decides_same (λ all i below. all i (omega arith) below) (λ all i from below. all i below)
+      (part_decides cells d 0 m (omega arith) room (λ i v from below. here i v below)
+      (subst (λ k. EachTested says (take k cells) (length (take k cells)) r) (sym (sub-zero m)) t))
 
 -- ---- the largest cell
 
--- Of the cells from m to below i none is above the largest, which is one of them, or 0.
-pub record Most (m i most : ℕ) (l : List ℕ) : Type 0 where
-  pub highest : (j : ℕ) → m ≤ j → j < i → at l j ≤ most
-  pub is_one : (most ≡ 0) ⊎ ((j : ℕ) × (m ≤ j) × (j < RULES) × (most ≡ at l j))
-
-pub most_none : (m : ℕ) (l : List ℕ) → Most m m 0 l
-most_none m l = record { highest = λ j h g. absurd (omega arith); is_one = inl refl }
-
--- With the next cell, the higher of the two.
-pub most_more : (m i most most' : ℕ) (l : List ℕ) → m ≤ i → i < RULES → ((most < at l i) × (most' ≡ at l i)) ⊎ ((at l i ≤ most) × (most' ≡ most)) → Most m i most l → Most m (i + 1) most' l
-most_more m i most most' l from below (inl (higher, is)) p = record { highest = λ j h g. there j h g (ℕ_discrete j i); is_one = inr (i, from, below, is) }
-  where
-    there : (j : ℕ) → m ≤ j → j < i + 1 → Dec (j ≡ i) → at l j ≤ most'
-    there j h g (yes e) = omega (arith, is, ap (at l) e)
-    there j h g (no d) = omega (arith, is, higher, p.highest j h (omega arith))
-most_more m i most most' l from below (inr (no-higher, is)) p = record { highest = λ j h g. there j h g (ℕ_discrete j i); is_one = one p.is_one }
-  where
-    there : (j : ℕ) → m ≤ j → j < i + 1 → Dec (j ≡ i) → at l j ≤ most'
-    there j h g (yes e) = omega (arith, is, no-higher, ap (at l) e)
-    there j h g (no d) = omega (arith, is, p.highest j h (omega arith))
-
-    one : (most ≡ 0) ⊎ ((j : ℕ) × (m ≤ j) × (j < RULES) × (most ≡ at l j)) → (most' ≡ 0) ⊎ ((j : ℕ) × (m ≤ j) × (j < RULES) × (most' ≡ at l j))
-    one (inl none) = inl (omega (arith, is))
-    one (inr (j, h, g, e)) = inr (j, h, g, omega (arith, is, e))
-
-pub most_free : (m i most : ℕ) (l : List ℕ) → RULES ≤ i → most ≡ 0 → Most m i most l → FreeFrom m l
-most_free m i most l past none p j h g = omega (arith, none, p.highest j h (omega arith))
-
-pub most_held : (m i most : ℕ) (l : List ℕ) → (most ≡ 0 → ⊥) → Most m i most l → FreeFrom m l → ⊥
-most_held m i most l some p free = tell p.is_one
-  where
-    tell : (most ≡ 0) ⊎ ((j : ℕ) × (m ≤ j) × (j < RULES) × (most ≡ at l j)) → ⊥
-    tell (inl none) = some none
-    tell (inr (j, h, g, e)) = some (omega (arith, e, free j h g))
+-- The larger of each cell and of those before it is at last the largest of all.
+pub largest_fold : (n : ℕ) (days : List ℕ) → n ≤ length days → fold (λ l day. max l day) 0 (take n days) ≡ largest n (at days)
+unfolding largest
+largest_fold zero days room = refl
+largest_fold (suc n) days room =
+    subst (λ k. fold (λ l day. max l day) 0 (take k days) ≡ max (fold (λ l day. max l day) 0 (take n days)) (at days n)) (add-one n) (fold_more (λ l day. max l day) 0 days n 0 room)
+    ∙ ap (λ l. max l (at days n)) (largest_fold n days (omega arith))
 
 -- ---- how many are held
 
@@ -156,18 +117,18 @@ lowest_behind m l within counted held = sym (lowest_only RULES m l within held (
     tell (no d) (inl free) = inr free
     tell (no d) (inr some) = absurd (omega (arith, counted, taken_all_held m l held, taken_past m RULES m l (omega arith) (omega arith) some))
 
--- Where one of the first m is free, there is a lowest.
-pub lowest_there : (m : ℕ) (l : List ℕ) → m ≤ RULES → (AllHeld m l → ⊥) → lowest_free RULES l < RULES
-lowest_there m l within not_all = tell (dec_lt (lowest_free RULES l) RULES)
+-- A search of the places for a cell that is 0, which gives RULES where there is none, finds it.
+pub lowest_sought : (l : List ℕ) → RULES ≤ length l → unwrap_or (position (λ x. eqb x 0) (take RULES l)) RULES ≡ lowest_free RULES l
+lowest_sought l room = rw (is, length-take-le RULES l room) (by_place (dec_lt (lowest_free RULES l) RULES))
   where
-    tell : Dec (lowest_free RULES l < RULES) → lowest_free RULES l < RULES
-    tell (yes h) = h
-    tell (no h) = absurd (not_all (λ i below. lowest_below_held RULES l i (omega arith)))
+    held : (k : ℕ) → k < lowest_free RULES l → eqb (get_or (take RULES l) k 0) 0 ≡ false
+    held k below = rw (get_or-take RULES l k 0 (omega (arith, below, lowest_at_most RULES l))) (ne_eqb (at l k) 0 (λ e. omega (arith, e, lowest_below_held RULES l k below)))
 
--- A held place that is not past it is below it.
-pub lowest_further : (l : List ℕ) (i : ℕ) → lowest_free RULES l < RULES → i ≤ lowest_free RULES l → (at l i ≡ 0 → ⊥) → i + 1 ≤ lowest_free RULES l
-lowest_further l i there within some = tell (ℕ_discrete i (lowest_free RULES l))
-  where
-    tell : Dec (i ≡ lowest_free RULES l) → i + 1 ≤ lowest_free RULES l
-    tell (yes e) = absurd (some (subst (λ (j : ℕ). at l j ≡ 0) (sym e) (lowest_free_there RULES l there)))
-    tell (no d) = omega arith
+    is : position_or_len (λ x. eqb x 0) (take RULES l) ≡ lowest_free RULES l
+    is = position_or_len_is (λ x. eqb x 0) (take RULES l) (lowest_free RULES l) 0 (omega (arith, length-take-le RULES l room, lowest_at_most RULES l)) held
+        (λ there. let below : lowest_free RULES l < RULES = omega (arith, there, length-take-le RULES l room) in
+        rw (get_or-take RULES l (lowest_free RULES l) 0 below, lowest_free_there RULES l below) refl)
+
+    by_place : Dec (lowest_free RULES l < RULES) → unwrap_or (cond (ltb (lowest_free RULES l) RULES) (Some (lowest_free RULES l)) None) RULES ≡ lowest_free RULES l
+    by_place (yes below) = rw (lt-ltb (lowest_free RULES l) RULES below) refl
+    by_place (no past) = grind (arith, past, lowest_at_most RULES l)

@@ -1,6 +1,8 @@
 -- The lists that are lent to a function, as the tables of the meaning; and what must be in reach for a rule to be read.
 use Rattle.std.specs.Prelude.{ℕ, ◌+◌, ◌≤◌, ◌<◌, ◌≡◌, List, length, get_or, ℤ, pos}
 use Rattle.meaning.specs.declared.Counts.{Counts}
+use Rattle.lent.specs.declared.Rules.{Rules}
+use Rattle.lent.specs.declared.Tables.{Tables as Lists}
 use Rattle.meaning.specs.Bounds.{RULES}
 use Rattle.meaning.specs.Rules.{Keeps}
 use Rattle.meaning.specs.Reckoning.{up, dn}
@@ -9,6 +11,10 @@ use Rattle.meaning.specs.Tables.{Columns, Tables, rule_at, at}
 -- The table of rules whose columns are lent: first steps, second steps and amounts.
 abbrev pub columns : List ℕ → List ℕ → List ℤ → Columns
 columns xs ys cs = record { firsts = xs; seconds = ys; amounts = cs }
+
+-- The columns of a table of rules, as that table.
+abbrev pub columns_of : Rules → Columns
+columns_of r = columns r.xs.now r.ys.now r.cs.now
 
 -- All that is lent, as the office tables: the counts, the rules, the days, the level of each rule and the watched rules.
 abbrev pub tables : Counts → List ℕ → List ℕ → List ℤ → List ℕ → List ℕ → List ℕ → List ℕ → List ℤ → Tables
@@ -19,6 +25,16 @@ tables counts xs ys cs days levels wxs wys wcs = record {
   levels = levels;
   watched = columns wxs wys wcs;
 }
+
+-- The lists lent as the tables, with the counts, as the office tables.
+abbrev pub tables_of : Counts → Lists → Tables
+tables_of counts t = tables counts
+    t.rules.xs.now t.rules.ys.now t.rules.cs.now t.days.now t.levels.now
+    t.watched.xs.now t.watched.ys.now t.watched.cs.now
+
+-- What P says of the lists lent as the tables, one by one.
+abbrev pub of_lists : {A : Type 1} → (List ℕ → List ℕ → List ℤ → List ℕ → List ℕ → List ℕ → List ℕ → List ℤ → A) → Lists → A
+of_lists P t = P t.rules.xs.now t.rules.ys.now t.rules.cs.now t.days.now t.levels.now t.watched.xs.now t.watched.ys.now t.watched.cs.now
 
 -- The numbers below m: of m watched rules, and of places in order, those passed.
 abbrev pub first : ℕ → ℕ → Type 0

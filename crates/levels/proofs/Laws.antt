@@ -12,6 +12,7 @@ use Rattle.meaning.proofs.Theory.{earliest_unique, earliest_same}
 use Rattle.meaning.proofs.Lists.{past_same, past_refl}
 use Rattle.meaning.proofs.Places.{taken_at_most, freed_of_none, freed_leaves, freed_length, held?, not_held_free, down_to_held, down_to_levels}
 use Rattle.lent.specs.Promises.{Border}
+use Rattle.levels.specs.declared.Row.{Row}
 use Rattle.levels.specs.Levels.{with_marks, held_to, Popped, KeptDays}
 
 -- ---- marks set
@@ -143,7 +144,7 @@ popped_border n {t} {u} b p = subst Border (sym p.dropped) now
 
 -- ---- days kept
 
-module _ {steps marks-open : ℕ} {kept : List ℕ} where
+module _ {steps marks-open : ℕ} {kept : List Row} where
   -- What is kept of the open marks is kept of fewer.
   pub kept_fewer : {R : ℕ → Rule} {levels : List ℕ} {fewer : ℕ} → fewer ≤ marks-open → KeptDays R steps marks-open levels kept → KeptDays R steps fewer levels kept
   kept_fewer few k = record { kept_earliest = λ j j-in. k.kept_earliest j (omega arith) }
@@ -162,7 +163,7 @@ module _ {steps marks-open : ℕ} {kept : List ℕ} where
 
 -- Dropping marks changes no days kept of those that stay open.
 pub kept_popped :
-    (n : ℕ) {kept : List ℕ} {t u : Tables} → Popped n t u → KeptDays (rules_of t) t.counts.steps t.counts.marks t.levels kept →
+    (n : ℕ) {kept : List Row} {t u : Tables} → Popped n t u → KeptDays (rules_of t) t.counts.steps t.counts.marks t.levels kept →
     KeptDays (rules_of u) u.counts.steps u.counts.marks u.levels kept
 kept_popped n {kept} {t} {u} p k =
     subst (λ (w : Tables). KeptDays (rules_of w) w.counts.steps w.counts.marks w.levels kept) (sym p.dropped)

@@ -1,6 +1,4 @@
 -- Laws of the levels of a script.
-pub mod Copying
-pub mod Filing
 pub mod Pushing
 pub mod Popping
 pub mod Laws

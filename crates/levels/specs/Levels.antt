@@ -1,7 +1,7 @@
 -- Levels of a script: several marks set or dropped at once, and the days that are kept of open marks.
-use Rattle.std.specs.Prelude.{ℕ, ◌+◌, ◌*◌, ◌-◌, ◌%◌, ◌≤◌, ◌<◌, ◌≡◌, List, length}
+use Rattle.std.specs.Prelude.{ℕ, ◌+◌, ◌-◌, ◌%◌, ◌≤◌, ◌<◌, ◌≡◌, List, [], length, get_or, Some, None}
+use Rattle.levels.specs.declared.Row.{Row}
 use Rattle.meaning.specs.declared.Counts.{Counts}
-use Rattle.meaning.specs.Bounds.{STEPS}
 use Rattle.meaning.specs.Rules.{Rule, Earliest, largest}
 use Rattle.meaning.specs.Tables.{Columns, Tables, rule_at, at, Sound, down_to, with_days, marks_now}
 use Rattle.meaning.specs.Promise.{Planned}
@@ -37,61 +37,43 @@ pub record InOrder (m : ℕ) (levels : List ℕ) : Type 0 where
 abbrev pub ROWS : ℕ
 ROWS = 4
 
--- A row has STEPS days and two places more: the first names the mark whose days they are, the second, at place LAST of the row, has the last of these days.
-abbrev pub ROW : ℕ
-ROW = STEPS + 2
+-- What is read where there is no row: one that keeps the days of no mark.
+abbrev pub no_row : Row
+no_row = record { mark = None; days = []; last = 0 }
 
-abbrev pub LAST : ℕ
-LAST = STEPS + 1
+-- The row of the mark at place k. The mark that is ROWS places later has the same row.
+abbrev pub row_of : ℕ → List Row → Row
+row_of k kept = get_or kept (k % ROWS) no_row
 
--- Where the row of the mark at place k begins. The mark that is ROWS places later has the same row.
-abbrev pub row_of : ℕ → ℕ
-row_of k = ROW * (k % ROWS)
-
--- The row of the mark at place k is within a table with so many places.
-abbrev pub HasRow : (k room : ℕ) → Type 0
-HasRow k room = row_of k + LAST < room
-
--- The mark at place k has a row, and the row names it: after the days stands k + 1, so that 0 names no mark.
-pub record RowNamed (k : ℕ) (kept : List ℕ) : Type 0 where
-  pub has_row : HasRow k (length kept)
-  pub named : at kept (row_of k + STEPS) ≡ k + 1
+-- The row of the mark at place k names it.
+abbrev pub Named : ℕ → List Row → Type 0
+Named k kept = (row_of k kept).mark ≡ Some k
 
 -- The rules held whose level is not above k: they were added before the mark at place k was set.
 abbrev pub held_to : ℕ → List ℕ → ℕ → Type 0
 held_to k levels i = held_by levels i × (at levels i ≤ k + 1)
 
--- The days in the row of the mark at place k are the earliest plan of the rules that H holds of, and the row has the last of them.
-pub record RowPlan (R : ℕ → Rule) (steps : ℕ) (H : ℕ → Type 0) (k : ℕ) (kept : List ℕ) : Type 0 where
-  pub earliest : Earliest steps R H (λ v. at kept (row_of k + v))
-  pub last_day : at kept (row_of k + LAST) ≡ largest steps (λ v. at kept (row_of k + v))
+-- The days in the row are the earliest plan of the rules that H holds of, and the row has the last of them.
+pub record RowPlan (R : ℕ → Rule) (steps : ℕ) (H : ℕ → Type 0) (row : Row) : Type 0 where
+  pub earliest : Earliest steps R H (at row.days)
+  pub last_day : row.last ≡ largest steps (at row.days)
 
--- They are where the row names the mark.
-abbrev pub KeptFor : (R : ℕ → Rule) (steps : ℕ) (H : ℕ → Type 0) (k : ℕ) (kept : List ℕ) → Type 0
-KeptFor R steps H k kept = RowNamed k kept → RowPlan R steps H k kept
+-- They are where the row of the mark at place k names it.
+abbrev pub KeptFor : (R : ℕ → Rule) (steps : ℕ) (H : ℕ → Type 0) (k : ℕ) (kept : List Row) → Type 0
+KeptFor R steps H k kept = Named k kept → RowPlan R steps H (row_of k kept)
 
 -- Where the row of an open mark names it, the row has the earliest plan of the rules added before the mark was set. A row that names no open mark tells nothing.
-pub record KeptDays (R : ℕ → Rule) (steps open-marks : ℕ) (levels kept : List ℕ) : Type 0 where
+pub record KeptDays (R : ℕ → Rule) (steps open-marks : ℕ) (levels : List ℕ) (kept : List Row) : Type 0 where
   pub kept_earliest : (k : ℕ) → k < open-marks → KeptFor R steps (held_to k levels) k kept
 
 -- Whatever rules the tables were sound with: where the days of the marks then open were kept, those of the marks now open are kept.
-abbrev pub KeepsDays : Counts → (days kept : List ℕ) → Counts → (kept' : List ℕ) → Type 0
+abbrev pub KeepsDays : Counts → List ℕ → List Row → Counts → List Row → Type 0
 KeepsDays c days kept c' kept' =
     (rules watched : Columns) (levels : List ℕ) → Sound (record { counts = c; rules = rules; days = days; levels = levels; watched = watched }) →
     KeptDays (rule_at rules) c.steps c.marks levels kept → KeptDays (rule_at rules) c.steps c'.marks levels kept'
 
--- n places of one list, from a on, were copied to another, from b on; its other places are as before.
-pub record Copied (n : ℕ) (from : List ℕ) (a : ℕ) (to : List ℕ) (b : ℕ) (to' : List ℕ) : Type 0 where
-  pub same_length : length to' ≡ length to
-  pub copied : (v : ℕ) → v < n → at to' (b + v) ≡ at from (a + v)
-  pub below : (i : ℕ) → i < b → at to' i ≡ at to i
-  pub above : (i : ℕ) → b + n ≤ i → at to' i ≡ at to i
-
--- n days were written to the row of the mark at place k, with their last day, and the row names that mark; what is outside the row is as before.
-pub record Filed (n : ℕ) (days : List ℕ) (last k : ℕ) (kept kept' : List ℕ) : Type 0 where
-  pub same_length : length kept' ≡ length kept
-  pub filed : (v : ℕ) → v < n → at kept' (row_of k + v) ≡ at days v
-  pub names : at kept' (row_of k + STEPS) ≡ k + 1
-  pub dated : at kept' (row_of k + LAST) ≡ last
-  pub below : (i : ℕ) → i < row_of k → at kept' i ≡ at kept i
-  pub above : (i : ℕ) → row_of k + LAST < i → at kept' i ≡ at kept i
+-- The row keeps these days, and the last of them, as those of the mark at place k.
+pub record Keeps (k : ℕ) (days : List ℕ) (last : ℕ) (row : Row) : Type 0 where
+  pub names : row.mark ≡ Some k
+  pub has_days : (v : ℕ) → v < length days → at row.days v ≡ at days v
+  pub dated : row.last ≡ last

@@ -1,8 +1,8 @@
 // Levels of a script: setting and dropping several marks at once. Where the days of an open mark are kept a pop copies them, else it plans afresh.
-// A table of kept days has ROWS rows, which the marks use in turn: mark k has row k % ROWS, and a later mark takes it over.
+// Days are kept in rows, which the marks use in turn: mark k has row k % ROWS, and a later mark takes it over.
 #![tactic(auto)]
 
-ghost use Rattle.std.specs.Prelude.{◌≡◌, true, false, ◌+◌, ◌-◌, ◌*◌, ◌≤◌, ◌<◌, length};
+ghost use Rattle.std.specs.Prelude.{◌≡◌, true, false, ◌+◌, ◌-◌, ◌≤◌, ◌<◌, length, MatchOption};
 ghost use Rattle.meaning.specs.Bounds.{STEPS, RULES, MARKS};
 ghost use Rattle.meaning.specs.Rules.{Earliest, largest};
 ghost use Rattle.meaning.specs.Tables.{rule_at, at, taken, freed_above};
@@ -10,79 +10,58 @@ ghost use Rattle.meaning.specs.Promise.{Planned};
 ghost use Rattle.lent.specs.Lent.{columns, held_by};
 ghost use Rattle.lent.specs.Idle.{unwatched};
 ghost use Rattle.lent.specs.Promises.{Border};
-ghost use Rattle.lent.specs.Decides.{Decides};
 ghost use Rattle.spread.specs.Ground.{rules};
 ghost use Rattle.chains.specs.Chains.{linked, LentChains};
 ghost use Rattle.inner_back.specs.Replan.{Plannable};
 ghost use Rattle.inner_back.specs.Freeing.{Freeable};
-ghost use Rattle.levels.specs.Levels.{more_marks, row_of, LAST as LAST_SPEC, Popped, InOrder, HasRow, RowNamed, KeptFor, KeptDays, KeepsDays, Copied, Filed};
+ghost use Rattle.levels.specs.Levels.{more_marks, row_of, Popped, InOrder, Named, KeptFor, KeptDays, KeepsDays, Keeps};
 
+use lent::Rules;
 use meaning::Counts;
 
 // So many rows of kept days are used in turn.
 pub const ROWS: usize = 4;
 
-// A row has STEPS days and two places more: one for the mark whose days they are, where k + 1 names mark k and 0 none, and one for the last of the days.
-pub const ROW: usize = meaning::STEPS + 2;
-
-// The place in a row of the last of its days.
-const LAST: usize = meaning::STEPS + 1;
-
-// The length of the table of kept days beside fresh tables.
-pub const KEPT: usize = ROWS * ROW;
-
-// Where the row of mark k begins.
-fn row_of(k: usize) -> usize
-    ensures { result ≡ row_of k }
-{
-    ROW * (k % ROWS)
+// The days that are kept of a mark, if of any, and the last of them.
+#[derive(Clone, Copy)]
+pub struct Row {
+    pub mark: Option<usize>,
+    pub days: [u32; meaning::STEPS],
+    pub last: u32,
 }
 
-// Whether mark k has its row in a table with so many places.
-fn has_row(k: usize, room: usize) -> bool
-    ensures { Decides result (HasRow k room) }
-{
-    row_of(k) + LAST < room
-}
-
-// Whether the days of mark k are kept: it has a row, which names it.
-fn holds(k: usize, kept: &[u32]) -> bool
-    requires { k < MARKS }
-    ensures { Decides result (RowNamed k kept.now) }
-{
-    if has_row(k, kept.len()) {
-        return kept[row_of(k) + meaning::STEPS] == (k + 1) as u32;
+impl Row {
+    // A row that keeps the days of no mark.
+    pub fn empty() -> Row
+        ensures { result.mark ≡ None }
+    {
+        Row {
+            mark: None,
+            days: [0; meaning::STEPS],
+            last: 0,
+        }
     }
-    false
-}
 
-// Copies n days, from place a of one list on to place b of the other on.
-fn copy_days(n: usize, from: &[u32], a: usize, to: &mut [u32], b: usize)
-    requires n_in_bounds { a + n ≤ length from.now }
-    requires n_in_bounds_2 { b + n ≤ length to.old }
-    ensures { Copied n from.now a to.old b to.new }
-{
-    for v in 0..n {
-        to[b + v] = from[a + v];
+    // Keeps these days, the last of which is `last`, as those of the mark.
+    fn keep(&mut self, mark: usize, days: &[u32], last: u32)
+        requires { length days.now ≤ STEPS }
+        ensures { Keeps mark days.now last self.new }
+    {
+        self.mark = Some(mark);
+        self.days[..days.len()].copy_from_slice(days);
+        self.last = last;
     }
 }
 
-// Keeps n days and the last of them in the row of mark k, and names the mark there.
-fn keep_days(n: usize, days: &[u32], last: u32, kept: &mut [u32], k: usize)
-    requires n_bound { n ≤ STEPS }
-    requires in_bounds { STEPS ≤ length days.now }
-    requires k_bound { k < MARKS }
-    requires k_in_bounds { row_of k + LAST_SPEC < length kept.old }
-    ensures { Filed n days.now last k kept.old kept.new }
+// The row that keeps the days of mark k, if one does.
+fn row_of(k: usize, kept: &[Row]) -> Option<&Row>
+    ensures { MatchOption result (Named k kept.now → ⊥) (λ row. Named k kept.now × (row.now ≡ row_of k kept.now)) }
 {
-    let row = row_of(k);
-    copy_days(n, days, 0, kept, row);
-    kept[row + meaning::STEPS] = (k + 1) as u32;
-    kept[row + LAST] = last;
+    kept.get(k % ROWS).filter(|row| row.mark == Some(k))
 }
 
 // Sets n marks. The days of those that have a row are kept there.
-pub fn push(counts: Counts, days: &[u32], kept: &mut [u32], n: usize) -> Counts
+pub fn push(counts: Counts, days: &[u32], kept: &mut [Row], n: usize) -> Counts
     requires steps_bound { counts.steps ≤ STEPS }
     requires in_bounds { STEPS ≤ length days.now }
     requires n_bound { counts.marks + n ≤ MARKS }
@@ -90,16 +69,17 @@ pub fn push(counts: Counts, days: &[u32], kept: &mut [u32], n: usize) -> Counts
     ensures keeps_days { KeepsDays counts days.now kept.old result kept.new }
 {
     let first = counts.marks as usize;
-    let steps = counts.steps as usize;
+    let plan = &days[..counts.steps as usize];
     for k in first..first + n {
-        if has_row(k, kept.len()) {
-            keep_days(steps, days, counts.last, kept, k);
+        if k % ROWS < kept.len() {
+            kept[k % ROWS].keep(k, plan, counts.last);
         }
     }
     meaning::marks_now(counts, (first + n) as u32)
 }
 
-// Drops the newest n marks and every rule added while one of them was open. Rules that are known to be in order are taken off from the newest on.
+// Drops the newest n marks and every rule added while one of them was open. Rules that are known to be in order are taken off from the newest on; whether they are is
+// yes or no, with no value beside it.
 pub fn pop(
     counts: Counts,
     xs: &[u16],
@@ -109,7 +89,7 @@ pub fn pop(
     levels: &mut [u8],
     heads: &mut [u16],
     nexts: &mut [u16],
-    kept: &[u32],
+    kept: &[Row],
     n: usize,
     in_order: bool,
 ) -> Counts
@@ -176,16 +156,16 @@ fn free(
 
 // Brings the days of n steps, which keep every rule on the chains, those added before mark k was set, and have that last day, to the earliest plan of these rules. Gives
 // back the last day then. Where the days of the mark are kept, they are copied; else, where nothing is loose, the days are that plan as they are.
-fn days_at(
+fn days_at<'a>(
     n: usize,
     loose: bool,
-    xs: &[u16],
-    ys: &[u16],
-    cs: &[i32],
+    xs: &'a [u16],
+    ys: &'a [u16],
+    cs: &'a [i32],
     days: &mut [u32],
     heads: &[u16],
     nexts: &[u16],
-    kept: &[u32],
+    kept: &[Row],
     k: usize,
     last: u32,
 ) -> u32
@@ -198,10 +178,9 @@ fn days_at(
     ensures planned { Planned n (rules xs.now ys.now cs.now) (linked nexts.now) days.old days.new }
     ensures value { result ≡ largest n (at days.new) }
 {
-    if holds(k, kept) {
-        let row = row_of(k);
-        copy_days(n, kept, row, days, 0);
-        return kept[row + LAST];
+    if let Some(row) = row_of(k, kept) {
+        days[..n].copy_from_slice(&row.days[..n]);
+        return row.last;
     }
-    inner_back::replan(n, loose, xs, ys, cs, days, heads, nexts, last)
+    inner_back::replan(n, loose, Rules { xs, ys, cs }, days, heads, nexts, last)
 }

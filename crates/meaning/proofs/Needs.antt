@@ -7,10 +7,13 @@ use mathlib.Core.Logic.{◌⊎◌, inl, inr, ◌↔◌}
 use mathlib.Core.Bool.{Bool, true, false, not, ◌&&◌}
 use lib.Dec.{T, ltb, ltb→lt, eqb}
 use borrow.Author.Tests.{eq-eqb}
+use Rattle.meaning.specs.declared.Refusal.{Refusal}
+use Rattle.meaning.specs.declared.Refusal.TheVariants.{Short, Damaged, Step, Amount, Full, Conflict, NoMark, Syntax, Mode, Name, Size, Absent, Yard}
 use Rattle.meaning.specs.Bounds.{DONE, CONFLICT}
+use Rattle.meaning.specs.Refusals.{number_of, ring_of}
 use Rattle.meaning.specs.Rules.{Rule}
 use Rattle.meaning.specs.Tables.{Tables}
-use Rattle.meaning.specs.Promise.{bare, Need, First, Meaning, Obeys}
+use Rattle.meaning.specs.Promise.{bare, gave, Need, First, Meaning, Obeys}
 use Rattle.meaning.specs.Calls.{WithList, WithLists, open_meaning, watch_meaning, add_meaning, mark_meaning, back_meaning, withdraw_meaning, trial_meaning, consequences_meaning, ring_check_meaning, last_day_meaning}
 
 -- ---- the number is fixed
@@ -160,6 +163,40 @@ not_given k g [] h some f e = some (sym e ∙ f)
 not_given k g (n ∷ l) h some (inl a) e = other (k) n.number (both (not (eqb k n.number)) (none_has k l) h).0 (sym e ∙ a.0)
 not_given k g (n ∷ l) h some (inr a) e = not_given k g l (both (not (eqb k n.number)) (none_has k l) h).1 some a.1 e
 
+-- ---- refusals
+
+-- No refusal has the number of a call that is carried out.
+pub not_done : (r : Refusal) → number_of r ≡ DONE → ⊥
+not_done Short e = omega arith
+not_done Damaged e = omega arith
+not_done Step e = omega arith
+not_done Amount e = omega arith
+not_done Full e = omega arith
+not_done (Conflict k) e = omega arith
+not_done NoMark e = omega arith
+not_done Syntax e = omega arith
+not_done Mode e = omega arith
+not_done Name e = omega arith
+not_done Size e = omega arith
+not_done Absent e = omega arith
+not_done Yard e = omega arith
+
+-- A refusal that is no conflict carries no ring.
+pub no_ring : (r : Refusal) → (number_of r ≡ CONFLICT → ⊥) → ring_of r ≡ 0
+no_ring Short n = refl
+no_ring Damaged n = refl
+no_ring Step n = refl
+no_ring Amount n = refl
+no_ring Full n = refl
+no_ring (Conflict k) n = absurd (n refl)
+no_ring NoMark n = refl
+no_ring Syntax n = refl
+no_ring Mode n = refl
+no_ring Name n = refl
+no_ring Size n = refl
+no_ring Absent n = refl
+no_ring Yard n = refl
+
 -- ---- laws by which each return of the code is answered in a line
 
 module _ {S : Type 0} (m : Meaning S) (before : S) where
@@ -192,3 +229,11 @@ module _ {S : Type 0} (m : Meaning S) (before : S) where
         on_conflict = λ e. absurd (nc e);
         when_refused = λ a b. (refl, refl);
       }
+
+  -- The same, of an answer.
+  pub obeys_refusal : (r : Refusal) → (number_of r ≡ CONFLICT → ⊥) → First m.asks (number_of r) → Obeys m before (bare (number_of r)) before
+  obeys_refusal r nc f = obeys_refused (number_of r) (not_done r) nc f
+
+  -- The same, of an answer that would tell a value.
+  pub obeys_refusal_value : (r : Refusal) → (number_of r ≡ CONFLICT → ⊥) → First m.asks (number_of r) → Obeys m before (gave (number_of r) (ring_of r) 0) before
+  obeys_refusal_value r nc f = subst (λ (k : ℕ). Obeys m before (gave (number_of r) k 0) before) (sym (no_ring r nc)) (obeys_refusal r nc f)

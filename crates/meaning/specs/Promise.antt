@@ -1,8 +1,11 @@
 -- The form that every promise has: what a call needs, in order, and what it leaves when it is done, on conflict, and refused.
-use Rattle.std.specs.Prelude.{ℕ, zero, suc, ◌+◌, ◌≤◌, ◌<◌, ◌≡◌, List, [], ◌∷◌, cond, ◌⊎◌, eqb, length, take}
+use Rattle.std.specs.Prelude.{ℕ, zero, suc, ◌+◌, ◌≤◌, ◌<◌, ◌≡◌, List, [], ◌∷◌, Bool, cond, ◌⊎◌, eqb, length, take, Result, Ok, Err}
+use Rattle.meaning.specs.declared.Refusal.{Refusal}
+use Rattle.meaning.specs.declared.Lengths.{Lengths}
 use Rattle.meaning.specs.declared.Counts.{Counts}
-use Rattle.meaning.specs.declared.Reply.{Reply}
+use Rattle.meaning.specs.declared.Added.{Added}
 use Rattle.meaning.specs.Bounds.{DONE, CONFLICT}
+use Rattle.meaning.specs.Refusals.{number_of, ring_of}
 use Rattle.meaning.specs.Rules.{Rule, All, Earliest}
 use Rattle.meaning.specs.Tables.{at}
 
@@ -20,12 +23,47 @@ bare k = record { number = k; one = 0; two = 0 }
 abbrev pub gave : ℕ → ℕ → ℕ → Given
 gave k a b = record { number = k; one = a; two = b }
 
--- A reply: the counts after the call, its number and its two values; and what it gives back.
-abbrev pub reply : Counts → ℕ → ℕ → ℕ → Reply
-reply c k a b = record { counts = c; number = k; one = a; two = b }
+-- The number of an answer: DONE where the call was carried out, else that of the refusal.
+abbrev pub number_told : {A : Type 0} → Result A Refusal → ℕ
+number_told (Ok a) = DONE
+number_told (Err r) = number_of r
 
-abbrev pub given : Reply → Given
-given r = gave r.number r.one r.two
+-- The value of an answer that tells one number: on a conflict the ring's length, and 0 on any other refusal.
+abbrev pub value_told : Result ℕ Refusal → ℕ
+value_told (Ok a) = a
+value_told (Err r) = ring_of r
+
+-- The value of an answer that tells yes or no: 1 is yes.
+abbrev pub verdict_told : Result Bool Refusal → ℕ
+verdict_told (Ok b) = cond b 1 0
+verdict_told (Err r) = 0
+
+-- The counts after a call: those that it gives back where it was carried out, else those before it.
+abbrev pub counts_told : Counts → Result Counts Refusal → Counts
+counts_told before (Ok after) = after
+counts_told before (Err r) = before
+
+abbrev pub counts_added : Counts → Result Added Refusal → Counts
+counts_added before (Ok a) = a.counts
+counts_added before (Err r) = before
+
+-- What is given back by an answer that tells nothing, one that tells a number, that of Add, one that tells yes or no, and one that tells two lengths.
+abbrev pub given : {A : Type 0} → Result A Refusal → Given
+given r = bare (number_told r)
+
+abbrev pub given_value : Result ℕ Refusal → Given
+given_value r = gave (number_told r) (value_told r) 0
+
+abbrev pub given_added : Result Added Refusal → Given
+given_added (Ok a) = gave DONE a.moved 0
+given_added (Err r) = gave (number_of r) (ring_of r) 0
+
+abbrev pub given_verdict : Result Bool Refusal → Given
+given_verdict r = gave (number_told r) (verdict_told r) 0
+
+abbrev pub given_lengths : Result Lengths Refusal → Given
+given_lengths (Ok l) = gave DONE l.held l.excluded
+given_lengths (Err r) = bare (number_of r)
 
 -- Something a call needs, and the number given where it is the first that is not met.
 pub record Need : Type 1 where

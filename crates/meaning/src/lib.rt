@@ -2,9 +2,11 @@
 #![tactic(auto)]
 
 ghost use Rattle.std.specs.Prelude.{◌≡◌};
-ghost use Rattle.meaning.specs.Bounds.{DONE as DONE_SPEC, CONFLICT as CONFLICT_SPEC};
-ghost use Rattle.meaning.specs.Tables.{steps_alone, rules_now, marks_now, watched_now, last_now};
-ghost use Rattle.meaning.specs.Promise.{reply};
+ghost use Rattle.meaning.specs.Tables.{steps_alone, rules_now, marks_now, last_now};
+ghost use Rattle.meaning.specs.Promise.{number_told};
+ghost use Rattle.meaning.specs.Refusals.{number_of, ring_of};
+
+use std::fmt;
 
 // There are 1 to STEPS steps.
 pub const STEPS: usize = 1024;
@@ -71,6 +73,90 @@ pub const ABSENT: u32 = 12;
 
 pub const YARD: u32 = 15;
 
+// Why a call is refused.
+#[derive(Clone, Copy, Debug, PartialEq, Eq)]
+pub enum Refusal {
+    // A lent table or list has too few places.
+    Short,
+    // The tables are not sound.
+    Damaged,
+    // Open with a count outside 1 to STEPS; a step number not below the count.
+    Step,
+    // An amount outside its bound.
+    Amount,
+    // No place for one more rule, mark, watched rule or declared name.
+    Full,
+    // With the new rule no arrangement exists, and a ring of so many rules says why.
+    Conflict(u32),
+    // Back with no mark open.
+    NoMark,
+    // Script text outside its form.
+    Syntax,
+    // A command at a place where it may not stand.
+    Mode,
+    // A name unknown, or declared while it stands.
+    Name,
+    // A script, a name, a term's depth or a list of names over its size.
+    Size,
+    // No rule is held under that number.
+    Absent,
+    // More steps than one yard has.
+    Yard,
+}
+
+impl Refusal {
+    // The number that C is given for it.
+    pub fn number(self) -> u32
+        ensures { result ≡ number_of self }
+    {
+        match self {
+            Refusal::Short => SHORT,
+            Refusal::Damaged => DAMAGED,
+            Refusal::Step => STEP,
+            Refusal::Amount => AMOUNT,
+            Refusal::Full => FULL,
+            Refusal::Conflict(_) => CONFLICT,
+            Refusal::NoMark => NOMARK,
+            Refusal::Syntax => SYNTAX,
+            Refusal::Mode => MODE,
+            Refusal::Name => NAME,
+            Refusal::Size => SIZE,
+            Refusal::Absent => ABSENT,
+            Refusal::Yard => YARD,
+        }
+    }
+
+    // How many rules the ring of a conflict has; 0 for any other refusal.
+    pub fn ring(self) -> u32
+        ensures { result ≡ ring_of self }
+    {
+        match self {
+            Refusal::Conflict(length) => length,
+            _ => 0,
+        }
+    }
+}
+
+impl fmt::Display for Refusal {
+    fn fmt<W: fmt::Write>(&self, f: &mut fmt::Formatter<W>) -> fmt::Result {
+        match self {
+            Refusal::Short => write!(f, "SHORT"),
+            Refusal::Damaged => write!(f, "DAMAGED"),
+            Refusal::Step => write!(f, "STEP"),
+            Refusal::Amount => write!(f, "AMOUNT"),
+            Refusal::Full => write!(f, "FULL"),
+            Refusal::Conflict(length) => write!(f, "CONFLICT by a ring of {length}"),
+            Refusal::NoMark => write!(f, "NOMARK"),
+            Refusal::Syntax => write!(f, "SYNTAX"),
+            Refusal::Mode => write!(f, "MODE"),
+            Refusal::Name => write!(f, "NAME"),
+            Refusal::Size => write!(f, "SIZE"),
+            Refusal::Absent => write!(f, "ABSENT"),
+            Refusal::Yard => write!(f, "YARD"),
+        }
+    }
+}
+
 // How many of each thing the tables hold, and the last day of the plan. The caller lends it; a call brings it up to date. C callers lend it too, so its fields lie in this order.
 #[repr(C)]
 #[derive(Clone, Copy)]
@@ -87,7 +173,7 @@ pub fn steps_alone(steps: u32) -> Counts
     ensures { result ≡ steps_alone steps }
 {
     Counts {
-        steps: steps,
+        steps,
         rules: 0,
         marks: 0,
         watched: 0,
@@ -99,95 +185,43 @@ pub fn steps_alone(steps: u32) -> Counts
 pub fn rules_now(counts: Counts, rules: u32) -> Counts
     ensures { result ≡ rules_now rules counts }
 {
-    Counts {
-        steps: counts.steps,
-        rules: rules,
-        marks: counts.marks,
-        watched: counts.watched,
-        last: counts.last,
-    }
+    Counts { rules, ..counts }
 }
 
 // The counts with so many marks open.
 pub fn marks_now(counts: Counts, marks: u32) -> Counts
     ensures { result ≡ marks_now marks counts }
 {
-    Counts {
-        steps: counts.steps,
-        rules: counts.rules,
-        marks: marks,
-        watched: counts.watched,
-        last: counts.last,
-    }
-}
-
-// The counts with so many rules watched.
-pub fn watched_now(counts: Counts, watched: u32) -> Counts
-    ensures { result ≡ watched_now watched counts }
-{
-    Counts {
-        steps: counts.steps,
-        rules: counts.rules,
-        marks: counts.marks,
-        watched: watched,
-        last: counts.last,
-    }
+    Counts { marks, ..counts }
 }
 
 // The counts with that last day.
 pub fn last_now(counts: Counts, last: u32) -> Counts
     ensures { result ≡ last_now last counts }
 {
-    Counts {
-        steps: counts.steps,
-        rules: counts.rules,
-        marks: counts.marks,
-        watched: counts.watched,
-        last: last,
-    }
+    Counts { last, ..counts }
 }
 
-// What a call gives back: its number and two values, 0 where it has none, with the counts as they are after the call. On CONFLICT the first value is the ring's length.
+// What Add tells: the counts after it, and how many steps have a day different from before.
 #[derive(Clone, Copy)]
-pub struct Reply {
+pub struct Added {
     pub counts: Counts,
-    pub number: u32,
-    pub one: u32,
-    pub two: u32,
+    pub moved: u32,
 }
 
-// The call was carried out.
-pub fn done(counts: Counts, one: u32, two: u32) -> Reply
-    ensures { result ≡ reply counts DONE_SPEC one two }
-{
-    Reply {
-        counts: counts,
-        number: DONE,
-        one: one,
-        two: two,
-    }
+// What Consequences tells: how many watched rules hold in every arrangement, and how many in none.
+#[derive(Clone, Copy, Debug, PartialEq, Eq)]
+pub struct Lengths {
+    pub held: u32,
+    pub excluded: u32,
 }
 
-// The call was refused, and changed nothing.
-pub fn refused(counts: Counts, number: u32) -> Reply
-    ensures { result ≡ reply counts number 0 0 }
+// The number that C is given for an answer: DONE where the call was carried out, else the refusal's.
+pub fn number<T: Copy>(answer: Result<T, Refusal>) -> u32
+    ensures { result ≡ number_told answer }
 {
-    Reply {
-        counts: counts,
-        number: number,
-        one: 0,
-        two: 0,
-    }
-}
-
-// The rule fits no arrangement, and a ring of so many rules says why.
-pub fn conflict(counts: Counts, length: u32) -> Reply
-    ensures { result ≡ reply counts CONFLICT_SPEC length 0 }
-{
-    Reply {
-        counts: counts,
-        number: CONFLICT,
-        one: length,
-        two: 0,
+    match answer {
+        Ok(_) => DONE,
+        Err(refusal) => refusal.number(),
     }
 }

@@ -3,11 +3,11 @@ use Prim.Native.Nat.{ℕ, ◌+◌, ◌*◌, ◌-◌, ◌%◌, ◌≤◌, ◌<◌
 use native.Mathlib.Omega.{arith}
 use mathlib.Core.Path.{◌≡◌, sym, ap}
 use mathlib.Core.List.{List, [], ◌∷◌}
-use lib.ListN.{length, get_or, take, drop}
+use lib.ListN.{length, get_or, take, drop, drop_of_length-le}
 use Rattle.meaning.specs.Bounds.{NAME_BYTES}
 use Rattle.meaning.specs.Tables.{at}
 use Rattle.text.specs.Lexicon.{bytes}
-use Rattle.text.proofs.Words.{bytes_more, bytes_none}
+use Rattle.text.proofs.Runs.{drop_more}
 use Rattle.names.specs.Names.{BUCKETS, hash, hashed, name_at}
 
 -- A hash has a chain.
@@ -20,13 +20,13 @@ pub hash_small : (w : List ℕ) → hash w < BUCKETS
 hash_small w = hashed_small 0 w (omega arith)
 
 -- What is left to hash.
-pub hashed_first : (s : List ℕ) (h i b : ℕ) → i < b → b ≤ length s → hashed ((31 * h + get_or s i 0) % BUCKETS) (bytes s (i + 1) b) ≡ hashed h (bytes s i b)
+pub hashed_first : (word : List ℕ) (h i : ℕ) → i < length word → hashed ((31 * h + get_or word i 0) % BUCKETS) (drop (i + 1) word) ≡ hashed h (drop i word)
 unfolding hashed
-hashed_first s h i b l room = sym (ap (hashed h) (bytes_more s i b l room))
+hashed_first word h i l = sym (ap (hashed h) (drop_more word i l))
 
-pub hashed_none : (s : List ℕ) (h i b : ℕ) → b ≤ i → hashed h (bytes s i b) ≡ h
+pub hashed_none : (word : List ℕ) (h i : ℕ) → length word ≤ i → hashed h (drop i word) ≡ h
 unfolding hashed
-hashed_none s h i b past = ap (hashed h) (bytes_none s i b past)
+hashed_none word h i past = ap (hashed h) (drop_of_length-le word past)
 
 pub name_bytes : (names lens : List ℕ) (k : ℕ) → bytes names (NAME_BYTES * k) (NAME_BYTES * k + at lens k) ≡ name_at names lens k
 name_bytes names lens k =

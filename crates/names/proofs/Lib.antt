@@ -1,5 +1,4 @@
 -- What the proofs of the names share, and the laws of names found.
-pub mod Equal
 pub mod Hashing
 pub mod Indexing
 pub mod Links

@@ -4,11 +4,11 @@ use native.Mathlib.Omega.{arith}
 use native.Mathlib.Decide.{ℕ_discrete, dec_lt}
 use mathlib.Core.Path.{◌≡◌, refl, sym, ap, ◌∙◌}
 use mathlib.Core.List.{List}
-use mathlib.Core.Logic.{inl, inr}
+use Rattle.std.specs.Prelude.{Option, Some, None, MatchOption}
 use Rattle.meaning.specs.Bounds.{STEPS}
 use Rattle.meaning.specs.Tables.{at}
 use Rattle.chains.proofs.Laws.{head_in, head_newest, next_in, next_newest}
-use Rattle.names.specs.Names.{BUCKETS, hash, name_at, Indexed, Linked, LinkOf, Unknown, Found, FoundBelow, AllDifferent}
+use Rattle.names.specs.Names.{BUCKETS, hash, name_at, Indexed, Linked, LinkOf, Unknown, Stands, AllDifferent}
 use Rattle.names.proofs.Hashing.{hash_small}
 
 -- An index links its names.
@@ -28,10 +28,11 @@ module _ (n : ℕ) (names lens hashes heads nexts : List ℕ) (i : Indexed n nam
     link_own = λ k e. sym (i.hashes_are k (omega (arith, head_in BUCKETS n hashes heads nexts i.chained (hash w) (hash_small w)))) ∙ i.chained.head_own (hash w) k (hash_small w) e;
   }
 
-  pub found_all : (r : ℕ) → FoundBelow n names lens w (at heads (hash w)) r → Found n names lens w r
-  found_all r (inl met) = inl (omega (arith, head_in BUCKETS n hashes heads nexts i.chained (hash w) (hash_small w)), met.1)
-  found_all r (inr none) =
-      inr (none.0, λ k h e. none.1 k (head_newest BUCKETS n hashes heads nexts i.chained (hash w) k (hash_small w) h (i.hashes_are k h ∙ ap hash e)) e)
+  pub found_all :
+      (r : Option ℕ) → MatchOption r (Unknown (at heads (hash w)) names lens w) (λ k. Stands (at heads (hash w)) names lens w k) →
+      MatchOption r (Unknown n names lens w) (λ k. Stands n names lens w k)
+  found_all (Some r) met = (omega (arith, met.0, head_in BUCKETS n hashes heads nexts i.chained (hash w) (hash_small w)), met.1)
+  found_all None none = λ k h e. none k (head_newest BUCKETS n hashes heads nexts i.chained (hash w) k (hash_small w) h (i.hashes_are k h ∙ ap hash e)) e
 
 -- Every name at the link l or above, and below where the walk began, is not w.
 abbrev pub Passed : List ℕ → List ℕ → List ℕ → ℕ → ℕ → Type 0
@@ -64,15 +65,12 @@ module _ (n : ℕ) (names lens nexts : List ℕ) (links : Linked n names lens ne
   unknown_below none j l e = none j (links.next_newest k j h l (ap hash e)) e
 
   -- What the walk finds is the same name under an older number; where it finds none, all names up to k are different if those before are.
-  pub older_same : (r : ℕ) → r < n → FoundBelow n names lens (name_at names lens k) (at nexts k) r → AllDifferent n names lens → ⊥
-  older_same r l (inl met) all = all r k (omega (arith, links.next_in k h)) h met.1
-  older_same r l (inr none) all = omega (arith, none.0)
+  pub older_same : (r : ℕ) → Stands (at nexts k) names lens (name_at names lens k) r → AllDifferent n names lens → ⊥
+  older_same r met all = all r k (omega (arith, met.0, links.next_in k h)) h met.1
 
-  pub different_more :
-      (r : ℕ) → n ≤ r → FoundBelow n names lens (name_at names lens k) (at nexts k) r → AllDifferent k names lens → AllDifferent (k + 1) names lens
-  different_more r l (inl met) all i j before below = absurd (omega (arith, links.next_in k h))
-  different_more r l (inr none) all i j before below = by_place (ℕ_discrete j k)
+  pub different_more : Unknown (at nexts k) names lens (name_at names lens k) → AllDifferent k names lens → AllDifferent (k + 1) names lens
+  different_more none all i j before below = by_place (ℕ_discrete j k)
     where
       by_place : Dec (j ≡ k) → name_at names lens i ≡ name_at names lens j → ⊥
-      by_place (yes e) = rw e (unknown_below none.1 i (omega arith))
+      by_place (yes e) = rw e (unknown_below none i (omega arith))
       by_place (no other) = all i j before (omega arith)

@@ -8,20 +8,11 @@ use lib.ListN.{length, set, take, drop, length-set}
 use lib.Seq.{get_or-set_same, get_or-set_other}
 use Rattle.meaning.specs.Bounds.{STEPS, NAME_BYTES}
 use Rattle.meaning.specs.Tables.{at}
-use Rattle.chains.specs.Chains.{Linkable, Pushed}
+use Rattle.chains.specs.Chains.{Pushed}
 use Rattle.chains.proofs.Laws.{chained_agree, chained_more}
 use Rattle.write.specs.Written.{over}
 use Rattle.write.proofs.Laws.{part_written, part_before}
 use Rattle.names.specs.Names.{BUCKETS, hash, name_at, Shelved, IndexRoom, Indexed, Declared}
-
--- Fewer names are shelved too.
-pub shelved_less : (n k : ℕ) (names lens : List ℕ) → k < n → Shelved n names lens → Shelved (k + 1) names lens
-shelved_less n k names lens h s = record {
-  names_room = s.names_room;
-  lens_room = s.lens_room;
-  names_in = omega (arith, s.names_in);
-  short_names = λ j l. s.short_names j (omega arith);
-}
 
 module _ (n : ℕ) (w names lens : List ℕ) (few : n < STEPS) (short : length w ≤ NAME_BYTES) (s : Shelved n names lens) where
   pub name_new : name_at (over names (NAME_BYTES * n) w) (set lens n (length w)) n ≡ w
@@ -58,14 +49,6 @@ module _ (n : ℕ) (w names lens : List ℕ) (few : n < STEPS) (short : length w
         by_place : (k : ℕ) → k < n + 1 → Dec (k ≡ n) → at (set hashes n h) k ≡ hash (name_at (over names (NAME_BYTES * n) w) (set lens n (length w)) k)
         by_place k l (yes e) = rw e (here ∙ is ∙ ap hash (sym name_new))
         by_place k l (no other) = there k (omega arith) ∙ i.hashes_are k (omega arith) ∙ ap hash (sym (name_old k (omega arith)))
-
-    pub linkable : Linkable n (set hashes n h) heads nexts
-    linkable = record {
-      first_place = omega (arith, length-set hashes n h, room.hashes_room);
-      next_place = omega (arith, room.nexts_room);
-      head_place = omega (arith, here, room.heads_room);
-      link_fits = omega arith;
-    }
 
     pub declared :
         (names' : List ℕ) (long : ℕ) → names' ≡ over names (NAME_BYTES * n) w → long ≡ length w → Pushed n (set hashes n h) heads nexts heads' nexts' →

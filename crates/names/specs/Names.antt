@@ -60,9 +60,9 @@ Unknown n names lens w = (k : ℕ) → k < n → name_at names lens k ≡ w → 
 abbrev pub Found : ℕ → List ℕ → List ℕ → List ℕ → ℕ → Type 0
 Found n names lens w r = ((r < n) × (name_at names lens r ≡ w)) ⊎ ((r ≡ n) × Unknown n names lens w)
 
--- r is the number of a name w among those below the link, or it is n and none of them is w.
-abbrev pub FoundBelow : ℕ → List ℕ → List ℕ → List ℕ → ℕ → ℕ → Type 0
-FoundBelow n names lens w link r = ((r < link) × (name_at names lens r ≡ w)) ⊎ ((r ≡ n) × Unknown link names lens w)
+-- r is the number of a name w among the first n.
+abbrev pub Stands : ℕ → List ℕ → List ℕ → List ℕ → ℕ → Type 0
+Stands n names lens w r = (r < n) × (name_at names lens r ≡ w)
 
 -- The first n names are all different.
 abbrev pub AllDifferent : ℕ → List ℕ → List ℕ → Type 0

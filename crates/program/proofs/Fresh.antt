@@ -13,6 +13,7 @@ use Rattle.script_meaning.specs.Record.{Lent, no_notes}
 use Rattle.script_meaning.specs.Whole.{blank}
 use Rattle.script_command.specs.Carrying.{in_hand, Maintained}
 use Rattle.script_run.proofs.Fresh.{zeros, all_off, first_counts, first_hand, first_is, fresh_tables}
+use Rattle.levels.specs.declared.Row.{Row}
 
 abbrev pub hand : Counts → Notes → List ℕ → Lent
 hand counts notes out = in_hand counts (zeros RULES) (zeros RULES) (replicate RULES (pos 0)) (zeros STEPS) (zeros RULES) notes (zeros (NAME_BYTES * STEPS)) (zeros STEPS) out
@@ -24,5 +25,5 @@ module _ (out : List ℕ) (counts : Counts) (notes : Notes) (few : counts ≡ st
   pub hand_blank : hand counts notes out ≡ blank out
   hand_blank = hand_is ∙ first_is out
 
-  pub hand_kept : {kept : List ℕ} → Maintained notes.names (hand counts notes out) (zeros STEPS) all_off kept (zeros STEPS) (zeros BUCKETS) (zeros STEPS)
+  pub hand_kept : {kept : List Row} → Maintained notes.names (hand counts notes out) (zeros STEPS) all_off kept (zeros STEPS) (zeros BUCKETS) (zeros STEPS)
   hand_kept {kept} = subst (λ (l : Lent). Maintained l.notes.names l (zeros STEPS) all_off kept (zeros STEPS) (zeros BUCKETS) (zeros STEPS)) (sym hand_is) (fresh_tables out)

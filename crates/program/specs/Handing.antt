@@ -1,6 +1,10 @@
 -- What the program hands to standard output, and the status that it ends with. The bytes that the system takes are those that its writes answer for.
 use Rattle.std.specs.Prelude.{ℕ, zero, suc, ◌≤◌, ◌<◌, ◌≡◌, ◌⊎◌, Bool, true, false, List, ◌++◌, length, take}
+use Rattle.std.specs.Prelude.{Result, Ok, Err}
 use Rattle.meaning.specs.Bounds.{TEXT}
+use Rattle.streams.specs.declared.Stopped.{Stopped}
+use Rattle.program.specs.declared.Ending.{Ending}
+use Rattle.program.specs.declared.Ending.TheVariants.{Ended, Refused}
 use Rattle.script_meaning.specs.Record.{Lent}
 use Rattle.script_meaning.specs.Whole.{blank}
 use Rattle.script_run.specs.Reaching.{Advances}
@@ -19,6 +23,15 @@ FAILED = 2
 abbrev pub status : ℕ → ℕ
 status zero = ENDED
 status (suc g) = REFUSED
+
+-- The status of an ending, and of what became of a script, which a stream that failed cuts off.
+abbrev pub number_of : Ending → ℕ
+number_of Ended = ENDED
+number_of Refused = REFUSED
+
+abbrev pub status_told : Result Ending Stopped → ℕ
+status_told (Ok ending) = number_of ending
+status_told (Err stopped) = FAILED
 
 -- The script s from place i on, part after part, each played into the same bytes, from their first on. b is all that was taken, and r the status. What a part wrote is
 -- taken whole before the next part is played; where less of it is taken, that is the last that is written, and the status says so.

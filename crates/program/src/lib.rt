@@ -6,18 +6,26 @@ ghost use Rattle.std.specs.Prelude.{◌≡◌, ◌≤◌, ◌<◌, length};
 ghost use Rattle.meaning.specs.Bounds.{RULES, ROOM, TEXT};
 ghost use Rattle.text.specs.Table.{TABLE};
 ghost use Rattle.script_command.specs.Carrying.{in_hand, Maintained};
-ghost use Rattle.program.specs.Handing.{status, Ends, Played, Answered, Runs};
+ghost use Rattle.program.specs.Handing.{status, number_of, status_told, Ends, Played, Answered, Runs};
 
 use meaning::Counts;
 use script_meaning::Notes;
 use std::io::{Stderr, Stdin, Stdout};
+use streams::Stopped;
 
-// The statuses: the script came to its end or to exit; a refusal ended it; a stream failed.
+// The statuses that C is given: the script came to its end or to `exit`; a refusal ended it; a stream failed.
 pub const ENDED: u32 = 0;
 
 pub const REFUSED: u32 = 1;
 
 pub const FAILED: u32 = 2;
+
+// How a script that was played ends: it came to its end or to `exit`; a refusal ended it.
+#[derive(Clone, Copy, Debug, PartialEq, Eq)]
+pub enum Ending {
+    Ended,
+    Refused,
+}
 
 // The bytes for the text: one more than a script may have, so that a longer one is told. Whoever calls lends them, so that none is cleared or touched that is not read into.
 pub const READ: usize = meaning::TEXT + 1;
@@ -25,22 +33,26 @@ pub const READ: usize = meaning::TEXT + 1;
 // The bytes for answers: ROOM for one command's, and as many again as are gathered before they are written out.
 const ANSWERS: usize = meaning::ROOM + 4096;
 
-// The status of a script that was played to its end, by the number it ended with.
-fn status_of(number: u32) -> u32
-    ensures { result ≡ status number }
+// How a script ended that was played to its end, by the number it ended with.
+fn ending_of(number: u32) -> Ending
+    ensures { number_of result ≡ status number }
 {
-    if 0 < number {
-        return REFUSED;
+    if number == 0 {
+        Ending::Ended
+    } else {
+        Ending::Refused
     }
-    ENDED
 }
 
-// Writes the first w bytes to standard output, and gives how many were taken.
-fn show(output: Stdout, error: Stderr, out: &[u8], w: usize) -> usize
-    requires { w ≤ length out.now }
-    ensures { result ≤ w }
+// The status of what became of a script.
+fn status_of(answered: Result<Ending, Stopped>) -> u32
+    ensures { result ≡ status_told answered }
 {
-    streams::put(output, error, &out[0..w])
+    match answered {
+        Ok(Ending::Ended) => ENDED,
+        Ok(Ending::Refused) => REFUSED,
+        Err(_) => FAILED,
+    }
 }
 
 // The script part after part, from its start on, on tables and a record that are known to be sound: what a part wrote is written out before the next.
@@ -61,21 +73,21 @@ fn answer(
     levels: &mut [u8],
     heads: &mut [u16],
     nexts: &mut [u16],
-    kept: &mut [u32],
+    kept: &mut [levels::Row],
     names: &mut [u8],
     lens: &mut [u8],
     hashes: &mut [u16],
     name_heads: &mut [u16],
     name_nexts: &mut [u16],
     out: &mut [u8],
-) -> u32
+) -> Result<Ending, Stopped>
     requires tab_value { tab.now ≡ TABLE }
     requires in_bounds { RULES ≤ length row_xs.old }
     requires row_xs_in_bounds { length row_xs.old ≤ length row_ys.old }
     requires row_xs_in_bounds_2 { length row_xs.old ≤ length row_cs.old }
     requires maintained { Maintained notes.names (in_hand counts xs.old ys.old cs.old days.old levels.old notes names.old lens.old out.old) heads.old nexts.old kept.old hashes.old name_heads.old name_nexts.old }
     requires in_bounds_2 { ROOM ≤ length out.old }
-    ensures { Ends s.now 0 (in_hand counts xs.old ys.old cs.old days.old levels.old notes names.old lens.old out.old) result }
+    ensures { Ends s.now 0 (in_hand counts xs.old ys.old cs.old days.old levels.old notes names.old lens.old out.old) (status_told result) }
 {
     let mut at = 0;
     let mut held = counts;
@@ -85,12 +97,9 @@ fn answer(
             s, tab, at, row_xs, row_ys, row_cs, held, noted, xs, ys, cs, days, levels, heads,
             nexts, kept, names, lens, hashes, name_heads, name_nexts, out,
         );
-        let taken = show(output, error, out, part.written);
-        if taken < part.written {
-            return FAILED;
-        }
+        streams::put(output, error, &out[..part.written])?;
         if !part.paused {
-            return status_of(part.number);
+            return Ok(ending_of(part.number));
         }
         at = part.at;
         held = part.counts;
@@ -99,8 +108,8 @@ fn answer(
 }
 
 // The script on fresh tables: STEPS steps on day 0, no rule and an empty record.
-fn play(output: Stdout, error: Stderr, s: &[u8]) -> u32
-    ensures { Played s.now result }
+fn play(output: Stdout, error: Stderr, s: &[u8]) -> Result<Ending, Stopped>
+    ensures { Played s.now (status_told result) }
 {
     let tab = text::TABLE;
     let counts = meaning::steps_alone(script_meaning::STEPS);
@@ -112,7 +121,7 @@ fn play(output: Stdout, error: Stderr, s: &[u8]) -> u32
     let mut levels = [0u8; meaning::RULES];
     let mut heads = [0u16; meaning::STEPS];
     let mut nexts = [chains::OFF; meaning::RULES];
-    let mut kept = [0u32; levels::KEPT];
+    let mut kept = [levels::Row::empty(); levels::ROWS];
     let mut names = [0u8; names::SHELF];
     let mut lens = [0u8; meaning::STEPS];
     let mut hashes = [0u16; meaning::STEPS];
@@ -150,37 +159,47 @@ fn play(output: Stdout, error: Stderr, s: &[u8]) -> u32
 }
 
 // The script on fresh tables, which are made only where it has a byte.
-fn play_any(output: Stdout, error: Stderr, s: &[u8]) -> u32
-    ensures { Played s.now result }
+fn play_any(output: Stdout, error: Stderr, s: &[u8]) -> Result<Ending, Stopped>
+    ensures { Played s.now (status_told result) }
 {
-    if s.len() == 0 {
-        return ENDED;
+    if s.is_empty() {
+        return Ok(Ending::Ended);
     }
     play(output, error, s)
 }
 
 // A script that is too long: its only answer is the refusal.
-fn refuse(output: Stdout, error: Stderr, s: &[u8]) -> u32
+fn refuse(output: Stdout, error: Stderr, s: &[u8]) -> Result<Ending, Stopped>
     requires { TEXT < length s.now }
-    ensures { Answered s.now result }
+    ensures { Answered s.now (status_told result) }
 {
     let mut out = [0u8; meaning::ROOM];
     let ran = script_run::run_script(s, &mut out);
-    let taken = show(output, error, &out, ran.written);
-    if taken < ran.written {
-        return FAILED;
-    }
-    REFUSED
+    streams::put(output, error, &out[..ran.written])?;
+    Ok(Ending::Refused)
 }
 
 // The answers to a text that was read whole.
-fn answer_text(output: Stdout, error: Stderr, s: &[u8]) -> u32
-    ensures { Answered s.now result }
+fn answer_text(output: Stdout, error: Stderr, s: &[u8]) -> Result<Ending, Stopped>
+    ensures { Answered s.now (status_told result) }
 {
     if s.len() <= meaning::TEXT {
         return play_any(output, error, s);
     }
     refuse(output, error, s)
+}
+
+// Reads standard input into the bytes that are lent, READ at least, and answers it.
+fn read_and_answer(
+    input: Stdin,
+    output: Stdout,
+    error: Stderr,
+    text: &mut [u8],
+) -> Result<Ending, Stopped>
+    ensures { Runs text.new (status_told result) }
+{
+    let n = streams::fill(input, error, text, 0)?;
+    answer_text(output, error, &text[..n])
 }
 
 // Reads standard input into the bytes that are lent, plays the script and writes its answers to standard output. Where a read fails, nothing is carried out; where a write
@@ -191,10 +210,5 @@ pub fn dates_main(input: Stdin, output: Stdout, error: Stderr, text: &mut [u8]) 
     if text.len() < READ {
         return FAILED;
     }
-    let read = streams::fill(input, error, text, 0);
-    if read.failed {
-        return FAILED;
-    }
-    let n = read.at;
-    answer_text(output, error, &text[0..n])
+    status_of(read_and_answer(input, output, error, text))
 }

@@ -7,7 +7,7 @@ use native.Mathlib.Omega.{arith}
 use native.Mathlib.Decide.{dec_le}
 use lib.Dec.{eqb}
 use lib.ListN.{take, drop}
-use Rattle.text.specs.declared.Tok.{Tok}
+use Rattle.text.specs.Lexicon.{Tok}
 use Rattle.text.specs.Lexicon.{SYMBOL, OPENS, CLOSES, QUOTE, class, grown, skipped, extent, whole, kind, tok, piece_at, token_of, token_at, start, bytes}
 use Rattle.text.proofs.Classes.{not_white, not_semicolon}
 use Rattle.text.proofs.Runs.{skipped_stop, whole_stop, whole_on, extent_stop, extent_on}

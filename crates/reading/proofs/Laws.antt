@@ -9,7 +9,7 @@ use lib.Dec.{eqb, leb, ltb}
 use lib.ListN.{length}
 use borrow.Author.Tests.{eqb-true, leb-true, ltb-true}
 use Rattle.meaning.specs.Bounds.{NAME_BYTES, ASKED}
-use Rattle.text.specs.declared.Tok.{Tok}
+use Rattle.text.specs.Lexicon.{Tok}
 use Rattle.text.specs.Lexicon.{OPEN, CLOSE, NUMERAL, SYMBOL, tok, token_at, bytes, same_bytes}
 use Rattle.text.proofs.Tokens.{token_placed}
 use Rattle.text.proofs.Words.{length_bytes}

@@ -1,4 +1,5 @@
 -- What the proofs of the readers share.
+pub mod Standing
 pub mod Steps
 pub mod Every
 pub mod Walking
@@ -7,20 +8,19 @@ pub mod Balanced
 pub mod Alone
 pub mod Laws
 pub mod Rowing
+pub mod Keeping
+pub mod Opening
+pub mod Closing
 pub mod Terms
 pub mod Signs
 pub mod Turns
-pub mod Noting
+pub mod Amounts
+pub mod Atoms
 pub mod Seeking
 pub mod Naming
-pub mod Amounts
-pub mod Commanding
-pub mod Commands
-pub mod Comparing
-pub mod Declaring
 pub mod Made
+pub mod Telling
 pub mod Asking
 pub mod Begun
-pub mod Opening
 pub mod Spelling
 pub mod Understood

@@ -4,26 +4,29 @@ use Prim.Native.Nat.{ℕ, ◌+◌, ◌≤◌, ◌<◌}
 use native.Mathlib.Omega.{arith}
 use native.Mathlib.Decide.{ℕ_discrete, dec_le}
 use mathlib.Core.Path.{◌≡◌, refl, sym, ap, subst, ◌∙◌}
-use mathlib.Core.Bool.{Bool, true, false, cond}
+use mathlib.Core.Bool.{Bool, true, false, cond, false≢true}
 use mathlib.Core.List.{List, [], ◌∷◌}
 use mathlib.Core.Logic.{◌⊎◌, inl, inr}
 use lib.IntN.{ℤ, pos, negsuc, neg_ℤ, ◌-ℤ◌}
 use borrow.Author.Tests.{le-leb, lt-leb}
-use Rattle.meaning.specs.Bounds.{LARGEST, DONE, NAME, AMOUNT}
+use Rattle.std.specs.Prelude.{Option, Some, None, IsSome, IfSome, length}
+use Rattle.meaning.specs.Bounds.{STEPS, LARGEST, DONE, NAME, AMOUNT}
 use Rattle.meaning.specs.Rules.{rule, InAmount}
 use Rattle.meaning.specs.Reckoning.{up, dn}
-use Rattle.meaning.specs.Tables.{Columns}
+use Rattle.meaning.specs.Tables.{rule_at}
 use Rattle.meaning.specs.Promise.{needs, First}
 use Rattle.meaning.proofs.Whole.{le→, up_neg, dn_neg, minus_is}
 use Rattle.text.specs.Lexicon.{CAP, cut}
 use Rattle.words.specs.Words.{compares}
-use Rattle.reading.specs.declared.AtomRead.{AtomRead}
+use Rattle.reading.specs.declared.atom.Atom.{Atom}
+use Rattle.reading.specs.declared.rows.Rows.{Rows}
 use Rattle.reading.specs.Tree.{Piece, said_by, Amount, amount_of, Term, Named, rules_of_term}
 use Rattle.reading.specs.Saying.{step_in, resolved}
-use Rattle.reading.specs.Heard.{Rowed}
-use Rattle.reading.specs.Parts.{capped, AtomSaid, final, Noted, RowPut}
+use Rattle.reading.specs.Heard.{noted_as, Rowed}
+use Rattle.reading.specs.Parts.{StepOf, capped, AtomSaid, AtomOf, final, flips, lessens, turned_atom}
+use Rattle.reading.specs.Rows.{columns_of, RulePut}
 use Rattle.reading.proofs.Steps.{cond_true, cond_false}
-use Rattle.reading.proofs.Turns.{flips, lessens, made, turns}
+use Rattle.reading.proofs.Turns.{made, turns}
 
 -- An amount far from 0 is out of bounds, turned or not.
 abbrev Far : ℤ → Type 0
@@ -99,68 +102,118 @@ first_alike A B C X Y Z ax xa by yb cz zc g (inr (a, inl r)) = inr (ax a, inl (r
 first_alike A B C X Y Z ax xa by yb cz zc g (inr (a, inr (b, inl r))) = inr (ax a, inr (by b, inl (r.0, λ z. r.1 (zc z))))
 first_alike A B C X Y Z ax xa by yb cz zc g (inr (a, inr (b, inr (c, e)))) = inr (ax a, inr (by b, inr (cz c, e)))
 
-all_met : (A B C : Type 0) → First (needs NAME A ∷ needs NAME B ∷ needs AMOUNT C ∷ []) DONE → C
+all_met : (A B C : Type 0) → First (needs NAME A ∷ needs NAME B ∷ needs AMOUNT C ∷ []) DONE → A × (B × C)
 all_met A B C (inl r) = absurd (omega (arith, r.0))
 all_met A B C (inr (a, inl r)) = absurd (omega (arith, r.0))
 all_met A B C (inr (a, inr (b, inl r))) = absurd (omega (arith, r.0))
-all_met A B C (inr (a, inr (b, inr (c, e)))) = c
+all_met A B C (inr (a, inr (b, inr (c, e)))) = (a, (b, c))
 
--- What is chosen of two numbers.
-pub chosen_small : (b : Bool) (u v k r : ℕ) → r ≡ cond b u v → u ≤ k → v ≤ k → r ≤ k
-chosen_small true u v k r e h l = omega arith
-chosen_small false u v k r e h l = omega arith
+-- The step of a name, and whether it is declared.
+module _ (n : ℕ) (names lens : List ℕ) where
+  abbrev S : List ℕ → ℕ
+  S w = step_in n names lens w
 
-chosen_step : (S : List ℕ → ℕ) (b : Bool) (x y : List ℕ) (u v r : ℕ) → r ≡ cond b u v → u ≡ S x → v ≡ S y → r ≡ S (cond b x y)
-chosen_step S true x y u v r e p q = e ∙ p
-chosen_step S false x y u v r e p q = e ∙ q
+  pub step_known : (w : List ℕ) (o : Option ℕ) → StepOf n names lens w o → IsSome o → S w < n
+  step_known w (Some k) is h = omega (arith, is.0, is.1)
+  step_known w None is h = absurd (false≢true h)
 
-module _ (n : ℕ) (names lens : List ℕ) (x y : Piece) (m : Amount) (p : AtomRead) (is : AtomSaid n names lens x y m p) where
-  module _ (f l : Bool) (c : ℤ) (c-is : c ≡ final f l (pos p.up -ℤ pos p.dn)) (u v : ℕ) (u-is : u ≡ cond f p.y p.x) (v-is : v ≡ cond f p.x p.y) where
-    abbrev S : List ℕ → ℕ
-    S w = step_in n names lens w
+  pub known_step : (w : List ℕ) (o : Option ℕ) → StepOf n names lens w o → S w < n → (k : ℕ) × ((o ≡ Some k) × (k ≡ S w))
+  known_step w (Some k) is h = (k, (refl, is.0))
+  known_step w None is h = absurd (is h)
 
-    abbrev r : Named
-    r = made f l x.letters y.letters (amount_of m)
+  pub some_step : (w : List ℕ) (o : Option ℕ) → StepOf n names lens w o → S w < n → IsSome o
+  some_step w o is h = let k = known_step w o is h in subst IsSome (sym k.1.0) refl
 
-    first : u ≡ S r.first
-    first = chosen_step S f y.letters x.letters p.y p.x u u-is is.second_is is.first_is
+  chosen_step : (f : Bool) (x y : List ℕ) (o p : Option ℕ) → StepOf n names lens x o → StepOf n names lens y p → StepOf n names lens (cond f y x) (cond f p o)
+  chosen_step true x y o p is then-is = then-is
+  chosen_step false x y o p is then-is = is
 
-    second : v ≡ S r.second
-    second = chosen_step S f x.letters y.letters p.x p.y v v-is is.first_is is.second_is
+  -- A step that an atom has is one of the steps.
+  pub step_within : n ≤ STEPS → (w : List ℕ) (o : Option ℕ) → StepOf n names lens w o → IfSome o (λ k. k < STEPS)
+  step_within few w (Some k) is = omega (arith, is.1, few)
+  step_within few w None is = tt
 
-    cut-amount : c ≡ final f l (capped m)
-    cut-amount = c-is ∙ ap (final f l) is.says
+  -- The rule that a turned atom says is put: it is that of the term.
+  pub atom_put :
+      (w : List ℕ) (odd : Bool) (a : Atom) (x y : Piece) (m : Amount) → compares w ≡ true → AtomSaid n names lens x y m a → (before after : Rows) →
+      RulePut (turned_atom w odd a) before after → length after.xs.now ≡ length before.xs.now →
+      Rowed n names lens (rules_of_term odd (Term.atom w x y m)) before.count (noted_as before.fault) (columns_of before) after.count (noted_as after.fault) (columns_of after)
+  atom_put w odd a x y m known is before after put as_many =
+      subst (λ (k : Named). Rowed n names lens (k ∷ []) before.count (noted_as before.fault) (columns_of before) after.count (noted_as after.fault) (columns_of after))
+      (turns x.letters y.letters (amount_of m) w odd known)
+      (record {
+        counted = put.counted;
+        fault_stays = put.fault_stays;
+        fault_first = λ z.
+            first_alike (IsSome t.first) (IsSome t.second) (InAmount t.amount) (S r.first < n) (S r.second < n) (InAmount r.amount)
+            (step_known r.first t.first first-is) (some_step r.first t.first first-is) (step_known r.second t.second second-is) (some_step r.second t.second second-is)
+            (λ i. subst InAmount (same-amount i) i) (λ i. subst InAmount (sym cut-amount) (capped_in f l m i)) (noted_as after.fault) (put.fault_first z);
+        laid = λ done room. (row done room, tt);
+        as_many = as_many;
+        below_stays = λ i h. put.others_stay i (λ e. omega arith);
+      })
+    where
+      f : Bool
+      f = flips w odd
 
-    same-amount : InAmount c → c ≡ r.amount
-    same-amount a = cut-amount ∙ capped_same f l m (subst InAmount cut-amount a)
+      l : Bool
+      l = lessens w odd
 
-    same-rule : InAmount c → rule u v c ≡ resolved S r
-    same-rule a i = record { first = first i; second = second i; amount = same-amount a i }
+      t : Atom
+      t = turned_atom w odd a
 
-    made-rowed :
-        (count fault g : ℕ) (before after : Columns) → Noted fault n u v c g → RowPut count (rule u v c) before after →
-        Rowed n names lens (r ∷ []) count fault before (count + 1) g after
-    made-rowed count fault g before after noted row = record {
-      counted = omega arith;
-      fault_stays = noted.stays;
-      fault_first = λ z.
-          first_alike (u < n) (v < n) (InAmount c) (S r.first < n) (S r.second < n) (InAmount r.amount)
-          (λ h. omega (arith, first)) (λ h. omega (arith, first)) (λ h. omega (arith, second)) (λ h. omega (arith, second))
-          (λ a. subst InAmount (same-amount a) a) (λ a. subst InAmount (sym cut-amount) (capped_in f l m a)) g (noted.first z);
-      as_many = row.as_many;
-      laid = λ done room. (row.put (omega (arith, room, row.as_many)) ∙ same-rule (within done (ℕ_discrete fault DONE)), tt);
-      below_stays = λ i h. row.others_stay i (λ e. omega arith);
-    }
-      where
-        within : g ≡ DONE → Dec (fault ≡ DONE) → InAmount c
-        within done (yes z) = all_met (u < n) (v < n) (InAmount c) (subst (First (needs NAME (u < n) ∷ needs NAME (v < n) ∷ needs AMOUNT (InAmount c) ∷ [])) done (noted.first z))
-        within done (no d) = absurd (d (sym (noted.stays d) ∙ done))
+      r : Named
+      r = made f l x.letters y.letters (amount_of m)
 
-    -- The same of the rule that the operator w says.
-    pub atom_rowed :
-        (w : List ℕ) (odd : Bool) → compares w ≡ true → f ≡ flips w odd → l ≡ lessens w odd → (count fault g : ℕ) (before after : Columns) → Noted fault n u v c g →
-        RowPut count (rule u v c) before after → Rowed n names lens (rules_of_term odd (Term.atom w x y m)) count fault before (count + 1) g after
-    atom_rowed w odd known f-is l-is count fault g before after noted row =
-        subst (λ (k : Named). Rowed n names lens (k ∷ []) count fault before (count + 1) g after)
-        (ap (λ (b : Bool). made b l x.letters y.letters (amount_of m)) f-is ∙ ap (λ (b : Bool). made (flips w odd) b x.letters y.letters (amount_of m)) l-is ∙ turns x.letters y.letters (amount_of m) w odd known)
-        (made-rowed count fault g before after noted row)
+      first-is : StepOf n names lens r.first t.first
+      first-is = chosen_step f x.letters y.letters a.first a.second is.first_is is.second_is
+
+      second-is : StepOf n names lens r.second t.second
+      second-is = chosen_step f y.letters x.letters a.second a.first is.second_is is.first_is
+
+      cut-amount : t.amount ≡ final f l (capped m)
+      cut-amount = ap (final f l) is.says
+
+      same-amount : InAmount t.amount → t.amount ≡ r.amount
+      same-amount i = cut-amount ∙ capped_same f l m (subst InAmount cut-amount i)
+
+      met : noted_as after.fault ≡ DONE → IsSome t.first × (IsSome t.second × InAmount t.amount)
+      met done = by-fault (ℕ_discrete (noted_as before.fault) DONE)
+        where
+          by-fault : Dec (noted_as before.fault ≡ DONE) → IsSome t.first × (IsSome t.second × InAmount t.amount)
+          by-fault (yes z) = all_met (IsSome t.first) (IsSome t.second) (InAmount t.amount)
+              (subst (First (needs NAME (IsSome t.first) ∷ needs NAME (IsSome t.second) ∷ needs AMOUNT (InAmount t.amount) ∷ [])) done (put.fault_first z))
+          by-fault (no d) = absurd (d (sym (put.fault_stays d) ∙ done))
+
+      row : noted_as after.fault ≡ DONE → after.count ≤ length after.xs.now → rule_at (columns_of after) before.count ≡ resolved S r
+      row done room =
+          let h = met done in
+          let u = known_step r.first t.first first-is (step_known r.first t.first first-is h.0) in
+          let v = known_step r.second t.second second-is (step_known r.second t.second second-is h.1.0) in
+          let same : rule u.0 v.0 t.amount ≡ resolved S r = λ i. record { first = u.1.1 i; second = v.1.1 i; amount = same-amount h.1.1 i } in
+          put.written u.0 v.0 u.1.0 v.1.0 (omega (arith, put.counted, room, as_many)) ∙ same
+
+  pub atom_term :
+      (w : List ℕ) (odd : Bool) (a : Atom) (t : Term) → compares w ≡ true → AtomOf n names lens w a t → (before after : Rows) → RulePut (turned_atom w odd a) before after →
+      length after.xs.now ≡ length before.xs.now →
+      Rowed n names lens (rules_of_term odd t) before.count (noted_as before.fault) (columns_of before) after.count (noted_as after.fault) (columns_of after)
+  atom_term w odd a (Term.atom v x y m) known is before after put as_many =
+      subst (λ (k : List ℕ). Rowed n names lens (rules_of_term odd (Term.atom k x y m)) before.count (noted_as before.fault) (columns_of before) after.count (noted_as after.fault) (columns_of after))
+      (sym is.0) (atom_put w odd a x y m known is.1 before after put as_many)
+  atom_term w odd a (Term.negation t) known is before after put as_many = absurd is
+  atom_term w odd a (Term.conjunction t u) known is before after put as_many = absurd is
+  atom_term w odd a (Term.also t u) known is before after put as_many = absurd is
+
+  chosen_within : (f : Bool) (o p : Option ℕ) → IfSome o (λ k. k < STEPS) → IfSome p (λ k. k < STEPS) → IfSome (cond f p o) (λ k. k < STEPS) × IfSome (cond f o p) (λ k. k < STEPS)
+  chosen_within true o p h l = (l, h)
+  chosen_within false o p h l = (h, l)
+
+  -- The steps of a turned atom are steps.
+  pub turned_within :
+      n ≤ STEPS → (w : List ℕ) (odd : Bool) (a : Atom) (t : Term) → AtomOf n names lens w a t →
+      IfSome (turned_atom w odd a).first (λ k. k < STEPS) × IfSome (turned_atom w odd a).second (λ k. k < STEPS)
+  turned_within few w odd a (Term.atom v x y m) is =
+      chosen_within (flips w odd) a.first a.second (step_within few x.letters a.first is.1.first_is) (step_within few y.letters a.second is.1.second_is)
+  turned_within few w odd a (Term.negation t) is = absurd is
+  turned_within few w odd a (Term.conjunction t u) is = absurd is
+  turned_within few w odd a (Term.also t u) is = absurd is

@@ -3,16 +3,19 @@ use mathlib.Core.Path.{◌≡◌, refl, sym, ap, subst, ◌∙◌}
 use mathlib.Core.Bool.{Bool, true, false, not, cond}
 use mathlib.Core.List.{List}
 use Prim.Native.Nat.{ℕ, ◌-◌, ◌<◌, ◌≤◌}
-use native.Mathlib.Omega.{arith}
 use lib.Dec.{eqb, leb}
 use borrow.Author.Tests.{eq-eqb, ne_eqb, le-leb, lt-leb}
 use Rattle.meaning.specs.Bounds.{NAME_BYTES}
-use Rattle.text.specs.declared.Tok.{Tok}
+use Rattle.text.specs.Lexicon.{Tok}
 use Rattle.text.specs.Lexicon.{SYMBOL, both, token_at, same_bytes}
 use Rattle.words.specs.Words.{reserved}
 use Rattle.reading.specs.Tree.{Piece}
 use Rattle.reading.specs.Reading.{Why, Read, then, lexeme, piece, is_word, is_name, expect, expect_word, expect_name}
-use Rattle.reading.specs.Heard.{why_number, why_of, place_of}
+use Rattle.reading.specs.declared.Stop.{Stop}
+use Rattle.reading.specs.Heard.{stopped, Came, Hears}
+use Rattle.std.specs.Prelude.{Result}
+use Rattle.std.specs.Result.{IsErrAnd}
+use Rattle.std.proofs.lemmas.Result.{err_from_is_err_and}
 
 module _ {A : Type 0} where
   -- A choice on a known test.
@@ -22,45 +25,10 @@ module _ {A : Type 0} where
   pub cond_false : (b : Bool) (x y : A) → b ≡ false → cond b x y ≡ y
   cond_false b x y e = ap (λ (t : Bool). cond t x y) e
 
--- Something always stops a reading.
-pub why_some : (w : Why) → why_number w ≡ 0 → ⊥
-why_some Why.other e = omega arith
-why_some Why.wrong e = omega arith
-why_some Why.size e = omega arith
-
 module _ {A : Type 0} where
-  -- What a reader hands on of a reading: why it stopped, and its place.
-  abbrev pub Marks : Read A → ℕ → ℕ → Type 0
-  Marks R why at = (why ≡ why_of R) × (at ≡ place_of R)
-
-  pub marks_got : (R : Read A) (a : A) (i : ℕ) → R ≡ Read.got a i → Marks R 0 i
-  marks_got R a i e = (sym (ap why_of e), sym (ap place_of e))
-
-  pub marks_stop : (R : Read A) (w : Why) (i : ℕ) → R ≡ Read.stop w i → Marks R (why_number w) i
-  marks_stop R w i e = (sym (ap why_of e), sym (ap place_of e))
-
-  -- A reading that no reason stopped came to something; one that was stopped says why.
-  pub went : (R : Read A) (why at : ℕ) → why ≡ why_of R → at ≡ place_of R → why ≡ 0 → (a : A) × (R ≡ Read.got a at)
-  went (Read.got a i) why at e p z = (a, ap (Read.got a) (sym p))
-  went (Read.stop w i) why at e p z = absurd (why_some w (sym e ∙ z))
-
-  pub halted : (R : Read A) (why at : ℕ) → why ≡ why_of R → at ≡ place_of R → (why ≡ 0 → ⊥) → (w : Why) × ((R ≡ Read.stop w at) × (why ≡ why_number w))
-  halted (Read.got a i) why at e p d = absurd (d e)
-  halted (Read.stop w i) why at e p d = (w, (ap (Read.stop w) (sym p), e))
-
-  -- What was read is one thing, at one place; a reading that stopped came to nothing.
-  abbrev Got : (A → ℕ → Type 0) → Read A → Type 0
-  Got P (Read.got a i) = P a i
-  Got P (Read.stop w i) = ⊥
-
+  -- What was read is one thing, at one place.
   pub as_read : (P : A → ℕ → Type 0) (R : Read A) (a : A) (i : ℕ) → R ≡ Read.got a i → P a i → (b : A) (e : ℕ) → R ≡ Read.got b e → P b e
-  as_read P R a i here p b e there = subst (Got P) (sym here ∙ there) p
-
-  pub none_read : (R : Read A) (w : Why) (i : ℕ) → R ≡ Read.stop w i → (b : A) (e : ℕ) → R ≡ Read.got b e → ⊥
-  none_read R w i here b e there = subst (Got (λ a j. ⊥)) (sym here ∙ there) (stopped there)
-    where
-      stopped : R ≡ Read.got b e → ⊥
-      stopped x = subst (Got (λ a j. Unit {0})) (sym x ∙ here) tt
+  as_read P R a i here p b e there = subst (λ (r : Read A). Came r P) (sym here ∙ there) p
 
   -- What holds of whatever a reading came to.
   abbrev pub Always : (A → ℕ → Type 0) → Read A → Type 0
@@ -82,14 +50,25 @@ module _ {A B : Type 0} where
   pub stays_stopped : (R : Read A) (next : A → ℕ → Read B) (w : Why) (i : ℕ) → R ≡ Read.stop w i → then R next ≡ Read.stop w i
   stays_stopped R next w i e = ap (λ (r : Read A). then r next) e
 
-  -- Where what is read last says nothing more, it says where the whole came.
-  pub at_last : (R : Read A) (b : B) (why at : ℕ) → Marks R why at → Marks (then R (λ _ j. Read.got b j)) why at
-  at_last (Read.got a i) b why at m = m
-  at_last (Read.stop w i) b why at m = m
+  pub halts : (R : Read A) (next : A → ℕ → Read B) (e : Stop) → R ≡ stopped e → then R next ≡ stopped e
+  halts R next (Stop.Unsupported i) h = stays_stopped R next Why.other i h
+  halts R next (Stop.Wrong i) h = stays_stopped R next Why.wrong i h
+  halts R next (Stop.Size i) h = stays_stopped R next Why.size i h
 
-  pub last_says : (P : B → Type 0) (R : Read A) (b : B) → P b → (c : B) (e : ℕ) → then R (λ _ j. Read.got b j) ≡ Read.got c e → P c
-  last_says P (Read.got a i) b p c e h = as_read (λ (x : B) _. P x) (Read.got b i) b i refl p c e h
-  last_says P (Read.stop w i) b p c e h = absurd (none_read (Read.stop w i) w i refl c e h)
+module _ {A : Type 0} where
+  -- What a reader read, up to place x.
+  pub read_to : (R : Read A) (x : ℕ) → Came R (λ _ i. x ≡ i) → (a : A) × (R ≡ Read.got a x)
+  read_to (Read.got a i) x p = (a, ap (Read.got a) (sym p))
+  read_to (Read.stop w i) x p = absurd p
+
+  -- What a reader read, up to place x, and what is told of it.
+  pub read_as : (R : Read A) (M : A → Type 0) (x : ℕ) → Came R (λ a i. (x ≡ i) × M a) → (a : A) × ((R ≡ Read.got a x) × M a)
+  read_as (Read.got a i) M x p = (a, (ap (Read.got a) (sym p.0), p.1))
+  read_as (Read.stop w i) M x p = absurd p
+
+  -- The reading came to what a reader says.
+  pub came_to : (R : Read A) (P : A → ℕ → Type 0) (a : A) (i : ℕ) → R ≡ Read.got a i → P a i → Came R P
+  came_to R P a i e p = subst (λ (r : Read A). Came r P) (sym e) p
 
 both_is : (a b c : Bool) → a ≡ true → b ≡ c → both a b ≡ c
 both_is a b c e f = ap (λ (t : Bool). both t b) e ∙ f
@@ -152,3 +131,26 @@ pub name_token : (s : List ℕ) (i : ℕ) (p : Piece) (j : ℕ) → expect_name 
 name_token s i =
     always_got (λ (p : Piece) (j : ℕ). (p ≡ piece s (token_at s i)) × (j ≡ (token_at s i).to)) (expect_name s i)
     (always_cond _ (is_name s (token_at s i)) _ _ (always_cond _ (leb ((token_at s i).to - (token_at s i).from) NAME_BYTES) _ _ (refl, refl) tt) tt)
+
+-- What a `?` gives back of a reader that stopped.
+pub halted : {A T : Type 0} {Q : Stop → Type 0} (R : Read A) (P : A → ℕ → T → Type 0) (r : Result T Stop) (e : Stop) → IsErrAnd r Q → ((y : Stop) → Q y → y ≡ e) → R ≡ stopped e → Hears R P r
+halted R P r e is same h =
+    let p = err_from_is_err_and r is in
+    rw p.1 (h ∙ ap stopped (sym (same p.0 p.2)))
+
+-- The same reading, told otherwise.
+pub hears_as : {A T : Type 0} (R S : Read A) (P : A → ℕ → T → Type 0) (r : Result T Stop) → R ≡ S → Hears S P r → Hears R P r
+hears_as R S P r e h = subst (λ (x : Read _). Hears x P r) (sym e) h
+
+-- A reader that went on read something.
+pub read_some : {A : Type 0} (R : Read A) (P : A → ℕ → Type 0) → Came R P → (a : A) × ((i : ℕ) × (R ≡ Read.got a i))
+read_some (Read.got a i) P p = (a, (i, refl))
+read_some (Read.stop w i) P p = absurd p
+
+module _ {A T : Type 0} (b : Bool) (x y : Read A) (P : A → ℕ → T → Type 0) (r : Result T Stop) (t : Bool) where
+  -- By a test: t is what the code found of it.
+  pub heard_yes : t ≡ b → t ≡ true → Hears x P r → Hears (cond b x y) P r
+  heard_yes e f p = subst (λ (c : Bool). Hears (cond c x y) P r) (sym (sym e ∙ f)) p
+
+  pub heard_no : t ≡ b → t ≡ false → Hears y P r → Hears (cond b x y) P r
+  heard_no e f p = subst (λ (c : Bool). Hears (cond c x y) P r) (sym (sym e ∙ f)) p

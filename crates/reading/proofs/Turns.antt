@@ -1,7 +1,7 @@
 -- An operator under `not` as one rule: the names are swapped where just one of the two negates, and the limit is one less where just one of the two is strict.
 -- By the four words and both parities.
-use mathlib.Core.Path.{◌≡◌, refl, sym, subst, ◌∙◌, ap}
-use mathlib.Core.Bool.{Bool, true, false, not, cond, beq, false≢true}
+use mathlib.Core.Path.{◌≡◌, refl, sym, subst, ap}
+use mathlib.Core.Bool.{Bool, true, false, cond, false≢true}
 use mathlib.Core.List.{List}
 use Prim.Native.Nat.{ℕ}
 use lib.IntN.{ℤ, pos, ◌-ℤ◌}
@@ -9,34 +9,8 @@ use Rattle.text.specs.Lexicon.{either, same_bytes}
 use Rattle.text.proofs.Equal.{same_equal}
 use Rattle.words.specs.Words.{compares, W_at_most, W_below, W_at_least, W_above}
 use Rattle.reading.specs.Tree.{Named, named, said, under}
-use Rattle.reading.specs.Parts.{turned, final}
+use Rattle.reading.specs.Parts.{final, flips, lessens}
 use Rattle.reading.proofs.Signs.{not_less, not_not}
-
--- The test of the code: one of two answers, and whether it differs from `odd`.
-differs : (a odd : Bool) → not (beq a odd) ≡ cond a (cond odd false true) odd
-differs true true = refl
-differs true false = refl
-differs false true = refl
-differs false false = refl
-
-pub first_holds : (a b r : Bool) → a ≡ true → r ≡ a → r ≡ either a b
-first_holds a b r h e = e ∙ h ∙ ap (λ (x : Bool). either x b) (sym h)
-
-pub second_asked : (a b r : Bool) → a ≡ false → r ≡ b → r ≡ either a b
-second_asked a b r h e = e ∙ ap (λ (x : Bool). either x b) (sym h)
-
-pub turned_is : (a b odd r : Bool) → r ≡ either a b → not (beq r odd) ≡ turned a b odd
-turned_is a b odd r e = ap (λ (x : Bool). not (beq x odd)) e ∙ differs (either a b) odd
-
-pub turns_by : (r a b k l odd : Bool) → r ≡ turned a b odd → a ≡ k → b ≡ l → r ≡ turned k l odd
-turns_by r a b k l odd e p q = e ∙ ap (λ (x : Bool). turned x b odd) p ∙ ap (λ (x : Bool). turned k x odd) q
-
--- Whether the operator w swaps the names and whether it lowers the limit, under an odd number of `not` or not.
-abbrev pub flips : List ℕ → Bool → Bool
-flips w odd = turned (same_bytes w W_above) (same_bytes w W_at_least) odd
-
-abbrev pub lessens : List ℕ → Bool → Bool
-lessens w odd = turned (same_bytes w W_above) (same_bytes w W_below) odd
 
 -- The rule as it is made.
 abbrev pub made : (flip less : Bool) → List ℕ → List ℕ → ℤ → Named

@@ -9,7 +9,7 @@ use lib.Dec.{leb}
 use lib.ListN.{length}
 use borrow.Author.Tests.{eq-eqb, ne_eqb, leb-true, leb-false, lt-ltb}
 use Rattle.meaning.specs.Bounds.{NAME_BYTES, ASKED, DEPTH}
-use Rattle.text.specs.declared.Tok.{Tok}
+use Rattle.text.specs.Lexicon.{Tok}
 use Rattle.text.specs.Lexicon.{OPEN, CLOSE, NUMERAL, SYMBOL, token_at, same_bytes}
 use Rattle.text.proofs.Equal.{equal_same}
 use Rattle.text.proofs.Tokens.{token_placed}

@@ -1,6 +1,8 @@
--- What the readers hand on: why and where reading ended, the command as numbers, and the rules of its term, or the steps of its names, in rows.
-use Rattle.std.specs.Prelude.{ℕ, ◌+◌, ◌≤◌, ◌<◌, ◌≡◌, false, List, [], ◌∷◌, map, length}
+-- What the readers hand on: what was read, or why and where reading stopped; the command by value, and the rules of its term, or the steps of its names, in rows.
+use Rattle.std.specs.Prelude.{ℕ, ◌+◌, ◌≤◌, ◌<◌, ◌≡◌, false, List, [], ◌∷◌, map, length, Option, Some, None, Result, Ok, Err}
+use Rattle.meaning.specs.declared.Refusal.{Refusal}
 use Rattle.meaning.specs.Bounds.{DONE}
+use Rattle.meaning.specs.Refusals.{number_of}
 use Rattle.meaning.specs.Rules.{Rule}
 use Rattle.meaning.specs.Tables.{Columns, rule_at, at}
 use Rattle.meaning.specs.Promise.{First}
@@ -8,25 +10,35 @@ use Rattle.text.specs.Lexicon.{cut}
 use Rattle.words.specs.Words.{reserved}
 use Rattle.names.specs.Names.{name_at}
 use Rattle.reading.specs.declared.Kind.{Kind}
+use Rattle.reading.specs.declared.Stop.{Stop}
+use Rattle.reading.specs.declared.Heard.{Heard}
 use Rattle.reading.specs.Tree.{Piece, said_by, Named, rules_of_term, Command}
 use Rattle.reading.specs.Reading.{Why, Read}
 use Rattle.reading.specs.Saying.{step_in, KnownIn, resolved, term_needs, said_needs}
 
--- Why reading stopped, as a number: 0 where it did not, 1 something unsupported, 2 a departure from the form, 3 a size fault.
-abbrev pub why_number : Why → ℕ
-why_number Why.other = 1
-why_number Why.wrong = 2
-why_number Why.size = 3
-
 module _ {A : Type 0} where
-  abbrev pub why_of : Read A → ℕ
-  why_of (Read.got a i) = 0
-  why_of (Read.stop w i) = why_number w
+  -- The reading that stopped so.
+  abbrev pub stopped : Stop → Read A
+  stopped (Stop.Unsupported i) = Read.stop Why.other i
+  stopped (Stop.Wrong i) = Read.stop Why.wrong i
+  stopped (Stop.Size i) = Read.stop Why.size i
 
-  -- The place past what was read, or the place of the token that stopped it.
-  abbrev pub place_of : Read A → ℕ
-  place_of (Read.got a i) = i
-  place_of (Read.stop w i) = i
+  -- The reading came to something: what P says holds of it and of the place past it.
+  abbrev pub Came : Read A → (A → ℕ → Type 0) → Type 0
+  Came (Read.got a i) P = P a i
+  Came (Read.stop w i) P = ⊥
+
+module _ {A T : Type 0} where
+  -- What a reader gives back is what the reading R came to: where it is Ok x, P says what x tells of what was read and of the place past it; where it is Err, reading
+  -- stopped so.
+  abbrev pub Hears : Read A → (A → ℕ → T → Type 0) → Result T Stop → Type 0
+  Hears R P (Ok x) = Came R (λ a i. P a i x)
+  Hears R P (Err e) = R ≡ stopped e
+
+-- The fault noted, as a number: DONE where there is none.
+abbrev pub noted_as : Option Refusal → ℕ
+noted_as None = DONE
+noted_as (Some r) = number_of r
 
 -- The first n names are no reserved words.
 abbrev pub NoneReserved : ℕ → List ℕ → List ℕ → Type 0
@@ -79,3 +91,7 @@ pub record Tells (n : ℕ) (names lens : List ℕ) (c : Command) (kind : Kind) (
   pub kind_is : kind ≡ kind_of c
   pub fault_first : First (said_needs (KnownIn n names lens) c) fault
   pub holding : fault ≡ DONE → Holding (step_in n names lens) c rows
+
+-- The command told: its kind, the place past it, its fault.
+abbrev pub told : Kind → ℕ → Option Refusal → Heard
+told k e f = record { kind = k; past = e; fault = f }

@@ -5,3 +5,4 @@ pub mod Saying
 pub mod Spelling
 pub mod Heard
 pub mod Parts
+pub mod Rows

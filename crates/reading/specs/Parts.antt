@@ -1,62 +1,65 @@
--- What the readers of parts of a command promise: names, amounts, atoms, terms, lists of names.
-use Rattle.std.specs.Prelude.{ℕ, ◌≤◌, ◌<◌, ◌≡◌, Bool, true, false, cond, List, [], ◌∷◌, eqb, length, ℤ, pos, neg_ℤ, ◌-ℤ◌}
-use Rattle.meaning.specs.Bounds.{DONE, NAME, AMOUNT}
-use Rattle.meaning.specs.Rules.{Rule, InAmount}
-use Rattle.meaning.specs.Tables.{Columns, rule_at}
-use Rattle.meaning.specs.Promise.{First, needs}
-use Rattle.text.specs.Lexicon.{OPEN, CAP, cut, either, token_at}
-use Rattle.reading.specs.declared.NameRead.{NameRead}
-use Rattle.reading.specs.declared.AmountRead.{AmountRead}
-use Rattle.reading.specs.declared.AtomRead.{AtomRead}
-use Rattle.reading.specs.declared.Rows.{Rows}
-use Rattle.reading.specs.Tree.{Piece, said_by, Amount, Term, rules_of_term, Command}
-use Rattle.reading.specs.Reading.{Why, Read, stops, expect}
-use Rattle.reading.specs.Saying.{step_in, KnownIn, name_needs}
+-- What the readers of parts of a command promise: tokens, names, amounts, atoms; and of the whole command.
+use Rattle.std.specs.Prelude.{ℕ, ◌≤◌, ◌<◌, ◌≡◌, Bool, true, false, cond, List, eqb, length, ℤ, pos, neg_ℤ, ◌-ℤ◌, ◌≤ℤ◌, Option, MatchOption}
+use Rattle.meaning.specs.Tables.{Columns}
+use Rattle.text.specs.declared.Tok.{Tok as Given}
+use Rattle.text.specs.Lexicon.{END, OPEN, SYMBOL, CAP, cut, either, token_at, same_bytes}
+use Rattle.text.specs.Numbered.{code_of, numbered}
+use Rattle.words.specs.Words.{W_above, W_below, W_at_least}
+use Rattle.reading.specs.declared.Stop.{Stop}
 use Rattle.reading.specs.declared.Heard.{Heard}
-use Rattle.reading.specs.Heard.{why_of, place_of, Listed, Rowed, Tells}
+use Rattle.reading.specs.declared.atom.Atom.{Atom}
+use Rattle.reading.specs.Tree.{Piece, said_by, Amount, Term, Command}
+use Rattle.reading.specs.Reading.{Why, Read, stops, expect}
+use Rattle.reading.specs.Saying.{step_in, KnownIn}
+use Rattle.reading.specs.Heard.{noted_as, Tells}
 
 -- The opening bracket of a text, which is its first byte.
 abbrev pub opening : List ℕ → Read Piece
 opening s = cond (eqb (token_at s 0).from 0) (expect OPEN s 0) (stops Why.wrong s 0)
 
--- A name was read and looked up among n.
-pub record NameHeard (n : ℕ) (names lens : List ℕ) (R : Read Piece) (r : NameRead) : Type 0 where
-  pub why_is : r.why ≡ why_of R
-  pub place_is : r.at ≡ place_of R
-  pub step_is : (w : Piece) (e : ℕ) → R ≡ Read.got w e → r.step ≡ step_in n names lens w.letters
-  pub step_small : r.step ≤ n
+-- The token t stands first from place i on.
+pub record Standing (s : List ℕ) (i : ℕ) (t : Given) : Type 0 where
+  pub told : numbered t ≡ token_at s i
+  pub ordered : t.from ≤ t.to
+  pub within : (code_of t.kind ≡ END → ⊥) → (i < t.to) × (t.to ≤ length s)
+
+-- The token t, a symbol, stands first from place i on; or another token does, and reading stops there.
+pub record SymbolAt (s : List ℕ) (i : ℕ) (t : Given) : Type 0 where
+  pub told : numbered t ≡ token_at s i
+  pub symbol : code_of t.kind ≡ SYMBOL
+  pub ordered : t.from ≤ t.to
+  pub within : (i < t.to) × (t.to ≤ length s)
+
+pub record NoSymbolAt (s : List ℕ) (i : ℕ) (e : Stop) : Type 0 where
+  pub other : (token_at s i).kind ≡ SYMBOL → ⊥
+  pub there : e ≡ Stop.Wrong (token_at s i).from
+
+-- The step that the name w stands for, where it is one of the n declared; None where it is not.
+abbrev pub StepOf : ℕ → List ℕ → List ℕ → List ℕ → Option ℕ → Type 0
+StepOf n names lens w o = MatchOption o (KnownIn n names lens w → ⊥) (λ k. (k ≡ step_in n names lens w) × (k < n))
 
 -- The amount with its numeral read as CAP where it is larger: past every bound.
 abbrev pub capped : Amount → ℤ
 capped (Amount.plus n) = pos (cut (said_by n))
 capped (Amount.minus n) = neg_ℤ (pos (cut (said_by n)))
 
--- An amount was read.
-pub record AmountHeard (R : Read Amount) (r : AmountRead) : Type 0 where
-  pub why_is : r.why ≡ why_of R
-  pub place_is : r.at ≡ place_of R
-  pub says : (m : Amount) (e : ℕ) → R ≡ Read.got m e → (pos r.up -ℤ pos r.dn) ≡ capped m
-  pub up_small : r.up ≤ CAP
-  pub dn_small : r.dn ≤ CAP
+-- The steps and the amount are those of an atom's names x and y and its amount m.
+pub record AtomSaid (n : ℕ) (names lens : List ℕ) (x y : Piece) (m : Amount) (a : Atom) : Type 0 where
+  pub first_is : StepOf n names lens x.letters a.first
+  pub second_is : StepOf n names lens y.letters a.second
+  pub says : a.amount ≡ capped m
 
--- The steps x and y and the number up - dn are those of an atom's names and amount.
-pub record AtomSaid (n : ℕ) (names lens : List ℕ) (x y : Piece) (m : Amount) (r : AtomRead) : Type 0 where
-  pub first_is : r.x ≡ step_in n names lens x.letters
-  pub second_is : r.y ≡ step_in n names lens y.letters
-  pub says : (pos r.up -ℤ pos r.dn) ≡ capped m
+-- The term is an atom of the operator w, with these steps and this amount.
+abbrev pub AtomOf : ℕ → List ℕ → List ℕ → List ℕ → Atom → Term → Type 0
+AtomOf n names lens w a (Term.atom v x y m) = (v ≡ w) × AtomSaid n names lens x y m a
+AtomOf n names lens w a (Term.negation t) = ⊥
+AtomOf n names lens w a (Term.conjunction t u) = ⊥
+AtomOf n names lens w a (Term.also t u) = ⊥
 
--- What stands in an atom after its operator was read; R is the reading of it, s the text.
-pub record AtomHeard (n : ℕ) (names lens : List ℕ) (R : Read Term) (r : AtomRead) : Type 0 where
-  pub why_is : r.why ≡ why_of R
-  pub place_is : r.at ≡ place_of R
-  pub said : (w : List ℕ) (x y : Piece) (m : Amount) (e : ℕ) → R ≡ Read.got (Term.atom w x y m) e → AtomSaid n names lens x y m r
-
--- The numbers of an atom that was read are small.
-pub record AtomSmall (n : ℕ) (r : AtomRead) : Type 0 where
-  pub first_small : r.x ≤ n
-  pub second_small : r.y ≤ n
-  pub up_small : r.up ≤ CAP
-  pub dn_small : r.dn ≤ CAP
+-- The amount of an atom that was read is no larger than CAP.
+pub record AtomSmall (a : Atom) : Type 0 where
+  pub not_below : neg_ℤ (pos CAP) ≤ℤ a.amount
+  pub not_above : a.amount ≤ℤ pos CAP
 
 -- One of a and b holds and odd does not; or odd, and neither.
 abbrev pub turned : Bool → Bool → Bool → Bool
@@ -66,34 +69,26 @@ turned a b odd = cond (either a b) (cond odd false true) odd
 abbrev pub final : (flip less : Bool) → ℤ → ℤ
 final flip less c = cond less (cond flip (neg_ℤ c) c -ℤ pos 1) (cond flip (neg_ℤ c) c)
 
--- The fault noted after a rule of the steps x and y, of which n are declared, with the amount c, where f was noted before.
-pub record Noted (f n x y : ℕ) (c : ℤ) (g : ℕ) : Type 0 where
-  pub stays : (f ≡ DONE → ⊥) → g ≡ f
-  pub first : f ≡ DONE → First (needs NAME (x < n) ∷ needs NAME (y < n) ∷ needs AMOUNT (InAmount c) ∷ []) g
+-- Whether the operator w under an odd number of `not` or not swaps the names; whether it lowers the amount by one.
+abbrev pub flips : List ℕ → Bool → Bool
+flips w odd = turned (same_bytes w W_above) (same_bytes w W_at_least) odd
 
--- The rule was put into row k, where there is such a row; every other row is as before.
-pub record RowPut (k : ℕ) (r : Rule) (before after : Columns) : Type 0 where
-  pub put : k < length before.firsts → rule_at after k ≡ r
-  pub others_stay : (i : ℕ) → (i ≡ k → ⊥) → rule_at after i ≡ rule_at before i
-  pub as_many : length after.firsts ≡ length before.firsts
+abbrev pub lessens : List ℕ → Bool → Bool
+lessens w odd = turned (same_bytes w W_above) (same_bytes w W_below) odd
 
--- A term was read, under an odd number of `not` or not, after k rows and the fault f, on the text s.
-pub record TermHeard (n : ℕ) (names lens s : List ℕ) (odd : Bool) (R : Read Term) (k f : ℕ) (before : Columns) (r : Rows) (after : Columns) : Type 0 where
-  pub why_is : r.why ≡ why_of R
-  pub place_is : r.at ≡ place_of R
-  pub rowed : (t : Term) (e : ℕ) → R ≡ Read.got t e → Rowed n names lens (rules_of_term odd t) k f before r.count r.fault after
-  pub few : r.why ≡ 0 → (r.count ≤ r.at) × (r.at ≤ length s)
+-- The names swapped, and the amount negated.
+abbrev pub swapped : Atom → Atom
+swapped a = record { first = a.second; second = a.first; amount = neg_ℤ a.amount }
 
--- A list of names was read; their steps stand in the column.
-pub record NamesHeard (n : ℕ) (names lens : List ℕ) (R : Read (List Piece)) (r : Rows) (column : List ℕ) : Type 0 where
-  pub why_is : r.why ≡ why_of R
-  pub place_is : r.at ≡ place_of R
-  pub counted : (ws : List Piece) (e : ℕ) → R ≡ Read.got ws e → r.count ≡ length ws
-  pub fault_first : (ws : List Piece) (e : ℕ) → R ≡ Read.got ws e → First (name_needs (KnownIn n names lens) ws) r.fault
-  pub listed : (ws : List Piece) (e : ℕ) → R ≡ Read.got ws e → Listed (step_in n names lens) column 0 ws
+-- The atom that says by itself what the atom a says under the operator w.
+abbrev pub turned_atom : List ℕ → Bool → Atom → Atom
+turned_atom w odd a = record {
+  first = cond (flips w odd) a.second a.first;
+  second = cond (flips w odd) a.first a.second;
+  amount = final (flips w odd) (lessens w odd) a.amount;
+}
 
--- A command was read.
-pub record CommandHeard (n : ℕ) (names lens : List ℕ) (R : Read Command) (h : Heard) (rows : Columns) : Type 0 where
-  pub why_is : h.why ≡ why_of R
-  pub place_is : h.at ≡ place_of R
-  pub tells : (c : Command) (e : ℕ) → R ≡ Read.got c e → Tells n names lens c h.kind h.fault rows
+-- The command c was read up to place e: it is told with that place, and the rows have its rules or steps.
+pub record CommandSaid (n : ℕ) (names lens : List ℕ) (c : Command) (e : ℕ) (h : Heard) (rows : Columns) : Type 0 where
+  pub past_is : h.past ≡ e
+  pub tells : Tells n names lens c h.kind (noted_as h.fault) rows

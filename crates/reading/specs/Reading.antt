@@ -1,7 +1,7 @@
 -- The reading of a text, from left to right: what it says, or the leftmost place that stops it, and why.
 use Rattle.std.specs.Prelude.{ℕ, zero, suc, ◌+◌, ◌-◌, Bool, false, not, cond, List, [], ◌∷◌, eqb, leb, ltb, length}
 use Rattle.meaning.specs.Bounds.{NAME_BYTES, DEPTH, ASKED}
-use Rattle.text.specs.declared.Tok.{Tok}
+use Rattle.text.specs.Lexicon.{Tok}
 use Rattle.text.specs.Lexicon.{OPEN, CLOSE, NUMERAL, SYMBOL, both, token_at, bytes, same_bytes}
 use Rattle.words.specs.Words.{reserved, compares, operates, W_set_logic, W_declare_fun, W_assert, W_push, W_pop, W_check_sat, W_get_value, W_exit, W_QF_IDL, W_Int, W_not, W_and, W_minus}
 use Rattle.reading.specs.Tree.{Piece, Amount, Term, Command}

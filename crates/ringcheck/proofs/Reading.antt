@@ -1,16 +1,21 @@
 -- A reading of the list for a window and the next: at place k, no step of the two windows is a first step twice exactly when what is left of the
 -- first steps is fresh in both.
-use Prim.Native.Nat.{ℕ, ◌+◌, ◌≤◌, ◌<◌}
+use Prim.Native.Nat.{ℕ, ◌+◌, ◌<◌}
 use mathlib.Core.Path.{◌≡◌, refl}
 use mathlib.Core.List.{List, ◌∷◌, map}
 use mathlib.Core.Logic.{◌↔◌}
-use lib.ListN.{length, drop, drop_of_length-le}
+use lib.ListN.{length, drop}
 use lib.Bits.{bit_and, bit_or}
 use Rattle.meaning.specs.Rules.{All}
 use Rattle.meaning.specs.Tables.{at}
 use Rattle.ringcheck.specs.Closing.{OnceIn, FlagIn, first_steps}
-use Rattle.ringcheck.proofs.Walk.{left_is}
+use native.Mathlib.Numerals.{add-one}
+use lib.Seq.{drop-cons}
 use Rattle.ringcheck.proofs.Windows.{Fresh, next_unmet, next→, →next, first_met}
+
+-- What is left of a list from place k on is the number i at place k, and what is left one place further.
+left_is : (list : List ℕ) (k : ℕ) {i : ℕ} → k < length list → i ≡ at list k → drop k list ≡ i ∷ drop (k + 1) list
+left_is list k here i-is = rw (add-one, i-is) (drop-cons list k 0 here)
 
 -- What is left of the first steps from place k on is fresh in window w and in the next, where the steps met have their bits in met and in met_next.
 pub record Left (xs list : List ℕ) (w met met_next k : ℕ) : Type 0 where
@@ -22,20 +27,13 @@ pub all_left : (P : ℕ → Type 0) (list : List ℕ) (k : ℕ) → k < length l
 all_left P list k here all = rw (left_is list k here refl) at all
 
 -- At first step x alone is met.
-pub at_first : (xs list : List ℕ) (w x : ℕ) {f f-next : ℕ} → FlagIn w x f → FlagIn (w + 1) x f-next → OnceIn w (first_steps xs x list) ↔ Left xs list w f f-next 1
+pub at_first : (xs list : List ℕ) (w x : ℕ) {f f-next : ℕ} → FlagIn w x f → FlagIn (w + 1) x f-next → OnceIn w (first_steps xs x list) ↔ Left xs list w f f-next 0
 at_first xs list w x flag flag-next = (
-  λ once. record { here = (first_met flag (map (at xs) (drop 1 list))).0 once.here; next = (first_met flag-next (map (at xs) (drop 1 list))).0 once.next },
-  λ left. record { here = (first_met flag (map (at xs) (drop 1 list))).1 left.here; next = (first_met flag-next (map (at xs) (drop 1 list))).1 left.next },
+  λ once. record { here = (first_met flag (map (at xs) list)).0 once.here; next = (first_met flag-next (map (at xs) list)).0 once.next },
+  λ left. record { here = (first_met flag (map (at xs) list)).1 left.here; next = (first_met flag-next (map (at xs) list)).1 left.next },
 )
 
 module _ {xs : List ℕ} {w met met_next : ℕ} {Sought : Type 0} (list : List ℕ) (k : ℕ) (as-left : Sought ↔ Left xs list w met met_next k) where
-  -- Past the end of the list nothing is left.
-  pub none_left : length list ≤ k → Sought
-  none_left past = as-left.1 (record {
-    here = rw (drop_of_length-le list past) (record { once = tt; not_met = tt });
-    next = rw (drop_of_length-le list past) (record { once = tt; not_met = tt });
-  })
-
   module _ {s f f-next : ℕ} (here : k < length list) (s-is : s ≡ at xs (at list k)) (flag : FlagIn w s f) (flag-next : FlagIn (w + 1) s f-next) where
     -- What is left is the first step s of the number at place k, and what is left one place further.
     steps-are : map (at xs) (drop k list) ≡ s ∷ map (at xs) (drop (k + 1) list)

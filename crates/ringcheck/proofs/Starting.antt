@@ -1,13 +1,11 @@
 -- What refutes a rule: its would-be number, and then what closes the ring from its second step to its first, with different first steps.
-use Prim.Native.Nat.{ℕ, ◌<◌}
+use Prim.Native.Nat.{ℕ}
 use native.Mathlib.Omega.{arith}
 use mathlib.Core.Path.{◌≡◌, refl, sym, subst}
 use mathlib.Core.Bool.{Bool}
-use mathlib.Core.List.{List, [], ◌∷◌, map}
-use lib.ListN.{length, drop}
+use mathlib.Core.List.{List, ◌∷◌, map}
 use lib.IntN.{pos}
 use Rattle.meaning.specs.Rules.{Rule, All, Different, Ring, Negative, total, more, Refutes, RefutesBy}
-use Rattle.meaning.specs.Tables.{at}
 use Rattle.meaning.proofs.Whole.{lt→, →lt, add_is}
 use Rattle.meaning.proofs.More.{more_new, more_old}
 use Rattle.meaning.proofs.Theory.{all_implies}
@@ -30,16 +28,6 @@ closes_same F G H x reached sum low l same closes = record {
   where
     each : All (λ i. F i ≡ G i) l
     each = all_implies same l closes.rest_held
-
--- A list that refutes a rule has a number.
-pub refutes_some : (R : ℕ → Rule) (H : ℕ → Type 0) (k : ℕ) (r : Rule) (l : List ℕ) → Refutes R H k r l → 0 < length l
-refutes_some R H k r [] refutes = absurd refutes
-refutes_some R H k r (j ∷ l) refutes = omega arith
-
--- Its first number is the would-be number.
-pub refutes_first : (R : ℕ → Rule) (H : ℕ → Type 0) (k : ℕ) (r : Rule) (l : List ℕ) → Refutes R H k r l → at l 0 ≡ k
-refutes_first R H k r [] refutes = absurd refutes
-refutes_first R H k r (j ∷ l) refutes = refutes.0
 
 -- The list closes a ring after the rule r: from its second step to its first, with its amount, which is given as b, the amount + BIAS, in the sum.
 abbrev pub ClosesAfter : (ℕ → Rule) → (ℕ → Type 0) → Rule → ℕ → List ℕ → Type 0
@@ -109,11 +97,9 @@ module _ (R : ℕ → Rule) (H : ℕ → Type 0) (k : ℕ) (r : Rule) (free : H 
           (closes_same R F H r.first r.second b BIAS l (λ i held. sym (same i held)) closes)
 
   -- A list that refutes the rule closes the ring after its first number.
-  pub refutes_closes : (l : List ℕ) → Refutes R H k r l → ClosesAfter R H r b (drop 1 l)
-  refutes_closes [] refutes = absurd refutes
-  refutes_closes (j ∷ l) refutes = refutes→closes l refutes.1
+  pub refutes_closes : (j : ℕ) (l : List ℕ) → Refutes R H k r (j ∷ l) → ClosesAfter R H r b l
+  refutes_closes j l refutes = refutes→closes l refutes.1
 
   -- Where the list closes the ring, what decides whether the first steps are different decides whether it refutes the rule.
-  pub different_decides : {t : Bool} (l : List ℕ) → (length l ≡ 0 → ⊥) → at l 0 ≡ k → ClosesAfter R H r b (drop 1 l) → Decides t (DifferentAfter R r (drop 1 l)) → Decides t (Refutes R H k r l)
-  different_decides [] some first closes rest = absurd (some refl)
-  different_decides (j ∷ l) some first closes rest = decides_same (λ different. (first, closes→refutes l closes different)) (λ refutes. refutes→different l refutes.1) rest
+  pub different_decides : {t : Bool} (j : ℕ) (l : List ℕ) → j ≡ k → ClosesAfter R H r b l → Decides t (DifferentAfter R r l) → Decides t (Refutes R H k r (j ∷ l))
+  different_decides j l first closes rest = decides_same (λ different. (first, closes→refutes l closes different)) (λ refutes. refutes→different l refutes.1) rest

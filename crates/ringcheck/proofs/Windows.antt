@@ -10,7 +10,9 @@ use lib.Bits.{bit_and, bit_or, or_zero_l}
 use Rattle.meaning.specs.Rules.{All, Different}
 use Rattle.meaning.proofs.Theory.{all_implies}
 use Rattle.ringcheck.specs.Closing.{WINDOW, In, Once, OnceIn, FlagIn}
-use Rattle.ringcheck.proofs.Flags.{bit, no_bit, unmet→, →unmet, is_met, others_kept}
+use Rattle.std.specs.Int.{bit_at}
+use Rattle.std.proofs.lemmas.Nat.Bits.{bit_at-zero}
+use Rattle.ringcheck.proofs.Flags.{unmet→, →unmet, is_met, others_kept}
 
 -- What follows from P and Q, every number of a list has where every number has both.
 all_both : {P Q S : ℕ → Type 0} → ((a : ℕ) → P a → Q a → S a) → (l : List ℕ) → All P l → All Q l → All S l
@@ -64,7 +66,7 @@ windows_joined w l before once = once_joined (λ a below. last-or-before (w + 1)
 -- What is left of the steps has no step of window w twice, and none that was met, whose bit is 1.
 pub record Fresh (w met : ℕ) (l : List ℕ) : Type 0 where
   pub once : Once (In w) l
-  pub not_met : All (λ a. In w a → bit met (a % WINDOW) ≡ 0) l
+  pub not_met : All (λ a. In w a → bit_at met (a % WINDOW) ≡ 0) l
 
 -- The next step is not met.
 pub next_unmet : {w a f : ℕ} → FlagIn w a f → (met : ℕ) (l : List ℕ) → Fresh w met (a ∷ l) → bit_and met f ≡ 0
@@ -79,8 +81,8 @@ module _ {w a f : ℕ} (flag : FlagIn w a f) (met : ℕ) (l : List ℕ) where
   }
 
   -- A step that is not met then is another.
-  other : (b : ℕ) → (In w b → bit (bit_or met f) (b % WINDOW) ≡ 0) → In w b → a ≡ b → ⊥
-  other b unmet here same = is_met flag met (subst (In w) (sym same) here) (ap (λ n. bit (bit_or met f) (n % WINDOW)) same ∙ unmet here)
+  other : (b : ℕ) → (In w b → bit_at (bit_or met f) (b % WINDOW) ≡ 0) → In w b → a ≡ b → ⊥
+  other b unmet here same = is_met flag met (subst (In w) (sym same) here) (ap (λ n. bit_at (bit_or met f) (n % WINDOW)) same ∙ unmet here)
 
   -- Where the next step was not met, and what is left is fresh once it is, all was.
   pub →next : bit_and met f ≡ 0 → Fresh w (bit_or met f) l → Fresh w met (a ∷ l)
@@ -95,6 +97,6 @@ module _ {w a f : ℕ} (flag : FlagIn w a f) (met : ℕ) (l : List ℕ) where
 -- Before any step is met, fresh is what has no step twice; the first step leaves its flag.
 pub first_met : {w a f : ℕ} → FlagIn w a f → (l : List ℕ) → Once (In w) (a ∷ l) ↔ Fresh w f l
 first_met {w} {a} {f} flag l = (
-  λ once. subst (λ m. Fresh w m l) (or_zero_l f) (next→ flag 0 l (record { once = once; not_met = all_of (λ b here. no_bit (b % WINDOW)) (a ∷ l) })),
-  λ fresh. (→next flag 0 l (unmet→ flag 0 (λ here. no_bit (a % WINDOW))) (subst (λ m. Fresh w m l) (sym (or_zero_l f)) fresh)).once,
+  λ once. subst (λ m. Fresh w m l) (or_zero_l f) (next→ flag 0 l (record { once = once; not_met = all_of (λ b here. bit_at-zero (b % WINDOW)) (a ∷ l) })),
+  λ fresh. (→next flag 0 l (unmet→ flag 0 (λ here. bit_at-zero (a % WINDOW))) (subst (λ m. Fresh w m l) (sym (or_zero_l f)) fresh)).once,
 )

@@ -1,6 +1,6 @@
 -- The rest of a ring, walked from the step reached: what its next number and all its numbers must have, and what must be in reach for it to be walked.
 -- Then the first steps of a ring, among which no step may stand twice: they are looked at in windows.
-use Rattle.std.specs.Prelude.{ℕ, ◌+◌, ◌^◌, ◌/◌, ◌%◌, ◌≤◌, ◌<◌, ◌≡◌, List, [], ◌∷◌, map, length, drop, ℤ}
+use Rattle.std.specs.Prelude.{ℕ, ◌+◌, ◌^◌, ◌/◌, ◌%◌, ◌≤◌, ◌<◌, ◌≡◌, List, [], ◌∷◌, map, length, ℤ}
 use Rattle.meaning.specs.Bounds.{STEPS}
 use Rattle.meaning.specs.Rules.{Rule, InSteps, Leads, All, total}
 use Rattle.meaning.specs.Tables.{rule_at, at}
@@ -19,7 +19,7 @@ pub record GoesOn (first : ℕ → ℕ) (H : ℕ → Type 0) (reached i : ℕ) :
   pub is_held : H i
   pub first_is : first i ≡ reached
 
--- The numbers of the list after its first can be walked over the rules held, whose numbers H holds of, with one rule's amount in the sum: the sums
+-- The numbers of the list can be walked over the rules held, whose numbers H holds of, with one rule's amount more in the sum: the sums
 -- stay far below what a u64 holds.
 pub record Walkable (H : ℕ → Type 0) (xs ys : List ℕ) (cs : List ℤ) (sum : ℕ) (list : List ℕ) : Type 0 where
   pub placed : (i : ℕ) → H i → Placed xs ys cs i
@@ -49,14 +49,14 @@ pub record FlagIn (w a f : ℕ) : Type 0 where
   pub inside : In w a → f ≡ 2 ^ (a % WINDOW)
   pub outside : (In w a → ⊥) → f ≡ 0
 
--- The first steps of a ring whose first rule starts from step x: x, and those in the column xs of the numbers of the list after its first.
+-- The first steps of a ring whose first rule starts from step x: x, and those in the column xs of the numbers of the list, which are the ring's others.
 abbrev pub first_steps : List ℕ → ℕ → List ℕ → List ℕ
-first_steps xs x list = x ∷ map (at xs) (drop 1 list)
+first_steps xs x list = x ∷ map (at xs) list
 
 -- The first steps of a ring can be read, and are below n.
 pub record Readable (n : ℕ) (xs : List ℕ) (x : ℕ) (list : List ℕ) : Type 0 where
   pub few : n ≤ STEPS
-  pub placed : All (λ i. i < length xs) (drop 1 list)
+  pub placed : All (λ i. i < length xs) list
   pub steps_in : All (λ a. a < n) (first_steps xs x list)
 
 -- A list can be checked for a ring of the rule r and of the rules held, over n steps: their steps are below n.

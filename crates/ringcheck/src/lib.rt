@@ -1,24 +1,18 @@
 // Whether a list of numbers is a negative ring that starts with a rule under its would-be number and goes on over held rules.
 #![tactic(auto)]
 
-ghost use Rattle.std.specs.Prelude.{ℕ, ◌≤◌, ◌<◌, ◌≡◌, length, drop};
+ghost use Rattle.std.specs.Prelude.{ℕ, ◌≤◌, ◌<◌, length};
 ghost use Rattle.meaning.specs.Bounds.{STEPS, RULES};
 ghost use Rattle.meaning.specs.Rules.{All, Different, Refutes};
 ghost use Rattle.meaning.specs.Tables.{rule_at, at};
 ghost use Rattle.lent.specs.Decides.{Decides};
-ghost use Rattle.lent.specs.Lent.{columns, held_by, BIAS};
+ghost use Rattle.lent.specs.Lent.{columns_of, held_by, BIAS};
 ghost use Rattle.ringcheck.specs.Closing.{Closes, GoesOn, Walkable, FlagIn, OnceIn, first_steps, Readable, Checkable};
+
+use lent::Rules;
 
 // A window has so many steps: a flag for each of them is one bit of a u64.
 const WINDOW: usize = 64;
-
-// The number at place k of the list.
-fn entry_at(list: &[u32], k: usize) -> usize
-    requires { k < length list.now }
-    ensures { result ≡ at list.now k }
-{
-    lent::day_at(list, k) as usize
-}
 
 // Whether number i is held and its rule's first step is the step reached.
 fn goes_on(levels: &[u8], xs: &[u16], reached: usize, i: usize) -> bool
@@ -26,44 +20,27 @@ fn goes_on(levels: &[u8], xs: &[u16], reached: usize, i: usize) -> bool
     requires by_index { (i : ℕ) → held_by levels.now i → i < length xs.now }
     ensures { Decides result (GoesOn (at xs.now) (held_by levels.now) reached i) }
 {
-    if meaning::RULES <= i {
-        return false;
-    }
-    if lent::level_at(levels, i) == 0 {
-        return false;
-    }
-    lent::number_at(xs, i) == reached
+    i < meaning::RULES && lent::level_at(levels, i) != 0 && lent::number_at(xs, i) == reached
 }
 
-// Whether the numbers of the list after its first are held and their rules lead from step y back to step x with a negative sum, where the first
-// number's amount is given as amount + lent::BIAS.
-fn closes(
-    xs: &[u16],
-    ys: &[u16],
-    cs: &[i32],
-    levels: &[u8],
-    x: usize,
-    y: usize,
-    amount: u64,
-    list: &[u32],
-) -> bool
+// Whether the numbers of the list are held and their rules lead from step y back to step x with a negative sum, with one amount more, which is given as
+// amount + lent::BIAS.
+fn closes(rules: Rules<'_>, levels: &[u8], x: usize, y: usize, amount: u64, list: &[u32]) -> bool
     requires in_bounds { RULES ≤ length levels.now }
-    requires walkable { Walkable (held_by levels.now) xs.now ys.now cs.now amount list.now }
-    ensures { Decides result (Closes (rule_at (columns xs.now ys.now cs.now)) (held_by levels.now) x y amount BIAS (drop 1 list.now)) }
+    requires walkable { Walkable (held_by levels.now) rules.xs.now rules.ys.now rules.cs.now amount list.now }
+    ensures { Decides result (Closes (rule_at (columns_of rules.entry)) (held_by levels.now) x y amount BIAS list.now) }
 {
     let mut reached = y;
     let mut sum = amount;
-    let mut k: usize = 1;
-    while k < list.len() {
-        let i = entry_at(list, k);
-        if !goes_on(levels, xs, reached, i) {
+    for &number in list {
+        let i = number as usize;
+        if !goes_on(levels, rules.xs, reached, i) {
             return false;
         }
-        sum += lent::amount_at(cs, i);
-        reached = lent::number_at(ys, i);
-        k += 1;
+        sum += lent::amount_at(rules.cs, i);
+        reached = lent::number_at(rules.ys, i);
     }
-    reached == x && sum < (k as u64) * lent::BIAS
+    reached == x && sum < (list.len() as u64 + 1) * lent::BIAS
 }
 
 // The flag of the step in that window; 0 where the step lies in another one.
@@ -76,17 +53,16 @@ fn flag_in(window: usize, step: usize) -> u64
     1 << (step % WINDOW)
 }
 
-// Whether no step of that window or of the next is a first step twice: step x, and those of the numbers of the list after its first.
+// Whether no step of that window or of the next is a first step twice: step x, and those of the numbers of the list.
 fn once_in(xs: &[u16], x: usize, list: &[u32], window: usize) -> bool
-    requires { (window < STEPS) × All (λ i. i < length xs.now) (drop 1 list.now) }
+    requires { (window < STEPS) × All (λ i. i < length xs.now) list.now }
     ensures { Decides result (OnceIn window (first_steps xs.now x list.now)) }
 {
     let next = window + 1;
     let mut met = flag_in(window, x);
     let mut beyond = flag_in(next, x);
-    let mut k: usize = 1;
-    while k < list.len() {
-        let step = lent::number_at(xs, entry_at(list, k));
+    for &number in list {
+        let step = lent::number_at(xs, number as usize);
         let flag = flag_in(window, step);
         let other = flag_in(next, step);
         if met & flag != 0 {
@@ -95,9 +71,8 @@ fn once_in(xs: &[u16], x: usize, list: &[u32], window: usize) -> bool
         if beyond & other != 0 {
             return false;
         }
-        met = met | flag;
-        beyond = beyond | other;
-        k += 1;
+        met |= flag;
+        beyond |= other;
     }
     true
 }
@@ -107,14 +82,10 @@ fn different(n: usize, xs: &[u16], x: usize, list: &[u32]) -> bool
     requires { Readable n xs.now x list.now }
     ensures { Decides result (Different (first_steps xs.now x list.now)) }
 {
-    let mut window: usize = 0;
-    let mut low: usize = 0;
-    while low < n {
-        if !once_in(xs, x, list, window) {
+    for pair in 0..n.div_ceil(2 * WINDOW) {
+        if !once_in(xs, x, list, 2 * pair) {
             return false;
         }
-        window += 2;
-        low += 2 * WINDOW;
     }
     true
 }
@@ -124,9 +95,7 @@ fn different(n: usize, xs: &[u16], x: usize, list: &[u32]) -> bool
 pub fn is_ring(
     n: usize,
     m: usize,
-    xs: &[u16],
-    ys: &[u16],
-    cs: &[i32],
+    rules: Rules<'_>,
     levels: &[u8],
     x: u16,
     y: u16,
@@ -135,22 +104,19 @@ pub fn is_ring(
 ) -> bool
     requires in_bounds { RULES ≤ length levels.now }
     requires fact { held_by levels.now m → ⊥ }
-    requires checkable { Checkable n (held_by levels.now) xs.now ys.now cs.now (record { first = x; second = y; amount = c }) }
-    ensures { Decides result (Refutes (rule_at (columns xs.now ys.now cs.now)) (held_by levels.now) m (record { first = x; second = y; amount = c }) list.now) }
+    requires checkable { Checkable n (held_by levels.now) rules.xs.now rules.ys.now rules.cs.now (record { first = x; second = y; amount = c }) }
+    ensures { Decides result (Refutes (rule_at (columns_of rules.entry)) (held_by levels.now) m (record { first = x; second = y; amount = c }) list.now) }
 {
-    let numbers = list.len();
-    if numbers == 0 {
+    let Some((&first, rest)) = list.split_first() else {
+        return false;
+    };
+    if n < list.len() {
         return false;
     }
-    if n < numbers {
+    if first as usize != m {
         return false;
     }
-    if entry_at(list, 0) != m {
-        return false;
-    }
-    let first = x as usize;
-    if !closes(xs, ys, cs, levels, first, y as usize, lent::biased(c), list) {
-        return false;
-    }
-    different(n, xs, first, list)
+    let start = x as usize;
+    closes(rules, levels, start, y as usize, lent::biased(c), rest)
+        && different(n, rules.xs, start, rest)
 }

@@ -1,12 +1,6 @@
 -- The parts of the test put together.
-use Prim.Native.Nat.{ℕ, ◌-◌, ◌≤◌}
-use native.Mathlib.Omega.{arith}
-use mathlib.Core.Path.{◌≡◌}
+use Prim.Native.Nat.{ℕ, ◌≤◌}
 use mathlib.Core.List.{List}
-use lib.ListN.{length}
-use lib.Seq.{take_all}
-use Rattle.text.specs.declared.Tok.{Tok}
-use Rattle.text.specs.Lexicon.{tok, bytes}
 use Rattle.names.specs.Names.{Shelved}
 use Rattle.script_calls.specs.Testing.{NamesRoom, NamesFine, RecordFine}
 use Rattle.script_meaning.specs.Record.{Lent, ScriptSound}
@@ -16,14 +10,6 @@ use Rattle.meaning.specs.Bounds.{STEPS}
 -- Fine names stand on their shelf.
 pub shelved : (n : ℕ) (names lens : List ℕ) → NamesRoom names lens → n ≤ STEPS → NamesFine n names lens → Shelved n names lens
 shelved n names lens room le fine = record { names_room = room.names_room; lens_room = room.lens_room; names_in = le; short_names = λ k h. (fine k h).short }
-
--- A token is told by its three parts.
-pub tok_is : (t : Tok) (k f e : ℕ) → t.kind ≡ k → t.from ≡ f → t.to ≡ e → t ≡ tok k f e
-tok_is t k f e a b d = λ i. record { kind = a i; from = b i; to = d i }
-
--- All the bytes of a text.
-pub whole : (w : List ℕ) → bytes w 0 (length w) ≡ w
-whole w = take_all (length w - 0) w (omega arith)
 
 -- Sound tables and a fine record are sound together, and the record is fine where they are.
 pub script_sound : (l : Lent) → Sound l.tables → RecordFine l.tables.counts l.notes l.names l.lens → ScriptSound l

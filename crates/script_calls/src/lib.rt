@@ -7,7 +7,7 @@ ghost use Rattle.meaning.specs.declared.Counts.{Counts};
 ghost use Rattle.meaning.specs.Bounds.{STEPS, RULES};
 ghost use Rattle.meaning.specs.Tables.{Room};
 ghost use Rattle.lent.specs.Lent.{tables};
-ghost use Rattle.meaning.specs.Promise.{Obeys, bare, gave};
+ghost use Rattle.meaning.specs.Promise.{Obeys, gave, number_told, given};
 ghost use Rattle.lent.specs.Decides.{Decides};
 ghost use Rattle.text.specs.Table.{TABLE};
 ghost use Rattle.names.specs.Names.{IndexRoom};
@@ -16,8 +16,10 @@ ghost use Rattle.script_meaning.specs.Record.{lent, StartRoom, ScriptRoom, InFor
 ghost use Rattle.script_meaning.specs.Commands.{start_meaning, command_meaning};
 ghost use Rattle.script_calls.specs.Testing.{NamesRoom, NameFine, NamesFine, NotesFine, RecordTested, StandTested, Entered};
 
-use meaning::Counts;
-use script_meaning::{Notes, ScriptReply};
+use meaning::{Counts, Refusal};
+use names::Names;
+use script_meaning::Notes;
+use text::{Kind, Tok};
 
 // Whether the tables have room, those of the names too.
 fn start_room(
@@ -34,7 +36,20 @@ fn start_room(
 ) -> bool
     ensures { (counts : Counts) (notes : Notes) (out : List ℕ) → Decides result (StartRoom (lent counts xs.now ys.now cs.now days.now levels.now wxs.now wys.now wcs.now notes names.now lens.now out)) }
 {
-    if !sound::has_room(xs, ys, cs, days, levels, wxs, wys, wcs) {
+    if !sound::has_room(lent::Tables {
+        rules: lent::Rules {
+            xs: xs,
+            ys: ys,
+            cs: cs,
+        },
+        days: days,
+        levels: levels,
+        watched: lent::Rules {
+            xs: wxs,
+            ys: wys,
+            cs: wcs,
+        },
+    }) {
         return false;
     }
     if names.len() < meaning::NAME_BYTES * meaning::STEPS {
@@ -45,8 +60,8 @@ fn start_room(
 
 // Start: SHORT; else STEPS steps, no rules, marks or watched rules, every place free, day 0 for every step, and an empty record.
 pub fn start(
-    counts: Counts,
-    notes: Notes,
+    counts: &mut Counts,
+    notes: &mut Notes,
     xs: &[u16],
     ys: &[u16],
     cs: &[i32],
@@ -57,28 +72,22 @@ pub fn start(
     wcs: &[i32],
     names: &[u8],
     lens: &[u8],
-) -> ScriptReply
+) -> Result<(), Refusal>
     ensures { (out : List ℕ) →
         Obeys
-        (start_meaning (lent counts xs.now ys.now cs.now days.old levels.old wxs.now wys.now wcs.now notes names.now lens.now out))
-        (lent counts xs.now ys.now cs.now days.old levels.old wxs.now wys.now wcs.now notes names.now lens.now out)
-        (bare result.number)
-        (lent result.counts xs.now ys.now cs.now days.new levels.new wxs.now wys.now wcs.now result.notes names.now lens.now out) }
+        (start_meaning (lent counts.old xs.now ys.now cs.now days.old levels.old wxs.now wys.now wcs.now notes.old names.now lens.now out))
+        (lent counts.old xs.now ys.now cs.now days.old levels.old wxs.now wys.now wcs.now notes.old names.now lens.now out)
+        (given result)
+        (lent counts.new xs.now ys.now cs.now days.new levels.new wxs.now wys.now wcs.now notes.new names.now lens.now out) }
 {
     if !start_room(xs, ys, cs, days, levels, wxs, wys, wcs, names, lens) {
-        return ScriptReply {
-            counts: counts,
-            notes: notes,
-            number: meaning::SHORT,
-        };
+        return Err(Refusal::Short);
     }
     inner_watch::clear_days(meaning::STEPS, days);
     inner_watch::free_all(levels);
-    ScriptReply {
-        counts: meaning::steps_alone(script_meaning::STEPS),
-        notes: script_meaning::no_notes(),
-        number: 0,
-    }
+    *counts = meaning::steps_alone(script_meaning::STEPS);
+    *notes = script_meaning::no_notes();
+    Ok(())
 }
 
 // Whether the bytes are a name in form.
@@ -86,23 +95,12 @@ fn in_form(w: &[u8], tab: &[u8; text::PLACES]) -> bool
     requires { tab.now ≡ TABLE }
     ensures { Decides result (InForm w.now) }
 {
-    if meaning::NAME_BYTES < w.len() {
-        return false;
-    }
-    let t = text::token(w, tab, 0);
-    if t.kind != text::SYMBOL {
-        return false;
-    }
-    if t.from != 0 {
-        return false;
-    }
-    if t.to != w.len() {
-        return false;
-    }
-    if words::is_reserved(w, 0, w.len()) {
-        return false;
-    }
-    true
+    let whole = Tok {
+        kind: Kind::Symbol,
+        from: 0,
+        to: w.len(),
+    };
+    w.len() <= meaning::NAME_BYTES && text::token(w, tab, 0) == whole && !words::is_reserved(w)
 }
 
 // Whether the name under number k has no more bytes than its places, and is in form.
@@ -182,7 +180,15 @@ fn record_fine(
         return false;
     }
     names::index(names, lens, hashes, heads, nexts, n);
-    names::different(names, lens, hashes, heads, nexts, n)
+    let declared = Names {
+        letters: names,
+        lens,
+        hashes,
+        heads,
+        nexts,
+        count: n,
+    };
+    declared.different()
 }
 
 // Whether everything has room, the answer too.
@@ -237,7 +243,23 @@ fn stands(
     ensures { (out : List ℕ) → StandTested (lent counts xs.now ys.now cs.now days.now levels.now wxs.now wys.now wcs.now notes names.now lens.now out) result heads.new nexts.new hashes.new name_heads.new name_nexts.new }
 {
     if !sound::is_sound(
-        counts, xs, ys, cs, days, levels, wxs, wys, wcs, heads, nexts,
+        counts,
+        lent::Tables {
+            rules: lent::Rules {
+                xs: xs,
+                ys: ys,
+                cs: cs,
+            },
+            days: days,
+            levels: levels,
+            watched: lent::Rules {
+                xs: wxs,
+                ys: wys,
+                cs: wcs,
+            },
+        },
+        heads,
+        nexts,
     ) {
         return false;
     }
@@ -246,7 +268,7 @@ fn stands(
     )
 }
 
-// The number of the first refusal before those of the text: SHORT, DAMAGED; else 0.
+// The first refusal before those of the text: SHORT, DAMAGED.
 fn verdict(
     tab: &[u8; text::PLACES],
     counts: Counts,
@@ -267,23 +289,23 @@ fn verdict(
     hashes: &mut [u16],
     name_heads: &mut [u16],
     name_nexts: &mut [u16],
-) -> u32
+) -> Result<(), Refusal>
     requires tab_value { tab.now ≡ TABLE }
     requires in_bounds { STEPS ≤ length heads.old }
     requires in_bounds_2 { RULES ≤ length nexts.old }
     requires index_room { IndexRoom hashes.old name_heads.old name_nexts.old }
-    ensures { Entered (lent counts xs.now ys.now cs.now days.now levels.now wxs.now wys.now wcs.now notes names.now lens.now out.now) result heads.new nexts.new hashes.new name_heads.new name_nexts.new }
+    ensures { Entered (lent counts xs.now ys.now cs.now days.now levels.now wxs.now wys.now wcs.now notes names.now lens.now out.now) (number_told result) heads.new nexts.new hashes.new name_heads.new name_nexts.new }
 {
     if !command_room(xs, ys, cs, days, levels, wxs, wys, wcs, names, lens, out) {
-        return meaning::SHORT;
+        return Err(Refusal::Short);
     }
     if !stands(
         tab, counts, notes, xs, ys, cs, days, levels, wxs, wys, wcs, names, lens, heads, nexts,
         hashes, name_heads, name_nexts,
     ) {
-        return meaning::DAMAGED;
+        return Err(Refusal::Damaged);
     }
-    0
+    Ok(())
 }
 
 // What a command gives back: the refusal's number, 0 where it was carried out; the bytes read and the bytes written; the counts and the record after it. Texts
@@ -327,7 +349,7 @@ fn command_by(
     let mut hashes = [0u16; meaning::STEPS];
     let mut name_heads = [0u16; names::BUCKETS];
     let mut name_nexts = [0u16; meaning::STEPS];
-    let number = verdict(
+    let tested = verdict(
         tab,
         counts,
         notes,
@@ -348,20 +370,23 @@ fn command_by(
         &mut name_heads,
         &mut name_nexts,
     );
-    if 0 < number {
-        return CommandReply {
-            counts: counts,
-            notes: notes,
-            number: number,
-            read: 0,
-            written: 0,
-        };
+    match tested {
+        Ok(()) => {}
+        Err(refusal) => {
+            return CommandReply {
+                counts,
+                notes,
+                number: refusal.number(),
+                read: 0,
+                written: 0,
+            };
+        }
     }
     let mut row_xs = [0u16; meaning::RULES];
     let mut row_ys = [0u16; meaning::RULES];
     let mut row_cs = [0i32; meaning::RULES];
     // No days are kept, since nothing is known of the order in which the rules were added.
-    let mut kept = [0u32; 0];
+    let kept = &mut [];
     let carried = script_command::carry(
         text,
         tab,
@@ -377,7 +402,7 @@ fn command_by(
         levels,
         &mut heads,
         &mut nexts,
-        &mut kept,
+        kept,
         names,
         lens,
         &mut hashes,

@@ -8,8 +8,8 @@ use Rattle.meaning.specs.Bounds.{DONE}
 use Rattle.meaning.specs.Promise.{First}
 use Rattle.reading.specs.declared.Kind.{Kind}
 use Rattle.reading.specs.Tree.{Command}
-use Rattle.reading.specs.Reading.{Why, Read, reading}
-use Rattle.reading.specs.Heard.{why_of, kind_of}
+use Rattle.reading.specs.Reading.{Read, reading}
+use Rattle.reading.specs.Heard.{Came, kind_of}
 use Rattle.reading.proofs.Begun.{read_spans, read_within}
 use Rattle.script_meaning.specs.declared.Notes.{Notes}
 use Rattle.meaning.specs.declared.Counts.{Counts}
@@ -22,6 +22,7 @@ use Rattle.script_meaning.proofs.Keeping.{other_fine}
 use Rattle.script_telling.specs.Telling.{is_exit}
 use Rattle.script_command.specs.declared.Carried.{Carried}
 use Rattle.script_command.specs.Carrying.{Maintained, Unread, Carries}
+use Rattle.levels.specs.declared.Row.{Row}
 
 -- What is lent after a text whose reading stopped or that was refused: the counts and the record that are given, and other bytes for the answer.
 abbrev pub given_back : Lent → Counts → Notes → List ℕ → Lent
@@ -39,7 +40,7 @@ given_same l counts notes out counts_are notes_are = rw (counts_are, notes_are) 
 
 -- What holds between commands, with other bytes for the answer.
 out_maintained :
-    (e : ℕ) (l : Lent) (out heads nexts kept hashes name-heads name-nexts : List ℕ) → Maintained e l heads nexts kept hashes name-heads name-nexts →
+    (e : ℕ) (l : Lent) (out heads nexts : List ℕ) (kept : List Row) (hashes name-heads name-nexts : List ℕ) → Maintained e l heads nexts kept hashes name-heads name-nexts →
     Maintained e (with_out out l) heads nexts kept hashes name-heads name-nexts
 out_maintained e l out heads nexts kept hashes name-heads name-nexts m =
     let fine = other_fine out l (record { room = m.room; sound = m.sound }) in
@@ -77,17 +78,15 @@ module _ (s : List ℕ) (k : ℕ) (l : Lent) (r : Carried) (out : List ℕ) (u :
   }
 
   pub unread_maintained :
-      (e : ℕ) (heads nexts kept hashes name-heads name-nexts : List ℕ) → Maintained e l heads nexts kept hashes name-heads name-nexts →
+      (e : ℕ) (heads nexts : List ℕ) (kept : List Row) (hashes name-heads name-nexts : List ℕ) → Maintained e l heads nexts kept hashes name-heads name-nexts →
       Maintained e after heads nexts kept hashes name-heads name-nexts
   unread_maintained e heads nexts kept hashes name-heads name-nexts m =
       subst (λ (x : Lent). Maintained e x heads nexts kept hashes name-heads name-nexts) (sym same) (out_maintained e l out heads nexts kept hashes name-heads name-nexts m)
 
--- Reading came to a command where it did not stop.
-pub command_read : (r : Read Command) → why_of r ≡ 0 → (d : Command) × ((i : ℕ) × (r ≡ Read.got d i))
-command_read (Read.got d i) is = (d, (i, refl))
-command_read (Read.stop Why.other i) is = absurd (omega (arith, is))
-command_read (Read.stop Why.wrong i) is = absurd (omega (arith, is))
-command_read (Read.stop Why.size i) is = absurd (omega (arith, is))
+-- What was read of a text that a command was told of.
+pub command_read : (r : Read Command) (P : Command → ℕ → Type 0) → Came r P → (d : Command) × ((i : ℕ) × ((r ≡ Read.got d i) × P d i))
+command_read (Read.got d i) P p = (d, (i, (refl, p)))
+command_read (Read.stop w i) P p = absurd p
 
 -- The kind of exit is that of exit alone.
 exit_kind : (d : Command) (i : ℕ) → is_exit (kind_of d) ≡ exits (Read.got d i)
@@ -121,7 +120,7 @@ module _ (s : List ℕ) (k : ℕ) (l : Lent) (d : Command) (i : ℕ) (is : readi
   }
 
   pub refused_maintained :
-      (r : Carried) → r.counts ≡ l.tables.counts → r.notes ≡ l.notes → (e : ℕ) (heads nexts kept hashes name-heads name-nexts : List ℕ) →
+      (r : Carried) → r.counts ≡ l.tables.counts → r.notes ≡ l.notes → (e : ℕ) (heads nexts : List ℕ) (kept : List Row) (hashes name-heads name-nexts : List ℕ) →
       Maintained e l heads nexts kept hashes name-heads name-nexts → Maintained e (given_back l r.counts r.notes l.out) heads nexts kept hashes name-heads name-nexts
   refused_maintained r counts_are notes_are e heads nexts kept hashes name-heads name-nexts m =
       subst (λ (x : Lent). Maintained e x heads nexts kept hashes name-heads name-nexts) (sym (given_same l r.counts r.notes l.out counts_are notes_are)) m

@@ -1,17 +1,15 @@
 -- A text whose reading stopped: which need of it is not met, by why it stopped.
-use Prim.Native.Nat.{ℕ, ◌≤◌}
+use Prim.Native.Nat.{ℕ, ◌<◌}
 use native.Mathlib.Omega.{arith}
-use native.Mathlib.Decide.{dec_le}
 use mathlib.Core.Path.{◌≡◌, refl, sym, subst}
 use mathlib.Core.List.{List}
-use mathlib.Core.Logic.{◌⊎◌, inl, inr}
+use mathlib.Core.Logic.{inl, inr}
 use Rattle.meaning.specs.declared.Counts.{Counts}
 use Rattle.meaning.specs.Bounds.{DONE, SYNTAX, SIZE}
 use Rattle.meaning.specs.Promise.{First}
 use Rattle.span.specs.Span.{span}
 use Rattle.reading.specs.Tree.{Command}
 use Rattle.reading.specs.Reading.{Why, Read, reading}
-use Rattle.reading.specs.Heard.{why_of}
 use Rattle.script_meaning.specs.declared.Notes.{Notes}
 use Rattle.script_meaning.specs.Record.{Lent}
 use Rattle.script_meaning.specs.Commands.{read_needs, text_needs}
@@ -19,46 +17,23 @@ use Rattle.script_command.specs.declared.Carried.{Carried}
 use Rattle.script_command.specs.Carrying.{Unread}
 
 -- Where the text begins with no command, or departs from the form, SYNTAX stands against it.
-departs : (r : Read Command) (l : Lent) → why_of r ≡ 2 → First (read_needs r l) SYNTAX
-departs (Read.got d i) l is = absurd (omega (arith, is))
-departs (Read.stop Why.other i) l is = absurd (omega (arith, is))
-departs (Read.stop Why.wrong i) l is = inl (refl, λ never. never)
-departs (Read.stop Why.size i) l is = absurd (omega (arith, is))
+pub no_command : (s : List ℕ) (l : Lent) → span s ≡ 0 → First (text_needs s l) SYNTAX
+no_command s l none = inl (refl, λ some. omega (arith, none, some))
 
-pub no_form : (s : List ℕ) (l : Lent) → (span s ≡ 0) ⊎ (why_of (reading s) ≡ 2) → First (text_needs s l) SYNTAX
-no_form s l (inl none) = inl (refl, λ some. omega (arith, none, some))
-no_form s l (inr is) = by_span (dec_le 1 (span s))
-  where
-    by_span : Dec (1 ≤ span s) → First (text_needs s l) SYNTAX
-    by_span (yes some) = inr (some, departs (reading s) l is)
-    by_span (no none) = inl (refl, none)
+-- What a text that begins with a command needs, by how the reading of it stopped.
+needed : (s : List ℕ) (l : Lent) (r : Read Command) (g : ℕ) → 0 < span s → reading s ≡ r → First (read_needs r l) g → First (text_needs s l) g
+needed s l r g some is first = inr (omega (arith, some), subst (λ (x : Read Command). First (read_needs x l) g) (sym is) first)
+
+pub no_form : (s : List ℕ) (l : Lent) (i : ℕ) → 0 < span s → reading s ≡ Read.stop Why.wrong i → First (text_needs s l) SYNTAX
+no_form s l i some is = needed s l (Read.stop Why.wrong i) SYNTAX some is (inl (refl, λ never. never))
 
 -- Where it has a size fault, SIZE.
-oversized : (r : Read Command) (l : Lent) → why_of r ≡ 3 → First (read_needs r l) SIZE
-oversized (Read.got d i) l is = absurd (omega (arith, is))
-oversized (Read.stop Why.other i) l is = absurd (omega (arith, is))
-oversized (Read.stop Why.wrong i) l is = absurd (omega (arith, is))
-oversized (Read.stop Why.size i) l is = inl (refl, λ never. never)
-
-pub too_large : (s : List ℕ) (l : Lent) → (span s ≡ 0 → ⊥) → why_of (reading s) ≡ 3 → First (text_needs s l) SIZE
-too_large s l some is = inr (omega (arith, some), oversized (reading s) l is)
+pub too_large : (s : List ℕ) (l : Lent) (i : ℕ) → 0 < span s → reading s ≡ Read.stop Why.size i → First (text_needs s l) SIZE
+too_large s l i some is = needed s l (Read.stop Why.size i) SIZE some is (inl (refl, λ never. never))
 
 -- Where it is unsupported, nothing.
-abbrev Other : Read Command → Type 0
-Other r = ((l : Lent) → First (read_needs r l) DONE) × ((i : ℕ) × (r ≡ Read.stop Why.other i))
-
-other_else : (r : Read Command) → (why_of r ≡ 0 → ⊥) → (why_of r ≡ 2 → ⊥) → (why_of r ≡ 3 → ⊥) → Other r
-other_else (Read.got d i) some wrong size = absurd (some refl)
-other_else (Read.stop Why.other i) some wrong size = (λ l. refl, (i, refl))
-other_else (Read.stop Why.wrong i) some wrong size = absurd (wrong refl)
-other_else (Read.stop Why.size i) some wrong size = absurd (size refl)
-
-pub unsupported_else :
-    (s : List ℕ) → (span s ≡ 0 → ⊥) → (why_of (reading s) ≡ 0 → ⊥) → (why_of (reading s) ≡ 2 → ⊥) → (why_of (reading s) ≡ 3 → ⊥) →
-    ((l : Lent) → First (text_needs s l) DONE) × ((i : ℕ) × (reading s ≡ Read.stop Why.other i))
-unsupported_else s begins some wrong size =
-    let other = other_else (reading s) some wrong size in
-    (λ l. inr (omega (arith, begins), other.0 l), other.1)
+pub unsupported_else : (s : List ℕ) (l : Lent) (i : ℕ) → 0 < span s → reading s ≡ Read.stop Why.other i → First (text_needs s l) DONE
+unsupported_else s l i some is = needed s l (Read.stop Why.other i) DONE some is refl
 
 -- A refusal of it.
 pub unread_refused :

@@ -25,6 +25,7 @@ use Rattle.script_meaning.specs.Whole.{exits}
 use Rattle.asserts.specs.Within.{Within}
 use Rattle.script_moving.specs.Moving.{Movable, OrderKept}
 use Rattle.script_command.specs.declared.Carried.{Carried}
+use Rattle.levels.specs.declared.Row.{Row}
 
 -- What a command reads and writes, as what is lent to a script call: no command reads or writes a watched rule, so they are idle here.
 abbrev pub in_hand : Counts → List ℕ → List ℕ → List ℤ → List ℕ → List ℕ → Notes → List ℕ → List ℕ → List ℕ → Lent
@@ -38,7 +39,7 @@ in_hand counts xs ys cs days levels notes names lens out = record {
 
 -- What holds between commands: room and soundness, the chains of the rules, the days kept of the open marks, the rules in order where days are kept, the index of the names; and the
 -- rules held speak of steps below e alone.
-pub record Maintained (e : ℕ) (l : Lent) (heads nexts kept hashes name-heads name-nexts : List ℕ) : Type 0 where
+pub record Maintained (e : ℕ) (l : Lent) (heads nexts : List ℕ) (kept : List Row) (hashes name-heads name-nexts : List ℕ) : Type 0 where
   pub room : StartRoom l
   pub sound : ScriptSound l
   pub chained : LentChains l.tables.counts.steps (held_by l.tables.levels) l.tables.rules.firsts heads nexts

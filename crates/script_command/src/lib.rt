@@ -8,14 +8,15 @@ ghost use Rattle.text.specs.Table.{TABLE};
 ghost use Rattle.lent.specs.Lent.{columns};
 ghost use Rattle.reading.specs.Tree.{Command};
 ghost use Rattle.reading.specs.Reading.{Read, reading};
-ghost use Rattle.reading.specs.Heard.{why_of};
+ghost use Rattle.reading.specs.Heard.{stopped};
 ghost use Rattle.script_meaning.specs.Effect.{Does};
 ghost use Rattle.script_meaning.specs.Commands.{command_needs};
 ghost use Rattle.script_telling.specs.Telling.{is_exit};
 ghost use Rattle.script_command.specs.Carrying.{in_hand, Maintained, Ready, Heeded, Carries, Unread};
 
 use meaning::Counts;
-use reading::Kind;
+use names::Names;
+use reading::{Kind, Stop};
 use script_meaning::Notes;
 
 // What a text came to: the refusal's number, 0 where its command was carried out; the counts and the record after it; how many bytes were read and written; whether it
@@ -47,7 +48,7 @@ fn perform(
     levels: &mut [u8],
     heads: &mut [u16],
     nexts: &mut [u16],
-    kept: &mut [u32],
+    kept: &mut [levels::Row],
     names: &mut [u8],
     lens: &mut [u8],
     hashes: &mut [u16],
@@ -101,11 +102,11 @@ fn perform(
     }
 }
 
-// What becomes of a text whose reading stopped, and why: SYNTAX where it begins with no command, since that comes first; SYNTAX, SIZE, or `unsupported` is printed.
+// What becomes of a text whose reading stopped so: SYNTAX where it begins with no command, since that comes first; SYNTAX, SIZE, or `unsupported` is printed.
 fn unread(
     s: &[u8],
     tab: &[u8; text::PLACES],
-    why: u8,
+    stop: Stop,
     counts: Counts,
     notes: Notes,
     out: &mut [u8],
@@ -113,22 +114,22 @@ fn unread(
 ) -> Carried
     requires tab_value { tab.now ≡ TABLE }
     requires to_in_bounds { to + ROOM ≤ length out.old }
-    ensures { (why ≡ 0 → ⊥) → why ≡ why_of (reading s.now) → Unread s.now to counts notes out.old result out.new }
+    ensures { reading s.now ≡ stopped stop → Unread s.now to counts notes out.old result out.new }
 {
-    let size = span::span_of(s, tab);
-    if size == 0 || why == reading::WRONG {
+    let Some(size) = span::span_of(s, tab) else {
         return refused(meaning::SYNTAX, counts, notes);
-    }
-    if why == reading::SIZE {
-        return refused(meaning::SIZE, counts, notes);
-    }
-    Carried {
-        number: 0,
-        counts: counts,
-        notes: notes,
-        read: size,
-        written: script_telling::print_unsupported(out, to),
-        ended: false,
+    };
+    match stop {
+        Stop::Wrong(_) => refused(meaning::SYNTAX, counts, notes),
+        Stop::Size(_) => refused(meaning::SIZE, counts, notes),
+        Stop::Unsupported(_) => Carried {
+            number: 0,
+            counts,
+            notes,
+            read: size,
+            written: script_telling::print_unsupported(out, to),
+            ended: false,
+        },
     }
 }
 
@@ -163,7 +164,7 @@ pub fn carry(
     levels: &mut [u8],
     heads: &mut [u16],
     nexts: &mut [u16],
-    kept: &mut [u32],
+    kept: &mut [levels::Row],
     names: &mut [u8],
     lens: &mut [u8],
     hashes: &mut [u16],
@@ -190,20 +191,23 @@ pub fn carry(
         (in_hand result.counts xs.new ys.new cs.new days.new levels.new result.notes names.new lens.new out.new)
         heads.new nexts.new kept.new hashes.new name_heads.new name_nexts.new }
 {
-    let n = notes.names as usize;
-    let h = reading::read_command(
-        s, tab, n, names, lens, hashes, name_heads, name_nexts, row_xs, row_ys, row_cs,
-    );
-    if h.why != reading::GOT {
-        return unread(s, tab, h.why, counts, notes, out, to);
-    }
-    let c = h.kind;
-    let number = judging::judge(c, h.fault, counts, notes);
-    if 0 < number {
-        return refused(number, counts, notes);
+    let declared = Names {
+        letters: names,
+        lens,
+        hashes,
+        heads: name_heads,
+        nexts: name_nexts,
+        count: notes.names as usize,
+    };
+    let h = match reading::read_command(s, tab, declared, row_xs, row_ys, row_cs) {
+        Ok(h) => h,
+        Err(stop) => return unread(s, tab, stop, counts, notes, out, to),
+    };
+    if let Err(refusal) = judging::judge(h.kind, h.fault, counts, notes) {
+        return refused(refusal.number(), counts, notes);
     }
     perform(
-        c, s, h.at, row_xs, row_ys, row_cs, counts, notes, xs, ys, cs, days, levels, heads, nexts,
-        kept, names, lens, hashes, name_heads, name_nexts, out, to, e,
+        h.kind, s, h.past, row_xs, row_ys, row_cs, counts, notes, xs, ys, cs, days, levels, heads,
+        nexts, kept, names, lens, hashes, name_heads, name_nexts, out, to, e,
     )
 }

@@ -11,8 +11,7 @@ use Rattle.meaning.specs.Tables.{at}
 use Rattle.meaning.specs.Promise.{Need, First}
 use Rattle.meaning.proofs.Below.{both?, not?, leads?, in_words?, all_below?}
 use Rattle.meaning.proofs.Decided.{in_amount?, room?, sound?}
-use Rattle.text.specs.declared.Tok.{Tok}
-use Rattle.text.specs.Lexicon.{SYMBOL, tok, token_at, same_bytes}
+use Rattle.text.specs.Lexicon.{Tok, SYMBOL, tok, token_at, same_bytes}
 use Rattle.text.proofs.Equal.{same_equal, equal_same}
 use Rattle.words.specs.Words.{reserved}
 use Rattle.span.specs.Span.{span}

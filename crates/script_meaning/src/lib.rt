@@ -6,8 +6,6 @@ ghost use Rattle.meaning.specs.Bounds.{STEPS as STEPS_SPEC};
 ghost use Rattle.script_meaning.specs.Record.{no_notes};
 ghost use Rattle.script_meaning.specs.Effect.{forgotten, at_level, one_named, logic_set, sat_told};
 
-use meaning::Counts;
-
 // A script has this many steps, as many as there can be.
 pub const STEPS: u32 = meaning::STEPS as u32;
 
@@ -45,10 +43,9 @@ pub fn at_level(notes: Notes, broken: u32) -> Notes
     ensures { result ≡ at_level broken notes }
 {
     Notes {
-        names: notes.names,
-        logic: notes.logic,
-        broken: broken,
+        broken,
         sat: false,
+        ..notes
     }
 }
 
@@ -59,9 +56,8 @@ pub fn one_named(notes: Notes) -> Notes
 {
     Notes {
         names: notes.names + 1,
-        logic: notes.logic,
-        broken: notes.broken,
         sat: false,
+        ..notes
     }
 }
 
@@ -70,10 +66,9 @@ pub fn logic_set(notes: Notes) -> Notes
     ensures { result ≡ logic_set notes }
 {
     Notes {
-        names: notes.names,
         logic: true,
-        broken: notes.broken,
         sat: false,
+        ..notes
     }
 }
 
@@ -82,17 +77,7 @@ pub fn sat_told(notes: Notes) -> Notes
     ensures { result ≡ sat_told notes }
 {
     Notes {
-        names: notes.names,
-        logic: notes.logic,
-        broken: notes.broken,
         sat: notes.broken == 0,
+        ..notes
     }
-}
-
-// The number given back, with the counts and the record as they are after the call.
-#[derive(Drop)]
-pub struct ScriptReply {
-    pub counts: Counts,
-    pub notes: Notes,
-    pub number: u32,
 }

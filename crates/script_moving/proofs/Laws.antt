@@ -24,6 +24,7 @@ use Rattle.asserts.specs.Rows.{rows_from, RowsFine}
 use Rattle.asserts.proofs.Reach.{wider, AllWithin, added_within}
 use Rattle.asserts.proofs.Rows.{rows_length, rows_each}
 use Rattle.script_moving.specs.Moving.{adds, pushes, pops, Movable, Moves, OrderKept}
+use Rattle.levels.specs.declared.Row.{Row}
 
 -- What adding a command's rules leaves.
 pub record Held (t u : Tables) : Type 0 where
@@ -49,7 +50,7 @@ module _
       record { border = record { room = kept.0.room; sound = kept.0.sound }; grown = kept.1 }
 
   -- The rules are in order still where they must be.
-  pub order_stays : (kept : List ℕ) → OrderKept t.counts.rules t.levels kept → OrderKept u.counts.rules u.levels kept
+  pub order_stays : (kept : List Row) → OrderKept t.counts.rules t.levels kept → OrderKept u.counts.rules u.levels kept
   order_stays kept ordered some = adds_orderly (rows_from rows 0 k) t u clash before each few added (ordered some)
 
   -- They speak of the steps that they must.
@@ -58,7 +59,7 @@ module _
 
 -- The days that were kept of the open marks are kept still: a new rule has a level that is above theirs.
 pub days_stay :
-    (t u : Tables) (kept : List ℕ) → Grown t u → KeptDays (rules_of t) t.counts.steps t.counts.marks t.levels kept →
+    (t u : Tables) (kept : List Row) → Grown t u → KeptDays (rules_of t) t.counts.steps t.counts.marks t.levels kept →
     KeptDays (rules_of u) u.counts.steps u.counts.marks u.levels kept
 days_stay t u kept g k =
     rw (g.same_steps, g.same_open)

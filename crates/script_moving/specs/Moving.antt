@@ -7,6 +7,7 @@ use Rattle.reading.specs.declared.Kind.{Kind}
 use Rattle.levels.specs.Levels.{with_marks, Popped, InOrder}
 use Rattle.script_meaning.specs.Effect.{AddsAll}
 use Rattle.asserts.specs.Rows.{rows_from, RowsFine}
+use Rattle.levels.specs.declared.Row.{Row}
 
 -- How many rows are added as rules: none while a level counts as contradictory.
 abbrev pub adds : Kind → ℕ → ℕ
@@ -54,5 +55,5 @@ Moves c broken rows before clash after =
     (t : Tables) × (AddsAll (rows_from rows 0 (adds c broken)) before clash t × Popped (pops c) (with_marks (pushes c) t) after)
 
 -- Where days are kept beside the tables, the m rules held stand in the order in which they were added: a pop then frees the newest places.
-abbrev pub OrderKept : ℕ → List ℕ → List ℕ → Type 0
+abbrev pub OrderKept : ℕ → List ℕ → List Row → Type 0
 OrderKept m levels kept = 0 < length kept → InOrder m levels

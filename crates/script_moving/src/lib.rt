@@ -16,67 +16,34 @@ use meaning::Counts;
 use reading::Kind;
 
 // What a command asks of the tables: how many rows are added, and how many marks are set and dropped.
-#[derive(Drop)]
+#[derive(Clone, Copy)]
 struct Work {
     rows: usize,
     push: usize,
     pop: usize,
 }
 
+const NONE: Work = Work {
+    rows: 0,
+    push: 0,
+    pop: 0,
+};
+
 // The work of a command of this kind.
 fn work_of(c: Kind, broken: u32) -> Work
     ensures { (result.rows ≡ adds c broken) × ((result.push ≡ pushes c) × (result.pop ≡ pops c)) }
 {
     match c {
-        Kind::Assert(k) => {
-            if broken == 0 {
-                return Work {
-                    rows: k,
-                    push: 0,
-                    pop: 0,
-                };
-            }
-            Work {
-                rows: 0,
-                push: 0,
-                pop: 0,
-            }
-        }
+        Kind::Assert(k) if broken == 0 => Work { rows: k, ..NONE },
         Kind::Push(n) => Work {
-            rows: 0,
             push: n as usize,
-            pop: 0,
+            ..NONE
         },
         Kind::Pop(n) => Work {
-            rows: 0,
-            push: 0,
             pop: n as usize,
+            ..NONE
         },
-        Kind::SetLogic => Work {
-            rows: 0,
-            push: 0,
-            pop: 0,
-        },
-        Kind::Declare(_, _) => Work {
-            rows: 0,
-            push: 0,
-            pop: 0,
-        },
-        Kind::CheckSat => Work {
-            rows: 0,
-            push: 0,
-            pop: 0,
-        },
-        Kind::GetValue(_) => Work {
-            rows: 0,
-            push: 0,
-            pop: 0,
-        },
-        Kind::Exit => Work {
-            rows: 0,
-            push: 0,
-            pop: 0,
-        },
+        _ => NONE,
     }
 }
 
@@ -95,7 +62,7 @@ pub fn move_tables(
     levels: &mut [u8],
     heads: &mut [u16],
     nexts: &mut [u16],
-    kept: &mut [u32],
+    kept: &mut [levels::Row],
     e: u32,
 ) -> asserts::Added
     requires movable { Movable c broken e (columns row_xs.now row_ys.now row_cs.now) counts }

@@ -4,8 +4,7 @@ use native.Mathlib.Omega.{arith}
 use mathlib.Core.Path.{◌≡◌, ap, ◌∙◌}
 use mathlib.Core.List.{List}
 use Rattle.meaning.specs.Bounds.{ROOM}
-use Rattle.text.specs.declared.Tok.{Tok}
-use Rattle.text.specs.Lexicon.{END, token_at}
+use Rattle.text.specs.Lexicon.{END, Tok, token_at}
 use Rattle.text.proofs.Tokens.{token_placed}
 use Rattle.script_run.specs.Stepping.{CommandThere}
 

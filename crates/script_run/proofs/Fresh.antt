@@ -19,6 +19,7 @@ use lib.IntN.{ℤ, pos}
 use Rattle.meaning.specs.declared.Counts.{Counts}
 use Rattle.script_meaning.specs.declared.Notes.{Notes}
 use Rattle.script_command.specs.Carrying.{in_hand, Maintained}
+use Rattle.levels.specs.declared.Row.{Row}
 
 -- The counts and the record at the start.
 abbrev pub first_counts : Counts
@@ -28,7 +29,7 @@ abbrev pub first_notes : Notes
 first_notes = no_notes
 
 pub fresh_maintained :
-    (xs ys : List ℕ) (cs : List ℤ) (days levels names lens out heads nexts kept hashes name-heads name-nexts : List ℕ) →
+    (xs ys : List ℕ) (cs : List ℤ) (days levels names lens out heads nexts : List ℕ) (kept : List Row) (hashes name-heads name-nexts : List ℕ) →
     Fresh (in_hand first_counts xs ys cs days levels first_notes names lens out) →
     Empty STEPS heads → STEPS ≤ length heads → RULES ≤ length nexts → ((k : ℕ) → k < RULES → at nexts k ≡ OFF) → IndexRoom hashes name-heads name-nexts → Empty BUCKETS name-heads →
     Maintained 0 (in_hand first_counts xs ys cs days levels first_notes names lens out) heads nexts kept hashes name-heads name-nexts
@@ -74,7 +75,7 @@ unfolding idle
 first_is out = refl
 
 -- Tables of zeros are sound, with the links and the index of the names that are lent beside them, and any table for kept days: no mark is open.
-pub fresh_tables : (out : List ℕ) {kept : List ℕ} → Maintained 0 (first_hand out) (zeros STEPS) all_off kept (zeros STEPS) (zeros BUCKETS) (zeros STEPS)
+pub fresh_tables : (out : List ℕ) {kept : List Row} → Maintained 0 (first_hand out) (zeros STEPS) all_off kept (zeros STEPS) (zeros BUCKETS) (zeros STEPS)
 fresh_tables out {kept} =
     fresh_maintained (zeros RULES) (zeros RULES) (replicate RULES (pos 0)) (zeros STEPS) (zeros RULES) (zeros (NAME_BYTES * STEPS)) (zeros STEPS) out (zeros STEPS) all_off kept
     (zeros STEPS) (zeros BUCKETS) (zeros STEPS)
@@ -89,5 +90,5 @@ module _ {c : Counts} {n : Notes} (counts_are : c ≡ first_counts) (notes_are :
   pub hand_is : hand c n out ≡ blank out
   hand_is = hand_first ∙ first_is out
 
-  pub hand_fresh : {kept : List ℕ} → Maintained n.names (hand c n out) (zeros STEPS) all_off kept (zeros STEPS) (zeros BUCKETS) (zeros STEPS)
+  pub hand_fresh : {kept : List Row} → Maintained n.names (hand c n out) (zeros STEPS) all_off kept (zeros STEPS) (zeros BUCKETS) (zeros STEPS)
   hand_fresh {kept} = subst (λ (l : Lent). Maintained l.notes.names l (zeros STEPS) all_off kept (zeros STEPS) (zeros BUCKETS) (zeros STEPS)) (sym hand_first) (fresh_tables out)

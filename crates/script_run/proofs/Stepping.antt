@@ -24,10 +24,11 @@ use Rattle.script_run.specs.Stepping.{CommandThere, Halts, Settled, GoesOn, Wait
 use Rattle.script_meaning.proofs.Granted.{text_met}
 use Rattle.script_meaning.proofs.Printing.{printed_room}
 use Rattle.script_meaning.proofs.Refusing.{never_short}
+use Rattle.levels.specs.declared.Row.{Row}
 
 -- Other bytes for the answers, and more steps that may be spoken of.
 pub maintained_out :
-    (e d : ℕ) (l : Lent) (o heads nexts kept hashes name-heads name-nexts : List ℕ) → e ≤ d → d ≤ l.tables.counts.steps →
+    (e d : ℕ) (l : Lent) (o heads nexts : List ℕ) (kept : List Row) (hashes name-heads name-nexts : List ℕ) → e ≤ d → d ≤ l.tables.counts.steps →
     Maintained e l heads nexts kept hashes name-heads name-nexts → Maintained d (with_out o l) heads nexts kept hashes name-heads name-nexts
 maintained_out e d l o heads nexts kept hashes name-heads name-nexts more there m = record {
   room = record { tables_room = m.room.tables_room; names_room = m.room.names_room; lens_room = m.room.lens_room };

@@ -1,11 +1,12 @@
 -- One command of a script: how it begins, how it is settled, and what it says of the script from there on.
-use Rattle.std.specs.Prelude.{ℕ, ◌+◌, ◌≤◌, ◌<◌, ◌≡◌, Bool, true, false, List, length}
+use Rattle.std.specs.Prelude.{ℕ, ◌+◌, ◌≤◌, ◌<◌, ◌≡◌, Bool, true, false, List, length, Result, Ok, Err, Option, Some, None}
+use Rattle.meaning.specs.declared.Refusal.{Refusal}
+use Rattle.meaning.specs.Refusals.{number_of}
 use Rattle.meaning.specs.Bounds.{ROOM, DONE, SHORT}
 use Rattle.text.specs.Lexicon.{END, token_at}
 use Rattle.write.specs.Written.{over}
 use Rattle.script_meaning.specs.Record.{Lent}
 use Rattle.script_meaning.specs.Whole.{error_line, Plays, blank}
-use Rattle.script_run.specs.declared.Begun.{Begun}
 use Rattle.script_run.specs.Reaching.{Reaches}
 
 -- Something stands after place i, from place `from` on; n bytes are lent, and k of them written.
@@ -21,9 +22,11 @@ pub data Halts (s : List ℕ) (i n k : ℕ) : ℕ → Type 0 where
   over_there : (token_at s i).kind ≡ END → Halts s i n k DONE
   short_there : ((token_at s i).kind ≡ END → ⊥) → n < k + ROOM → Halts s i n k SHORT
 
-pub record Begins (s : List ℕ) (i n k : ℕ) (b : Begun) : Type 0 where
-  pub when_ready : b.ready ≡ true → CommandThere s i n k b.from
-  pub when_not : b.ready ≡ false → Halts s i n k b.number
+-- The answer tells where a command begins; that there is none, at the end of the text; or the refusal with which the script ends.
+abbrev pub Begins : List ℕ → (i n k : ℕ) → Result (Option ℕ) Refusal → Type 0
+Begins s i n k (Ok (Some from)) = CommandThere s i n k from
+Begins s i n k (Ok None) = Halts s i n k DONE
+Begins s i n k (Err r) = Halts s i n k (number_of r)
 
 -- A refusal was printed from place k on, where there is one; e is the place past what is written, w bytes where there is none; it is at most ROOM bytes on.
 pub record Settled (out : List ℕ) (k g w : ℕ) (out' : List ℕ) (e : ℕ) : Type 0 where

@@ -10,8 +10,9 @@ ghost use Rattle.script_command.specs.Carrying.{in_hand, Maintained};
 ghost use Rattle.script_run.specs.Reaching.{Advances};
 ghost use Rattle.script_run.specs.Stepping.{Begins, Settled, GoesOn, Steps, PlaysFresh};
 
-use meaning::Counts;
+use meaning::{Counts, Refusal};
 use script_meaning::Notes;
+use text::Kind;
 
 // How a script ended: the refusal's number, 0 where there was none, and how many bytes were written.
 #[derive(Drop)]
@@ -30,14 +31,6 @@ pub struct Played {
     pub paused: bool,
     pub counts: Counts,
     pub notes: Notes,
-}
-
-// Whether a command can be carried out from a place on, and where it begins; where none can, the number with which the script ends.
-#[derive(Drop)]
-struct Begun {
-    ready: bool,
-    number: u32,
-    from: usize,
 }
 
 // How one command ended: the refusal's number; whether the script goes on, or pauses for want of room, and from which place; how many bytes are written so far; the
@@ -63,33 +56,25 @@ fn put_error(out: &mut [u8], at: usize, number: u32) -> usize
     write::word(out, e, b"\")\n")
 }
 
-// Whether a command can be carried out from place at on, where to of len bytes are written: not at the end of the text (0), not where fewer than ROOM bytes
-// are left (SHORT).
-fn begin(s: &[u8], tab: &[u8; text::PLACES], at: usize, len: usize, to: usize) -> Begun
+// Where the next command begins from place at on, where to of len bytes are written; nowhere at the end of the text. SHORT where fewer than ROOM bytes are left.
+fn begin(
+    s: &[u8],
+    tab: &[u8; text::PLACES],
+    at: usize,
+    len: usize,
+    to: usize,
+) -> Result<Option<usize>, Refusal>
     requires { tab.now ≡ TABLE }
     ensures { Begins s.now at len to result }
 {
     let t = text::token(s, tab, at);
-    let from = t.from;
-    if t.kind == text::END {
-        return Begun {
-            ready: false,
-            number: 0,
-            from: from,
-        };
+    if t.kind == Kind::End {
+        return Ok(None);
     }
     if len < to || len - to < meaning::ROOM {
-        return Begun {
-            ready: false,
-            number: meaning::SHORT,
-            from: from,
-        };
+        return Err(Refusal::Short);
     }
-    Begun {
-        ready: true,
-        number: 0,
-        from: from,
-    }
+    Ok(Some(t.from))
 }
 
 // After a command: prints its refusal where there is one, and gives back the place past what is written.
@@ -131,7 +116,7 @@ fn one(
     levels: &mut [u8],
     heads: &mut [u16],
     nexts: &mut [u16],
-    kept: &mut [u32],
+    kept: &mut [levels::Row],
     names: &mut [u8],
     lens: &mut [u8],
     hashes: &mut [u16],
@@ -148,19 +133,32 @@ fn one(
     ensures steps { Steps s.now at (in_hand counts xs.old ys.old cs.old days.old levels.old notes names.old lens.old out.old) to result.number result.going result.paused result.at result.to (in_hand result.counts xs.new ys.new cs.new days.new levels.new result.notes names.new lens.new out.new) }
     ensures maintained_2 { Maintained result.notes.names (in_hand result.counts xs.new ys.new cs.new days.new levels.new result.notes names.new lens.new out.new) heads.new nexts.new kept.new hashes.new name_heads.new name_nexts.new }
 {
-    let b = begin(s, tab, at, out.len(), to);
-    if !b.ready {
-        return Step {
-            number: b.number,
-            going: false,
-            paused: b.number == meaning::SHORT,
-            at: at,
-            to: to,
-            counts: counts,
-            notes: notes,
-        };
-    }
-    let from = b.from;
+    let from = match begin(s, tab, at, out.len(), to) {
+        Ok(Some(from)) => from,
+        Ok(None) => {
+            return Step {
+                number: meaning::DONE,
+                going: false,
+                paused: false,
+                at,
+                to,
+                counts,
+                notes,
+            };
+        }
+        Err(refusal) => {
+            let number = refusal.number();
+            return Step {
+                number,
+                going: false,
+                paused: number == meaning::SHORT,
+                at,
+                to,
+                counts,
+                notes,
+            };
+        }
+    };
     let r = script_command::carry(
         &s[from..],
         tab,
@@ -218,7 +216,7 @@ pub fn advance(
     levels: &mut [u8],
     heads: &mut [u16],
     nexts: &mut [u16],
-    kept: &mut [u32],
+    kept: &mut [levels::Row],
     names: &mut [u8],
     lens: &mut [u8],
     hashes: &mut [u16],
@@ -276,7 +274,7 @@ fn play_fresh(s: &[u8], out: &mut [u8]) -> Ran
     let mut levels = [0u8; meaning::RULES];
     let mut heads = [0u16; meaning::STEPS];
     let mut nexts = [chains::OFF; meaning::RULES];
-    let mut kept = [0u32; levels::KEPT];
+    let mut kept = [levels::Row::empty(); levels::ROWS];
     let mut names = [0u8; names::SHELF];
     let mut lens = [0u8; meaning::STEPS];
     let mut hashes = [0u16; meaning::STEPS];

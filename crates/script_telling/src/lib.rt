@@ -45,16 +45,7 @@ pub fn notes_after(c: Kind, notes: Notes, clash: bool, marks: u32) -> Notes
 pub fn is_exit(c: Kind) -> bool
     ensures { result ≡ is_exit c }
 {
-    match c {
-        Kind::SetLogic => false,
-        Kind::Declare(_, _) => false,
-        Kind::Assert(_) => false,
-        Kind::Push(_) => false,
-        Kind::Pop(_) => false,
-        Kind::CheckSat => false,
-        Kind::GetValue(_) => false,
-        Kind::Exit => true,
-    }
+    matches!(c, Kind::Exit)
 }
 
 // Prints what the command prints, from place to of out on, and gives back how many bytes that is. The names asked for stand in the column, by their steps.
@@ -120,7 +111,7 @@ pub fn declare(
         names.new lens.new hashes.new heads.new nexts.new }
 {
     match c {
-        Kind::Declare(a, b) => names::declare(names, lens, hashes, heads, nexts, n, s, a, b),
+        Kind::Declare(a, b) => names::declare(names, lens, hashes, heads, nexts, n, &s[a..b]),
         Kind::SetLogic => {}
         Kind::Assert(_) => {}
         Kind::Push(_) => {}

@@ -1,5 +1,5 @@
 -- The list that is written holds the reason: the refused rule's number, then the least of the shortest ways from y to x.
-use Prim.Native.Nat.{ℕ, zero, suc, ◌+◌, ◌*◌, ◌-◌, ◌≤◌, ◌<◌}
+use Prim.Native.Nat.{ℕ, zero, suc, ◌+◌, ◌-◌, ◌≤◌, ◌<◌}
 use native.Mathlib.Omega.{arith}
 use mathlib.Core.Path.{◌≡◌, refl, sym, ◌∙◌, ap, subst}
 use mathlib.Core.List.{List, [], ◌∷◌}
@@ -7,15 +7,16 @@ use mathlib.Core.Logic.{inl, inr}
 use lib.ListN.{length, set, take}
 use lib.Seq.{get_or-set_same, get_or-set_other}
 use lib.IntN.{ℤ}
-use Rattle.meaning.specs.Bounds.{STEPS}
 use Rattle.meaning.specs.Tables.{at}
 use Rattle.meaning.specs.Rules.{rule, Reason}
 use Rattle.meaning.specs.Reckoning.{up, dn}
 use Rattle.lent.specs.Lent.{Biased, BIAS}
-use Rattle.chains.specs.Chains.{ChainsOf, number, linked, ChainsNow, Turnable}
-use Rattle.chains.proofs.Held.{refutes_same, filled_same}
+use Rattle.chains.specs.Chains.{linked, ChainsNow}
+use Rattle.chains.proofs.Holding.{refutes_same, filled_same}
 use Rattle.shortest.specs.Walks.{Open, Least, part}
-use Rattle.shortest.specs.Clauses.{LAYERS, rules, spares, Leading, Chained, Deepened, Traceable, Traced, Seekable, Fewest, Refuted, ReasonIn}
+use Rattle.chains.specs.declared.Held.{Held}
+use Rattle.shortest.specs.Layers.{Deep}
+use Rattle.shortest.specs.Clauses.{rules, spares, rules_of, spares_of, on, Chained, Traced, Fewest, Refuted, ReasonIn}
 use Rattle.shortest.proofs.Reasons.{some_way, least_reason}
 
 -- The first numbers of a list, by their places.
@@ -49,36 +50,15 @@ module _ (n : ℕ) (H : ℕ → Type 0) (k : ℕ) (xs ys : List ℕ) (cs : List 
   pub short_is : (dx dy b : ℕ) → dx ≡ at days x → dy ≡ at days y → Biased c b → (dy + b ≤ dx + BIAS) × (dx + BIAS - (dy + b) ≡ short)
   short_is dx dy b dx-is dy-is biased = (omega (arith, lacks, biased.is), omega (arith, lacks, biased.is))
 
-  -- A way can be looked for.
-  pub seekable : (t : ℕ) (depths cells : List ℕ) → t ≡ short → at depths y ≡ 0 → 2 * STEPS ≤ length cells → Seekable n H xs ys cs days depths t x y cells
-  seekable t depths cells is begins room = record {
-    begins = begins;
-    first_in = refuted.first_in;
-    second_in = refuted.second_in;
-    narrow = omega (arith, is, refuted.small);
-    cells_room = room;
-    some = subst (λ (s : ℕ). (h : ℕ) × (h < n) × Open (rules xs ys cs) H (spares xs ys cs days) x y h s) (sym is) some;
-  }
+  -- So a way can be looked for below what is equal to it.
+  pub some_below : (t : ℕ) → t ≡ short → (h : ℕ) × (h < n) × Open (rules xs ys cs) H (spares xs ys cs days) x y h t
+  some_below t is = subst (λ (r : ℕ). (h : ℕ) × (h < n) × Open (rules xs ys cs) H (spares xs ys cs days) x y h r) (sym is) some
 
   -- The shortest has fewer rules than there are steps.
   pub few_rules : (t h : ℕ) → t ≡ short → Fewest (rules xs ys cs) H (spares xs ys cs days) t x y h → h < n
   few_rules t h is few =
       let (j, below, way) = some in
       omega (arith, below, few.fewest j (subst (Open (rules xs ys cs) H (spares xs ys cs days) x y j) (sym is) way))
-
-  -- It can be written.
-  pub traceable :
-      (t h : ℕ) (depths cells list' : List ℕ) → t ≡ short → at depths y ≡ 0 → Fewest (rules xs ys cs) H (spares xs ys cs days) t x y h → LAYERS * STEPS ≤ length cells → length list' ≡ length list →
-      Traceable n H xs ys cs days depths t h x y cells list'
-  traceable t h depths cells list' is begins few room long = record {
-    begins = begins;
-    first_in = refuted.first_in;
-    second_in = refuted.second_in;
-    narrow = omega (arith, is, refuted.small);
-    list_room = omega (arith, few_rules t h is few, long, refuted.list_room);
-    cells_room = room;
-    way = few.way;
-  }
 
   -- The rule's number and the least of the shortest ways behind it are the reason.
   written :
@@ -112,63 +92,51 @@ module _ (n : ℕ) (H : ℕ → Type 0) (k : ℕ) (xs ys : List ℕ) (cs : List 
 
 -- ---- the chains
 
-module _ (n m : ℕ) (xs ys : List ℕ) (cs : List ℤ) (days heads nexts : List ℕ) (x y : ℕ) (c : ℤ) (list : List ℕ) (refuted : Refuted n (linked nexts) m xs ys cs days heads nexts x y c list) where
-  -- Those by first steps, that were lent.
-  pub leading : ChainsOf n (linked nexts) number xs heads nexts → Leading n (linked nexts) number xs ys cs days heads nexts
-  leading chained = record {
-    kept = refuted.kept;
-    heads_room = refuted.heads_room;
-    next_place = λ i on. omega (arith, on.0, refuted.nexts_room);
-    chained = chained;
+module _ (n m : ℕ) (xs ys : List ℕ) (cs : List ℤ) (days heads nexts : List ℕ) (x y : ℕ) (c : ℤ) (list : List ℕ) (refuted : Refuted n (linked nexts) m xs ys cs days heads nexts x y c list)
+    (heads' nexts' : List ℕ) (heads_long : length heads' ≡ length heads) (nexts_long : length nexts' ≡ length nexts) (now : ChainsNow n (linked nexts) ys heads' nexts') where
+  -- The rules that are on the chains by second steps are those that were on the chains by first steps, so the rule is refuted still.
+  pub refuted_still : Refuted n (linked nexts') m xs ys cs days heads' nexts' x y c list
+  refuted_still = record {
+    kept = record {
+      steps_in = refuted.kept.steps_in;
+      number_in = λ i on. on.0;
+      placed = λ i on. refuted.kept.placed i (now.only i on);
+      days_room = refuted.kept.days_room;
+      in_steps = λ i on. refuted.kept.in_steps i (now.only i on);
+      plan = λ i on. refuted.kept.plan i (now.only i on);
+    };
+    heads_room = omega (arith, heads_long, refuted.heads_room);
+    nexts_room = omega (arith, nexts_long, refuted.nexts_room);
+    firsts_room = refuted.firsts_room;
+    seconds_room = refuted.seconds_room;
+    first_in = refuted.first_in;
+    second_in = refuted.second_in;
+    free = λ on. refuted.free (now.only m on);
+    free_in = refuted.free_in;
+    small = refuted.small;
+    list_room = refuted.list_room;
+    refuted = let (l, refutes) = refuted.refuted in (l, refutes_same (rules xs ys cs) (linked nexts) (linked nexts') now.on m (rule x y c) l refutes);
   }
 
-  -- They can be made anew by second steps.
-  pub turnable : Turnable n ys heads nexts
-  turnable = record {
-    heads_room = refuted.heads_room;
-    nexts_room = refuted.nexts_room;
-    steps_room = refuted.seconds_room;
-    steps_in = λ i held. (refuted.kept.in_steps i held).second_in;
-  }
+  -- And what is the reason of the rules that are on them is that of those that were.
+  pub reason_before : (r : ℕ) (before after : List ℕ) → ReasonIn (linked nexts') m xs ys cs x y c r before after → ReasonIn (linked nexts) m xs ys cs x y c r before after
+  reason_before r before after = filled_same now.only now.on
 
-  module _ (heads' nexts' : List ℕ) (heads_long : length heads' ≡ length heads) (nexts_long : length nexts' ≡ length nexts) (now : ChainsNow n (linked nexts) ys heads' nexts') where
-    -- The rules that are on them then are those that were, so the rule is refuted still.
-    pub refuted_still : Refuted n (linked nexts') m xs ys cs days heads' nexts' x y c list
-    refuted_still = record {
-      kept = record {
-        steps_in = refuted.kept.steps_in;
-        number_in = λ i on. on.0;
-        placed = λ i on. refuted.kept.placed i (now.only i on);
-        days_room = refuted.kept.days_room;
-        in_steps = λ i on. refuted.kept.in_steps i (now.only i on);
-        plan = λ i on. refuted.kept.plan i (now.only i on);
-      };
-      heads_room = omega (arith, heads_long, refuted.heads_room);
-      nexts_room = omega (arith, nexts_long, refuted.nexts_room);
-      firsts_room = refuted.firsts_room;
-      seconds_room = refuted.seconds_room;
-      first_in = refuted.first_in;
-      second_in = refuted.second_in;
-      free = λ on. refuted.free (now.only m on);
-      free_in = refuted.free_in;
-      small = refuted.small;
-      list_room = refuted.list_room;
-      refuted = let (l, refutes) = refuted.refuted in (l, refutes_same (rules xs ys cs) (linked nexts) (linked nexts') now.on m (rule x y c) l refutes);
-    }
-
-    -- With the depths.
-    pub turned :
-        (depths : List ℕ) (t : ℕ) → n ≤ length depths → Deepened n (linked nexts) xs ys cs days t y depths → Chained n (linked nexts') number xs ys cs days heads' nexts' depths t
-    turned depths t room deepened = record {
-      kept = refuted_still.kept;
-      heads_room = refuted_still.heads_room;
-      firsts_room = refuted_still.firsts_room;
-      nexts_room = refuted_still.nexts_room;
-      chained = now.chained;
-      depths_room = room;
-      deep = λ i on. deepened.deep i (now.only i on);
-    }
-
-    -- And what is the reason of the rules that are on them is that of those that were.
-    pub reason_before : (r : ℕ) (before after : List ℕ) → ReasonIn (linked nexts') m xs ys cs x y c r before after → ReasonIn (linked nexts) m xs ys cs x y c r before after
-    reason_before r before after = filled_same now.only now.on
+-- With the depths, that go by the rules that were on chains.
+pub turned :
+    (n m : ℕ) (links : Held) (heads nexts : List ℕ) (x y : ℕ) (c : ℤ) (list : List ℕ) →
+    Refuted n (linked nexts) m links.rules.xs.now links.rules.ys.now links.rules.cs.now links.days.now heads nexts x y c list →
+    length links.heads.now ≡ length heads → length links.nexts.now ≡ length nexts → ChainsNow n (linked nexts) links.rules.ys.now links.heads.now links.nexts.now →
+    (depths : List ℕ) (t : ℕ) → n ≤ length depths → Deep (rules_of links) (linked nexts) (spares_of links) t (at depths) → Chained n links depths t
+turned n m links heads nexts x y c list refuted heads_long nexts_long now depths t room deep = record {
+  kept = still.kept;
+  heads_room = still.heads_room;
+  firsts_room = still.firsts_room;
+  nexts_room = still.nexts_room;
+  chained = now.chained;
+  depths_room = room;
+  deep = λ i on. deep i (now.only i on);
+}
+  where
+    still : Refuted n (on links) m links.rules.xs.now links.rules.ys.now links.rules.cs.now links.days.now links.heads.now links.nexts.now x y c list
+    still = refuted_still n m links.rules.xs.now links.rules.ys.now links.rules.cs.now links.days.now heads nexts x y c list refuted links.heads.now links.nexts.now heads_long nexts_long now

@@ -7,14 +7,15 @@
 // A step that lies deep below y is of no use to a way of g rules where too few of them are left: so the steps have depths, and a layer is made only as far down as it counts.
 #![tactic(auto)]
 
-ghost use Rattle.std.specs.Prelude.{◌≡◌, true, ℕ, ◌+◌, ◌*◌, ◌<◌, ◌≤◌, length};
+ghost use Rattle.std.specs.Prelude.{◌≡◌, ℕ, ◌+◌, ◌*◌, ◌<◌, ◌≤◌, IsTrue, MatchOption, length};
 ghost use Rattle.meaning.specs.Bounds.{STEPS, RULES};
 ghost use Rattle.meaning.specs.Tables.{at};
 ghost use Rattle.lent.specs.Decides.{Decides};
-ghost use Rattle.lent.specs.Lent.{Dated, KeptAt};
 ghost use Rattle.chains.specs.Chains.{ChainsOf, number, linked};
-ghost use Rattle.shortest.specs.Layers.{Begun, Fitting, Lowest};
-ghost use Rattle.shortest.specs.Clauses.{rules, spares, from, FAR as FAR_SPEC, Kept, Leading, Chained, GROUP as GROUP_SPEC, NoneBelow, NoneIs, Skipped, AllSet, Copied, Copyable, Lowered, LoweredNear, FollowedBy, SpareIs, Passed, Raised, Advanced, FitsHere, Pickable, UpperPart, Share, Descendable, Descended, Traceable, Traced, Seekable, Fewest, Within, Entered, Spread, Widened, Levelled, Settled, Deepened, Refuted, ReasonIn};
+ghost use Rattle.shortest.specs.Clauses.{FAR as FAR_SPEC, GROUP as GROUP_SPEC, on, Leading, Chained, Ends, Fails, PassesFirst, UpperPart, Share, Entered, Spread, Widened, Levelled, Settled, Deepened, Refuted, ReasonIn};
+
+use chains::Held;
+use lent::Rules;
 
 // So many layers are kept at once: the one that is worked in, and as many more as `CAP` is a power of `SHARE`, and one.
 const LAYERS: usize = 5;
@@ -24,390 +25,48 @@ const SHARE: usize = 6;
 
 const CAP: usize = SHARE * SHARE * SHARE;
 
-// So many cells, or numbers, are looked at together.
+// So many cells are looked at together.
 const GROUP: usize = 16;
 
 // The depth of a step that no rule has led to yet.
 const FAR: u16 = 65535;
 
+// The cells of all layers, in an array of the call's own: the library takes no memory.
 const CELLS: usize = LAYERS * meaning::STEPS;
 
-// What the rule under i, which the days keep, has to spare.
-fn spare(xs: &[u16], ys: &[u16], cs: &[i32], days: &[u32], i: usize) -> u64
-    requires dated { Dated xs.now ys.now cs.now days.now i }
-    requires kept_at { KeptAt xs.now ys.now cs.now days.now i }
-    ensures { SpareIs xs.now ys.now cs.now days.now i result }
-{
-    let latest = lent::day_at(days, lent::number_at(ys, i)) + lent::amount_at(cs, i);
-    latest - (lent::day_at(days, lent::number_at(xs, i)) + lent::BIAS)
-}
-
-// Gives the n cells from place a on the value t.
-fn fill(n: usize, a: usize, t: u64, cells: &mut [u32])
-    requires n_in_bounds { a + n ≤ length cells.old }
-    requires t_bound { t < 4294967296 }
-    ensures { AllSet n a t cells.old cells.new }
-{
-    for v in 0..n {
-        cells[a + v] = t as u32;
-    }
-}
-
-// Copies the n cells from place a on to those from place b on.
-fn copy(n: usize, a: usize, b: usize, cells: &mut [u32])
-    requires { Copyable n a b cells.old }
-    ensures { Copied n a b cells.old cells.new }
-{
-    for v in 0..n {
-        cells[b + v] = cells[a + v];
-    }
-}
-
-// Makes layer 0 in the first n cells: 0 for x, t for every other step.
-fn begin(n: usize, x: usize, t: u64, cells: &mut [u32])
-    requires n_in_bounds { n ≤ length cells.old }
-    requires x_lt_n { x < n }
-    requires t_bound { t < 4294967296 }
-    ensures { Begun n x t (at cells.new) }
-{
-    fill(n, 0, t, cells);
-    cells[x] = 0;
-}
-
-// Whether no cell of the group from place a on is below t.
-fn none_below(t: u32, a: usize, cells: &[u32]) -> bool
-    requires { a + GROUP_SPEC ≤ length cells.now }
-    ensures { result ≡ true → NoneBelow t a GROUP_SPEC cells.now }
-{
-    let mut least = t;
-    for j in 0..GROUP {
-        let cell = cells[a + j];
-        if cell < least {
-            least = cell;
-        }
-    }
-    t <= least
-}
-
-// Where to look on, from step u, for a step below n for which the layer from place a on has less than t: past the groups that have none.
-fn skip_high(n: usize, t: u64, u: usize, a: usize, cells: &[u32]) -> usize
-    requires t_bound { t < 4294967296 }
-    requires u_le_n { u ≤ n }
-    requires n_in_bounds { a + n ≤ length cells.now }
-    ensures { Skipped (λ v. from a cells.now v < t) n u result }
-{
-    let mut v = u;
-    while GROUP <= n - v {
-        if !none_below(t as u32, a + v, cells) {
-            return v;
-        }
-        v += GROUP;
-    }
-    v
-}
-
-// Whether no number of the group from place a on is the key.
-fn none_is(key: u16, a: usize, list: &[u16]) -> bool
-    requires { a + GROUP_SPEC ≤ length list.now }
-    ensures { result ≡ true → NoneIs key a GROUP_SPEC list.now }
+// Whether the test fails at every cell of the group. Every cell is looked at, so that many are at a time.
+fn fails_at_all<T: Copy, F: Fn(T) -> bool>(group: &[T], test: &F) -> bool
+    requires { F.IsAlwaysCallable test.now }
+    ensures { IsTrue result → Fails (λ c passes. F.post test.now c passes) group.now 0 (length group.now) }
 {
     let mut found = false;
-    for j in 0..GROUP {
-        if list[a + j] == key {
+    for cell in group {
+        if test(*cell) {
             found = true;
         }
     }
     !found
 }
 
-// Where to look on, from place i, for the key among the first n numbers: past the groups that do not have it.
-fn skip_other(n: usize, key: u16, i: usize, list: &[u16]) -> usize
-    requires i_le_n { i ≤ n }
-    requires n_in_bounds { n ≤ length list.now }
-    ensures { Skipped (λ k. at list.now k ≡ key) n i result }
+// The first place from i on whose cell passes the test; groups at whose cells it fails are passed as a whole.
+fn first_from<T: Copy, F: Fn(T) -> bool>(list: &[T], i: usize, test: F) -> Option<usize>
+    requires callable { F.IsAlwaysCallable test }
+    requires i_le_length { i ≤ length list.now }
+    ensures { MatchOption result (Fails (λ c passes. F.post test c passes) list.now i (length list.now))
+        (λ r. PassesFirst (λ c passes. F.post test c passes) list.now i r) }
 {
+    let places = list.len();
+    // A loop and no `position`, which looks at one cell at a time.
     let mut k = i;
-    while GROUP <= n - k {
-        if !none_is(key, k, list) {
-            return k;
-        }
+    while GROUP <= places - k && fails_at_all(&list[k..k + GROUP], &test) {
         k += GROUP;
     }
-    k
-}
-
-// Lowers the cell of the first step of rule i, in the layer from place b on, to what the rule has to spare and the rest, where it is higher.
-fn lower(
-    xs: &[u16],
-    ys: &[u16],
-    cs: &[i32],
-    days: &[u32],
-    i: usize,
-    rest: u64,
-    b: usize,
-    cells: &mut [u32],
-)
-    requires dated { Dated xs.now ys.now cs.now days.now i }
-    requires kept_at { KeptAt xs.now ys.now cs.now days.now i }
-    requires rest_bound { rest < 4294967296 }
-    requires i_in_bounds { b + at xs.now i < length cells.old }
-    ensures { Lowered (b + at xs.now i) (spares xs.now ys.now cs.now days.now i + rest) cells.old cells.new }
-{
-    let sum = spare(xs, ys, cs, days, i) + rest;
-    let place = b + lent::number_at(xs, i);
-    if sum < lent::day_at(cells, place) {
-        cells[place] = sum as u32;
+    for place in k..places {
+        if test(list[place]) {
+            return Some(place);
+        }
     }
-}
-
-// The same, but for a rule whose first step lies deeper than the limit: then nothing.
-fn lower_near(
-    xs: &[u16],
-    ys: &[u16],
-    cs: &[i32],
-    days: &[u32],
-    depths: &[u16],
-    limit: usize,
-    i: usize,
-    rest: u64,
-    b: usize,
-    cells: &mut [u32],
-)
-    requires dated { Dated xs.now ys.now cs.now days.now i }
-    requires kept_at { KeptAt xs.now ys.now cs.now days.now i }
-    requires i_in_bounds { at xs.now i < length depths.now }
-    requires rest_bound { rest < 4294967296 }
-    requires i_in_bounds_2 { b + at xs.now i < length cells.old }
-    ensures { LoweredNear (at depths.now (at xs.now i)) limit (b + at xs.now i)
-        (spares xs.now ys.now cs.now days.now i + rest) cells.old cells.new }
-{
-    if limit < lent::number_at(depths, lent::number_at(xs, i)) {
-        return;
-    }
-    lower(xs, ys, cs, days, i, rest, b, cells);
-}
-
-// Lowers the layer from place a + STEPS on by the rules that lead to step u, where the layer from place a on has less than t for u, as far as
-// their first steps lie no deeper than the limit.
-fn pass(
-    n: usize,
-    xs: &[u16],
-    ys: &[u16],
-    cs: &[i32],
-    days: &[u32],
-    heads: &[u16],
-    nexts: &[u16],
-    depths: &[u16],
-    t: u64,
-    limit: usize,
-    u: usize,
-    a: usize,
-    cells: &mut [u32],
-)
-    requires chained { Chained n (linked nexts.now) number xs.now ys.now cs.now days.now heads.now nexts.now depths.now t }
-    requires u_lt_n { u < n }
-    requires a_in_bounds { a + 2 * STEPS ≤ length cells.old }
-    ensures { Passed n (linked nexts.now) xs.now ys.now cs.now days.now depths.now limit t u a (a + STEPS) cells.old cells.new }
-{
-    let rest = lent::day_at(cells, a + u);
-    if t <= rest {
-        return;
-    }
-    let mut link = lent::number_at(heads, u);
-    while 0 < link {
-        let i = link - 1;
-        lower_near(
-            xs,
-            ys,
-            cs,
-            days,
-            depths,
-            limit,
-            i,
-            rest,
-            a + meaning::STEPS,
-            cells,
-        );
-        link = lent::number_at(nexts, i);
-    }
-}
-
-// Makes the layer that follows the one from place a on, from place a + STEPS on, for steps that lie no deeper than the limit.
-fn next(
-    n: usize,
-    xs: &[u16],
-    ys: &[u16],
-    cs: &[i32],
-    days: &[u32],
-    heads: &[u16],
-    nexts: &[u16],
-    depths: &[u16],
-    t: u64,
-    limit: usize,
-    a: usize,
-    cells: &mut [u32],
-)
-    requires chained { Chained n (linked nexts.now) number xs.now ys.now cs.now days.now heads.now nexts.now depths.now t }
-    requires t_bound { t < 4294967296 }
-    requires a_in_bounds { a + 2 * STEPS ≤ length cells.old }
-    ensures { FollowedBy n (linked nexts.now) xs.now ys.now cs.now days.now depths.now limit t a (a + STEPS) cells.old cells.new }
-{
-    fill(n, a + meaning::STEPS, t, cells);
-    let mut u = skip_high(n, t, 0, a, cells);
-    while u < n {
-        pass(
-            n, xs, ys, cs, days, heads, nexts, depths, t, limit, u, a, cells,
-        );
-        u = skip_high(n, t, u + 1, a, cells);
-    }
-}
-
-// Makes layer hi of layer lo, which stands in the cells from place a on, in its place, for ways of g rules, with the cells behind to work in.
-fn raise(
-    n: usize,
-    xs: &[u16],
-    ys: &[u16],
-    cs: &[i32],
-    days: &[u32],
-    heads: &[u16],
-    nexts: &[u16],
-    depths: &[u16],
-    t: u64,
-    g: usize,
-    lo: usize,
-    hi: usize,
-    a: usize,
-    cells: &mut [u32],
-)
-    requires chained { Chained n (linked nexts.now) number xs.now ys.now cs.now days.now heads.now nexts.now depths.now t }
-    requires t_bound { t < 4294967296 }
-    requires lo_le_hi { lo ≤ hi }
-    requires hi_le_g { hi ≤ g }
-    requires a_in_bounds { a + 2 * STEPS ≤ length cells.old }
-    ensures { Raised n (linked nexts.now) xs.now ys.now cs.now days.now depths.now g t lo hi a cells.old cells.new }
-{
-    for h in lo..hi {
-        next(
-            n,
-            xs,
-            ys,
-            cs,
-            days,
-            heads,
-            nexts,
-            depths,
-            t,
-            g - (h + 1),
-            a,
-            cells,
-        );
-        copy(n, a + meaning::STEPS, a, cells);
-    }
-}
-
-// The same from place a + STEPS on, where layer lo is copied to.
-fn advance(
-    n: usize,
-    xs: &[u16],
-    ys: &[u16],
-    cs: &[i32],
-    days: &[u32],
-    heads: &[u16],
-    nexts: &[u16],
-    depths: &[u16],
-    t: u64,
-    g: usize,
-    lo: usize,
-    hi: usize,
-    a: usize,
-    cells: &mut [u32],
-)
-    requires chained { Chained n (linked nexts.now) number xs.now ys.now cs.now days.now heads.now nexts.now depths.now t }
-    requires t_bound { t < 4294967296 }
-    requires lo_le_hi { lo ≤ hi }
-    requires hi_le_g { hi ≤ g }
-    requires a_in_bounds { a + 3 * STEPS ≤ length cells.old }
-    ensures { Advanced n (linked nexts.now) xs.now ys.now cs.now days.now depths.now g t lo hi a cells.old cells.new }
-{
-    let b = a + meaning::STEPS;
-    copy(n, a, b, cells);
-    raise(
-        n, xs, ys, cs, days, heads, nexts, depths, t, g, lo, hi, b, cells,
-    );
-}
-
-// Whether rule i leads from step v and stays, with what the layer from place a on has for its second step, below the bound.
-fn fits(
-    xs: &[u16],
-    ys: &[u16],
-    cs: &[i32],
-    days: &[u32],
-    v: usize,
-    bound: u64,
-    a: usize,
-    cells: &[u32],
-    i: usize,
-) -> bool
-    requires dated { Dated xs.now ys.now cs.now days.now i }
-    requires kept_at { KeptAt xs.now ys.now cs.now days.now i }
-    requires i_in_bounds { a + at ys.now i < length cells.now }
-    ensures { Decides result (FitsHere xs.now ys.now cs.now days.now v bound (from a cells.now) i) }
-{
-    if lent::number_at(xs, i) != v {
-        return false;
-    }
-    spare(xs, ys, cs, days, i) + lent::day_at(cells, a + lent::number_at(ys, i)) < bound
-}
-
-// Whether rule i is on a chain and does so.
-fn fits_held(
-    n: usize,
-    xs: &[u16],
-    ys: &[u16],
-    cs: &[i32],
-    days: &[u32],
-    nexts: &[u16],
-    v: usize,
-    bound: u64,
-    a: usize,
-    cells: &[u32],
-    i: usize,
-) -> bool
-    requires kept { Kept n (linked nexts.now) xs.now ys.now cs.now days.now }
-    requires in_bounds { RULES ≤ length nexts.now }
-    requires n_in_bounds { a + n ≤ length cells.now }
-    requires i_bound { i < RULES }
-    ensures { Decides result (Fitting (rules xs.now ys.now cs.now) (linked nexts.now) (spares xs.now ys.now cs.now days.now) (from a cells.now) v bound i) }
-{
-    if chains::OFF <= nexts[i] {
-        return false;
-    }
-    fits(xs, ys, cs, days, v, bound, a, cells, i)
-}
-
-// The lowest rule on a chain that leads from step v and stays, with what the layer from place a on has for its second step, below the bound. There is one.
-fn pick(
-    n: usize,
-    xs: &[u16],
-    ys: &[u16],
-    cs: &[i32],
-    days: &[u32],
-    nexts: &[u16],
-    v: usize,
-    bound: u64,
-    a: usize,
-    cells: &[u32],
-) -> usize
-    requires pickable { Pickable n (linked nexts.now) xs.now ys.now cs.now days.now v bound a cells.now }
-    requires in_bounds { RULES ≤ length xs.now }
-    requires in_bounds_2 { RULES ≤ length nexts.now }
-    ensures { Lowest (rules xs.now ys.now cs.now) (linked nexts.now) (spares xs.now ys.now cs.now days.now) (from a cells.now) v bound result }
-{
-    let mut i = skip_other(meaning::RULES, v as u16, 0, xs);
-    while !fits_held(n, xs, ys, cs, days, nexts, v, bound, a, cells, i) {
-        i = skip_other(meaning::RULES, v as u16, i + 1, xs);
-    }
-    i
+    None
 }
 
 // How many rules the upper part of a span has: half of them, rounded up, where the cap is no less, and else as many as the cap.
@@ -417,10 +76,7 @@ fn upper_part(span: usize, cap: usize) -> usize
     ensures { UpperPart span cap result }
 {
     let half = (span - 1) / 2 + 1;
-    if half < cap {
-        return half;
-    }
-    cap
+    half.min(cap)
 }
 
 // The cap within an upper part: the share of it, rounded down.
@@ -431,410 +87,385 @@ fn share(cap: usize) -> usize
 }
 
 // Where a way goes on: at which step, and what is left of the bound.
-#[derive(Drop)]
+#[derive(Clone, Copy)]
 struct Stand {
     step: usize,
-    bound: u64,
+    bound: u32,
 }
 
-// Writes the numbers of the rules lo to hi of the least way from v below the bound from the place on, the first one first, where layer lo stands in the cells
-// from place a on. Says where the way goes on. While more than one rule is left, those of an upper part, no more than the cap, are found by a layer that is kept
-// for them; the last one by layer lo.
-fn descend(
-    n: usize,
-    xs: &[u16],
-    ys: &[u16],
-    cs: &[i32],
-    days: &[u32],
-    heads: &[u16],
-    nexts: &[u16],
-    depths: &[u16],
-    t: u64,
-    g: usize,
-    lo: usize,
-    hi: usize,
-    v: usize,
-    bound: u64,
-    place: usize,
-    a: usize,
-    cap: usize,
-    cells: &mut [u32],
-    list: &mut [u32],
-) -> Stand
-    requires chained { Chained n (linked nexts.now) number xs.now ys.now cs.now days.now heads.now nexts.now depths.now t }
-    requires descendable { Descendable n (linked nexts.now) xs.now ys.now cs.now days.now depths.now g t lo hi v bound place a cap cells.old list.old }
-    ensures { Descended n (linked nexts.now) xs.now ys.now cs.now days.now depths.now g t lo hi v bound place a
-        cells.old list.old cells.new list.new result.step result.bound }
-{
-    let part = share(cap);
-    let mut top = hi;
-    let mut step = v;
-    let mut left = bound;
-    let mut to = place;
-    while 1 < top - lo {
-        let upper = upper_part(top - lo, cap);
-        let mid = top - upper;
-        advance(
-            n, xs, ys, cs, days, heads, nexts, depths, t, g, lo, mid, a, cells,
-        );
-        let stand = descend(
-            n,
-            xs,
-            ys,
-            cs,
-            days,
-            heads,
-            nexts,
-            depths,
-            t,
-            g,
-            mid,
-            top,
-            step,
-            left,
-            to,
-            a + meaning::STEPS,
-            part,
-            cells,
-            list,
-        );
-        top = mid;
-        step = stand.step;
-        left = stand.bound;
-        to += upper;
-    }
-    let i = pick(n, xs, ys, cs, days, nexts, step, left, a, cells);
-    list[to] = i as u32;
-    let after = lent::number_at(ys, i);
-    let rest = left - spare(xs, ys, cs, days, i);
-    Stand {
-        step: after,
-        bound: rest,
-    }
+// What a search for the shortest reason goes by: so many steps, the rules that lead to each step, how deep each step lies, what the days lack for the refused rule,
+// and where a way starts and where it leads.
+#[derive(Clone, Copy)]
+struct Search<'a, 'd> {
+    steps: usize,
+    held: Held<'a>,
+    depths: &'d [u16],
+    lack: u32,
+    start: usize,
+    goal: usize,
+    ghost chained: { Chained steps held depths.now lack },
+    ghost ends: { Ends steps depths.now start goal },
 }
 
-// Writes the numbers of the h rules of the least way from y to x below t from place 1 on. While rules are left, those of an upper part, no more than `CAP`, are found
-// by a layer that is made for them of layer 0.
-fn trace(
-    n: usize,
-    xs: &[u16],
-    ys: &[u16],
-    cs: &[i32],
-    days: &[u32],
-    heads: &[u16],
-    nexts: &[u16],
-    depths: &[u16],
-    t: u64,
-    h: usize,
-    x: usize,
-    y: usize,
-    cells: &mut [u32],
-    list: &mut [u32],
-)
-    requires chained { Chained n (linked nexts.now) number xs.now ys.now cs.now days.now heads.now nexts.now depths.now t }
-    requires traceable { Traceable n (linked nexts.now) xs.now ys.now cs.now days.now depths.now t h x y cells.old list.old }
-    ensures { Traced (rules xs.now ys.now cs.now) (linked nexts.now) (spares xs.now ys.now cs.now days.now) t h x y list.old list.new }
-{
-    let part = share(CAP);
-    let mut top = h;
-    let mut step = y;
-    let mut left = t;
-    while 0 < top {
-        let mid = top - upper_part(top, CAP);
-        begin(n, x, t, cells);
-        raise(
-            n, xs, ys, cs, days, heads, nexts, depths, t, h, 0, mid, 0, cells,
-        );
-        let stand = descend(
-            n,
-            xs,
-            ys,
-            cs,
-            days,
-            heads,
-            nexts,
-            depths,
-            t,
-            h,
-            mid,
-            top,
-            step,
-            left,
-            1 + (h - top),
-            0,
-            part,
-            cells,
-            list,
-        );
-        top = mid;
-        step = stand.step;
-        left = stand.bound;
-    }
-}
+impl Search<'_, '_> {
+    ghost use Rattle.shortest.specs.Searching.{IsLayer, LoweredBy, Passed, FollowedBy, Fits, Pickable, Picked, Descendable, Descended, Written, Way, Shortest, NoneWithin, FewestWithin};
 
-// How many rules the shortest way from y to x has that stays below t, where that is no more than g; else one more than g.
-fn within(
-    n: usize,
-    xs: &[u16],
-    ys: &[u16],
-    cs: &[i32],
-    days: &[u32],
-    heads: &[u16],
-    nexts: &[u16],
-    depths: &[u16],
-    t: u64,
-    g: usize,
-    x: usize,
-    y: usize,
-    cells: &mut [u32],
-) -> usize
-    requires chained { Chained n (linked nexts.now) number xs.now ys.now cs.now days.now heads.now nexts.now depths.now t }
-    requires seekable { Seekable n (linked nexts.now) xs.now ys.now cs.now days.now depths.now t x y cells.old }
-    requires g_bound { g < 4294967296 }
-    ensures { Within (rules xs.now ys.now cs.now) (linked nexts.now) (spares xs.now ys.now cs.now days.now) t x y g result }
-{
-    begin(n, x, t, cells);
-    let mut h = 0;
-    while t <= lent::day_at(cells, y) {
-        if g <= h {
-            return g + 1;
+    // Makes the list layer 0: 0 for the goal, the lack for every other step.
+    fn begin(self, g: usize, layer: &mut [u32])
+        requires { length layer.old ≡ self.steps }
+        ensures { IsLayer self.entry g 0 layer.new }
+    {
+        layer.fill(self.lack);
+        layer[self.goal] = 0;
+    }
+
+    // Lowers the cell of the first step of rule i, where it is higher, to what the rule has to spare and the rest; but not where that step lies deeper than the limit.
+    fn lower(self, limit: usize, i: usize, rest: u32, layer: &mut [u32])
+        requires held { on self.held i }
+        requires room { self.steps ≤ length layer.old }
+        ensures { LoweredBy self.entry limit i rest layer.old layer.new }
+    {
+        let first = lent::number_at(self.held.rules.xs, i);
+        if limit < lent::number_at(self.depths, first) {
+            return;
         }
-        next(
-            n,
-            xs,
-            ys,
-            cs,
-            days,
-            heads,
-            nexts,
-            depths,
-            t,
-            g - (h + 1),
-            0,
-            cells,
-        );
-        copy(n, meaning::STEPS, 0, cells);
-        h += 1;
-    }
-    h
-}
-
-// How many rules the shortest way from y to x has that stays below t. It is looked for among ways of as many rules as x lies deep, then of 1, 2, 4 .. more.
-fn fewest(
-    n: usize,
-    xs: &[u16],
-    ys: &[u16],
-    cs: &[i32],
-    days: &[u32],
-    heads: &[u16],
-    nexts: &[u16],
-    depths: &[u16],
-    t: u64,
-    x: usize,
-    y: usize,
-    cells: &mut [u32],
-) -> usize
-    requires chained { Chained n (linked nexts.now) number xs.now ys.now cs.now days.now heads.now nexts.now depths.now t }
-    requires seekable { Seekable n (linked nexts.now) xs.now ys.now cs.now days.now depths.now t x y cells.old }
-    ensures { Fewest (rules xs.now ys.now cs.now) (linked nexts.now) (spares xs.now ys.now cs.now days.now) t x y result }
-{
-    let mut g = lent::number_at(depths, x);
-    let mut more = 1;
-    let mut h = within(n, xs, ys, cs, days, heads, nexts, depths, t, g, x, y, cells);
-    while g < h {
-        g += more;
-        more += more;
-        h = within(n, xs, ys, cs, days, heads, nexts, depths, t, g, x, y, cells);
-    }
-    h
-}
-
-// Gives the second step of rule i the depth after the level, where it has none yet and the rule has less than t to spare.
-fn enter(
-    xs: &[u16],
-    ys: &[u16],
-    cs: &[i32],
-    days: &[u32],
-    t: u64,
-    level: usize,
-    i: usize,
-    depths: &mut [u16],
-)
-    requires dated { Dated xs.now ys.now cs.now days.now i }
-    requires kept_at { KeptAt xs.now ys.now cs.now days.now i }
-    requires level_bound { level + 1 < FAR_SPEC }
-    requires i_in_bounds { at ys.now i < length depths.old }
-    ensures { Entered xs.now ys.now cs.now days.now t level i depths.old depths.new }
-{
-    let u = lent::number_at(ys, i);
-    if lent::number_at(depths, u) < FAR as usize {
-        return;
-    }
-    if t <= spare(xs, ys, cs, days, i) {
-        return;
-    }
-    depths[u] = (level + 1) as u16;
-}
-
-// The same by all rules of step v, where its depth is the level; else nothing.
-fn spread(
-    n: usize,
-    xs: &[u16],
-    ys: &[u16],
-    cs: &[i32],
-    days: &[u32],
-    heads: &[u16],
-    nexts: &[u16],
-    t: u64,
-    level: usize,
-    v: usize,
-    depths: &mut [u16],
-)
-    requires leading { Leading n (linked nexts.now) number xs.now ys.now cs.now days.now heads.now nexts.now }
-    requires level_bound { level + 1 < FAR_SPEC }
-    requires v_lt_n { v < n }
-    requires n_in_bounds { n ≤ length depths.old }
-    ensures { Spread (linked nexts.now) xs.now ys.now cs.now days.now t level v depths.old depths.new }
-{
-    if lent::number_at(depths, v) != level {
-        return;
-    }
-    let mut link = lent::number_at(heads, v);
-    while 0 < link {
-        let i = link - 1;
-        enter(xs, ys, cs, days, t, level, i, depths);
-        link = lent::number_at(nexts, i);
-    }
-}
-
-// The same by all steps below n.
-fn widen(
-    n: usize,
-    xs: &[u16],
-    ys: &[u16],
-    cs: &[i32],
-    days: &[u32],
-    heads: &[u16],
-    nexts: &[u16],
-    t: u64,
-    level: usize,
-    depths: &mut [u16],
-)
-    requires leading { Leading n (linked nexts.now) number xs.now ys.now cs.now days.now heads.now nexts.now }
-    requires level_bound { level + 1 < FAR_SPEC }
-    requires n_in_bounds { n ≤ length depths.old }
-    ensures { Widened (linked nexts.now) xs.now ys.now cs.now days.now t level depths.old depths.new }
-{
-    let mut v = skip_other(n, level as u16, 0, depths);
-    while v < n {
-        spread(n, xs, ys, cs, days, heads, nexts, t, level, v, depths);
-        v = skip_other(n, level as u16, v + 1, depths);
-    }
-}
-
-// Gives depths level by level, 0 to y, until x has one or there are as many levels as steps. Says how far they go.
-fn levels(
-    n: usize,
-    xs: &[u16],
-    ys: &[u16],
-    cs: &[i32],
-    days: &[u32],
-    heads: &[u16],
-    nexts: &[u16],
-    t: u64,
-    x: usize,
-    y: usize,
-    depths: &mut [u16],
-) -> usize
-    requires leading { Leading n (linked nexts.now) number xs.now ys.now cs.now days.now heads.now nexts.now }
-    requires x_lt_n { x < n }
-    requires y_lt_n { y < n }
-    requires n_in_bounds { n ≤ length depths.old }
-    requires by_index { (v : ℕ) → v < n → at depths.old v ≡ FAR_SPEC }
-    ensures upper_bound { result ≤ n }
-    ensures levelled { Levelled n (linked nexts.now) xs.now ys.now cs.now days.now t y result depths.new }
-{
-    depths[y] = 0;
-    let mut level = 0;
-    while level < n {
-        if lent::number_at(depths, x) < FAR as usize {
-            return level;
+        let spare = self.held.rules.slack(self.held.days, i);
+        let cell = layer[first];
+        if rest < cell && spare < (cell - rest) as u64 {
+            layer[first] = spare as u32 + rest;
         }
-        widen(n, xs, ys, cs, days, heads, nexts, t, level, depths);
-        level += 1;
     }
-    level
-}
 
-// Gives all steps below n that lie deeper than the level the depth after it.
-fn settle(n: usize, level: usize, depths: &mut [u16])
-    requires level_bound { level + 1 < FAR_SPEC }
-    requires n_in_bounds { n ≤ length depths.old }
-    ensures { Settled n level depths.old depths.new }
-{
-    for v in 0..n {
-        if level < lent::number_at(depths, v) {
-            depths[v] = (level + 1) as u16;
+    // Lowers the layer by the rules that lead to step u, as far as their first steps lie no deeper than the limit, by what the one before has for u.
+    fn pass(self, limit: usize, u: usize, before: &[u32], layer: &mut [u32])
+        requires u_lt_steps { u < self.steps }
+        requires before_room { self.steps ≤ length before.now }
+        requires room { self.steps ≤ length layer.old }
+        ensures { Passed self.entry limit u before.now layer.old layer.new }
+    {
+        let rest = before[u];
+        // A chain is walked by its links: it lies in lent lists, since the library takes no memory.
+        let mut link = lent::number_at(self.held.heads, u);
+        while 0 < link {
+            let i = link - 1;
+            self.lower(limit, i, rest, layer);
+            link = lent::number_at(self.held.nexts, i);
+        }
+    }
+
+    // Makes the layer that follows the one before, for steps that lie no deeper than the limit.
+    fn next(self, limit: usize, before: &[u32], layer: &mut [u32])
+        requires before_long { length before.now ≡ self.steps }
+        requires room { self.steps ≤ length layer.old }
+        ensures { FollowedBy self.entry limit before.now layer.new }
+    {
+        let lack = self.lack;
+        layer.fill(lack);
+        let mut from = 0;
+        while let Some(u) = first_from(before, from, |rest| rest < lack) {
+            self.pass(limit, u, before, layer);
+            from = u + 1;
+        }
+    }
+
+    // Makes layer hi of layer lo, in its place, for ways of g rules, with as many cells to work in.
+    fn raise(self, g: usize, lo: usize, hi: usize, layer: &mut [u32], room: &mut [u32])
+        requires lo_le_hi { lo ≤ hi }
+        requires hi_le_g { hi ≤ g }
+        requires from_layer { IsLayer self g lo layer.old }
+        requires room { length room.old ≡ self.steps }
+        ensures { IsLayer self.entry g hi layer.new }
+    {
+        for h in lo..hi {
+            self.next(g - (h + 1), layer, room);
+            layer.copy_from_slice(room);
+        }
+    }
+
+    // Whether rule i, which leads from step v, stays, with what the layer has for its second step, below the bound.
+    fn fits(self, v: usize, bound: u32, layer: &[u32], i: usize) -> bool
+        requires number_in { i < RULES }
+        requires own { at self.held.rules.xs.now i ≡ v }
+        requires room { self.steps ≤ length layer.now }
+        ensures { Decides result (Fits self.entry v bound layer.now i) }
+    {
+        if chains::OFF <= self.held.nexts[i] {
+            return false;
+        }
+        let spare = self.held.rules.slack(self.held.days, i);
+        let rest = lent::day_at(layer, lent::number_at(self.held.rules.ys, i));
+        spare.saturating_add(rest) < bound as u64
+    }
+
+    // The lowest rule on a chain that leads from step v and stays, with what the layer has for its second step, below the bound. There is one.
+    fn pick(self, v: usize, bound: u32, layer: &[u32]) -> usize
+        requires { Pickable self v bound layer.now }
+        ensures { Picked self.entry v bound layer.now result }
+    {
+        let firsts = &self.held.rules.xs[..meaning::RULES];
+        let step = v as u16;
+        let mut from = 0;
+        loop {
+            let i = first_from(firsts, from, |first| first == step).unwrap();
+            if self.fits(v, bound, layer, i) {
+                return i;
+            }
+            from = i + 1;
+        }
+    }
+
+    // Writes the numbers of the rules hi to lo of the least way on from the stand, where the list is layer lo, and says where the way goes on. While more than one rule
+    // is left, those of an upper part, no more than the cap, are found by a layer that is kept for them; the last one by layer lo.
+    fn descend(
+        self,
+        g: usize,
+        lo: usize,
+        hi: usize,
+        from: Stand,
+        cap: usize,
+        layer: &[u32],
+        room: &mut [u32],
+        list: &mut [u32],
+    ) -> Stand
+        requires { Descendable self g lo hi from.step from.bound cap layer.now room.old list.old }
+        ensures { Descended self.entry g lo hi from.step from.bound list.old list.new result.step result.bound }
+    {
+        let part = share(cap);
+        // Each part ends where the next begins, so a loop keeps both: a chain of iterators would carry the same pair.
+        let mut top = hi;
+        let mut stand = from;
+        while 1 < top - lo {
+            let mid = top - upper_part(top - lo, cap);
+            let (upper, rest) = room.split_at_mut(self.steps);
+            upper.copy_from_slice(layer);
+            self.raise(g, lo, mid, upper, &mut rest[..self.steps]);
+            stand = self.descend(g, mid, top, stand, part, upper, rest, list);
+            top = mid;
+        }
+        let i = self.pick(stand.step, stand.bound, layer);
+        list[g - lo] = i as u32;
+        Stand {
+            step: lent::number_at(self.held.rules.ys, i),
+            bound: stand.bound - self.held.rules.slack(self.held.days, i) as u32,
+        }
+    }
+
+    // Writes the numbers of the h rules of the least way from place 1 on. While rules are left, those of an upper part, no more than `CAP`, are found by a layer that is made
+    // for them of layer 0.
+    fn trace(self, h: usize, layer: &mut [u32], room: &mut [u32], list: &mut [u32])
+        requires way { Way self self.start h self.lack }
+        requires layer_long { length layer.old ≡ self.steps }
+        requires layers_room { 4 * self.steps ≤ length room.old }
+        requires list_room { h + 1 ≤ length list.old }
+        ensures { Written self.entry h list.old list.new }
+    {
+        let part = share(CAP);
+        let mut top = h;
+        let mut stand = Stand {
+            step: self.start,
+            bound: self.lack,
+        };
+        while 0 < top {
+            let mid = top - upper_part(top, CAP);
+            self.begin(h, layer);
+            self.raise(h, 0, mid, layer, &mut room[..self.steps]);
+            stand = self.descend(h, mid, top, stand, part, layer, room, list);
+            top = mid;
+        }
+    }
+
+    // How many rules the shortest way has, where that is no more than g.
+    fn within(self, g: usize, layer: &mut [u32], room: &mut [u32]) -> Option<usize>
+        requires layer_long { length layer.old ≡ self.steps }
+        requires room_long { length room.old ≡ self.steps }
+        ensures { MatchOption result (NoneWithin self.entry g) (λ h. FewestWithin self.entry g h) }
+    {
+        self.begin(g, layer);
+        for h in 0..g {
+            if layer[self.start] < self.lack {
+                return Some(h);
+            }
+            self.raise(g, h, h + 1, layer, room);
+        }
+        if layer[self.start] < self.lack {
+            Some(g)
+        } else {
+            None
+        }
+    }
+
+    // How many rules the shortest way has. It is looked for among ways of as many rules as the goal lies deep, then of 1, 2, 4 .. more.
+    fn fewest(self, layer: &mut [u32], room: &mut [u32]) -> usize
+        requires some { (h : ℕ) × (h < self.steps) × Way self self.start h self.lack }
+        requires layer_long { length layer.old ≡ self.steps }
+        requires room_long { length room.old ≡ self.steps }
+        ensures { Shortest self.entry result }
+    {
+        let mut g = self.depths[self.goal] as usize;
+        let mut more = 1;
+        loop {
+            if let Some(h) = self.within(g, layer, room) {
+                return h;
+            }
+            g += more;
+            more += more;
         }
     }
 }
 
-// Gives depths from y on, as far as to x; all other steps lie one deeper.
-fn deepen(
-    n: usize,
-    xs: &[u16],
-    ys: &[u16],
-    cs: &[i32],
-    days: &[u32],
-    heads: &[u16],
-    nexts: &[u16],
-    t: u64,
-    x: usize,
-    y: usize,
-    depths: &mut [u16],
-)
-    requires leading { Leading n (linked nexts.now) number xs.now ys.now cs.now days.now heads.now nexts.now }
-    requires x_lt_n { x < n }
-    requires y_lt_n { y < n }
-    requires n_in_bounds { n ≤ length depths.old }
-    requires by_index { (v : ℕ) → v < n → at depths.old v ≡ FAR_SPEC }
-    ensures { Deepened n (linked nexts.now) xs.now ys.now cs.now days.now t y depths.new }
+// What depths are found by: so many steps, the rules that lead from each step, and what the days lack for the refused rule.
+#[derive(Clone, Copy)]
+struct Outward<'a> {
+    steps: usize,
+    held: Held<'a>,
+    lack: u32,
+    ghost leading: { Leading steps held },
+}
+
+impl Outward<'_> {
+    // Gives the second step of rule i the depth after the level, where it has none yet and the rule has less to spare than the days lack.
+    fn enter(self, level: usize, i: usize, depths: &mut [u16])
+        requires held { on self.held i }
+        requires level_bound { level + 1 < FAR_SPEC }
+        requires room { self.steps ≤ length depths.old }
+        ensures { Entered self.entry.held self.entry.lack level i depths.old depths.new }
+    {
+        let u = lent::number_at(self.held.rules.ys, i);
+        if depths[u] < FAR {
+            return;
+        }
+        if self.lack as u64 <= self.held.rules.slack(self.held.days, i) {
+            return;
+        }
+        depths[u] = (level + 1) as u16;
+    }
+
+    // The same by all rules of step v.
+    fn spread(self, level: usize, v: usize, depths: &mut [u16])
+        requires level_bound { level + 1 < FAR_SPEC }
+        requires v_lt_steps { v < self.steps }
+        requires room { self.steps ≤ length depths.old }
+        ensures { Spread self.entry.held self.entry.lack level v depths.old depths.new }
+    {
+        // A chain is walked by its links: it lies in lent lists, since the library takes no memory.
+        let mut link = lent::number_at(self.held.heads, v);
+        while 0 < link {
+            let i = link - 1;
+            self.enter(level, i, depths);
+            link = lent::number_at(self.held.nexts, i);
+        }
+    }
+
+    // The same by all steps that have the level for their depth.
+    fn widen(self, level: usize, depths: &mut [u16])
+        requires level_bound { level + 1 < FAR_SPEC }
+        requires long { length depths.old ≡ self.steps }
+        ensures { Widened self.entry.held self.entry.lack level depths.old depths.new }
+    {
+        let last = level as u16;
+        let mut from = 0;
+        while let Some(v) = first_from(depths, from, |depth| depth == last) {
+            self.spread(level, v, depths);
+            from = v + 1;
+        }
+    }
+
+    // Gives depths level by level, 0 to y, until x has one or there are as many levels as steps. Says how far they go.
+    fn levels(self, x: usize, y: usize, depths: &mut [u16]) -> usize
+        requires x_lt_steps { x < self.steps }
+        requires y_lt_steps { y < self.steps }
+        requires long { length depths.old ≡ self.steps }
+        requires far { (v : ℕ) → v < self.steps → at depths.old v ≡ FAR_SPEC }
+        ensures upper_bound { result ≤ self.entry.steps }
+        ensures levelled { Levelled self.entry.steps self.entry.held self.entry.lack y result depths.new }
+    {
+        depths[y] = 0;
+        for level in 0..self.steps {
+            if depths[x] < FAR {
+                return level;
+            }
+            self.widen(level, depths);
+        }
+        self.steps
+    }
+
+    // Gives depths from y on, as far as to x; all other steps lie one deeper.
+    fn deepen(self, x: usize, y: usize, depths: &mut [u16])
+        requires x_lt_steps { x < self.steps }
+        requires y_lt_steps { y < self.steps }
+        requires long { length depths.old ≡ self.steps }
+        requires far { (v : ℕ) → v < self.steps → at depths.old v ≡ FAR_SPEC }
+        ensures { Deepened self.entry.held self.entry.lack y depths.new }
+    {
+        let level = self.levels(x, y, depths);
+        settle(level, depths);
+    }
+}
+
+// Gives all steps that lie deeper than the level the depth after it.
+fn settle(level: usize, depths: &mut [u16])
+    requires { level + 1 < FAR_SPEC }
+    ensures { Settled (length depths.old) level depths.old depths.new }
 {
-    let level = levels(n, xs, ys, cs, days, heads, nexts, t, x, y, depths);
-    settle(n, level, depths);
+    let below = (level + 1) as u16;
+    for depth in depths.iter_mut() {
+        *depth = (*depth).min(below);
+    }
 }
 
 // Writes the reason why the rule x, y, c, which some list refutes, is refused into the list, and gives back its length: first the rule's would-be number m, then
 // the rules on the chains that lead from y to x. The chains, by first steps, are used up.
-pub fn reason(
+pub fn reason<'a>(
     n: usize,
     m: usize,
-    xs: &[u16],
-    ys: &[u16],
-    cs: &[i32],
-    days: &[u32],
-    heads: &mut [u16],
-    nexts: &mut [u16],
+    rules: Rules<'a>,
+    days: &'a [u32],
+    heads: &'a mut [u16],
+    nexts: &'a mut [u16],
     x: usize,
     y: usize,
     c: i32,
     list: &mut [u32],
 ) -> usize
-    requires refuted { Refuted n (linked nexts.old) m xs.now ys.now cs.now days.now heads.old nexts.old x y c list.old }
-    requires chains_of { ChainsOf n (linked nexts.old) number xs.now heads.old nexts.old }
-    ensures { ReasonIn (linked nexts.old) m xs.now ys.now cs.now x y c result list.old list.new }
+    requires refuted { Refuted n (linked nexts.old) m rules.xs.now rules.ys.now rules.cs.now days.now heads.old nexts.old x y c list.old }
+    requires chains_of { ChainsOf n (linked nexts.old) number rules.xs.now heads.old nexts.old }
+    ensures { ReasonIn (linked nexts.old) m rules.entry.xs.now rules.entry.ys.now rules.entry.cs.now x y c result list.old list.new }
 {
     let t = lent::day_at(days, x) + lent::BIAS - (lent::day_at(days, y) + lent::biased(c));
-    let mut depths = [FAR; meaning::STEPS];
-    deepen(n, xs, ys, cs, days, heads, nexts, t, x, y, &mut depths);
-    chains::turn(n, ys, heads, nexts);
+    let lack = t as u32;
+    let mut all_depths = [FAR; meaning::STEPS];
+    let depths = &mut all_depths[..n];
+    let by_firsts = Held {
+        rules,
+        days,
+        heads,
+        nexts,
+    };
+    let outward = Outward {
+        steps: n,
+        held: by_firsts,
+        lack,
+    };
+    outward.deepen(x, y, depths);
+    chains::turn(n, rules.ys, heads, nexts);
+    let by_seconds = Held {
+        rules,
+        days,
+        heads,
+        nexts,
+    };
+    let search = Search {
+        steps: n,
+        held: by_seconds,
+        depths,
+        lack,
+        start: y,
+        goal: x,
+    };
     let mut cells = [0u32; CELLS];
-    let h = fewest(
-        n, xs, ys, cs, days, heads, nexts, &depths, t, x, y, &mut cells,
-    );
+    let (layer, room) = cells.split_at_mut(n);
+    let h = search.fewest(layer, &mut room[..n]);
     list[0] = m as u32;
-    trace(
-        n, xs, ys, cs, days, heads, nexts, &depths, t, h, x, y, &mut cells, list,
-    );
+    search.trace(h, layer, room, list);
     h + 1
 }

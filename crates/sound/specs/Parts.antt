@@ -1,11 +1,16 @@
 -- The parts of the test: room, bounds of rules, levels, days, and the whole.
-use Rattle.std.specs.Prelude.{ℕ, ◌+◌, ◌≤◌, ◌<◌, ◌≡◌, Bool, true, List, ◌⊎◌, length, get_or, set, ℤ, pos}
-use Rattle.meaning.specs.Bounds.{STEPS, RULES, MARKS}
+use Rattle.std.specs.Prelude.{ℕ, ◌+◌, ◌≤◌, ◌<◌, ◌≡◌, Bool, true, List, length, get_or, set, ℤ, pos}
+use Rattle.meaning.specs.Bounds.{STEPS, RULES}
 use Rattle.meaning.specs.Rules.{InAmount, InBounds, Earliest, largest}
-use Rattle.meaning.specs.Tables.{Tables, ColumnsRoom, rule_at, at, taken, Room, Sound}
+use Rattle.meaning.specs.Tables.{Tables, rule_at, at, held, taken, Room, Sound}
 use Rattle.lent.specs.Decides.{Decides}
 use Rattle.lent.specs.Lent.{columns, held_by}
+use Rattle.meaning.specs.declared.Counts.{Counts}
+use Rattle.chains.specs.declared.Held.{Held}
+use Rattle.sound.specs.Ground.{rule_of, on}
 use Rattle.chains.specs.Chains.{OFF, LentChains, Pushed}
+use Rattle.sound.specs.declared.Place.{Place}
+use Rattle.sound.specs.declared.Place.TheVariants.{Free, Fine, Bad}
 
 -- Every number of the list below place m is below n.
 abbrev pub AllBelow : ℕ → ℕ → List ℕ → Type 0
@@ -19,59 +24,49 @@ AmountsIn m list = (i : ℕ) → i < m → InAmount (get_or list i (pos 0))
 abbrev pub AllIn : ℕ → ℕ → List ℕ → List ℕ → List ℤ → Type 0
 AllIn n m xs ys cs = (i : ℕ) → i < m → InBounds n (rule_at (columns xs ys cs) i)
 
--- The days are the earliest plan of the rules whose numbers H holds of, over n steps, and the last of them is `last`.
-pub record DaysIn (n : ℕ) (H : ℕ → Type 0) (xs ys : List ℕ) (cs : List ℤ) (days : List ℕ) (last : ℕ) : Type 0 where
-  pub earliest : Earliest n (rule_at (columns xs ys cs)) H (at days)
-  pub last_largest : last ≡ largest n (at days)
+-- The days are the earliest plan of the rules on chains, over the steps counted, and the last day is the last of them.
+pub record DaysIn (counts : Counts) (g : Held) : Type 0 where
+  pub earliest : Earliest counts.steps (rule_of g) (on g) (at g.days.now)
+  pub last_largest : counts.last ≡ largest counts.steps (at g.days.now)
 
--- Every place has a rule and a level, and there is room for chains over n steps, of any rules; and no more marks are open than may be.
-pub record ChainsRoom (n marks : ℕ) (xs ys : List ℕ) (cs : List ℤ) (levels heads nexts : List ℕ) : Type 0 where
-  pub columns_room : ColumnsRoom RULES (columns xs ys cs)
-  pub levels_room : RULES ≤ length levels
-  pub heads_room : n ≤ length heads
-  pub nexts_room : RULES ≤ length nexts
-  pub marks_in : marks ≤ MARKS
-
--- The rule in place i is within bounds, over n steps, and its level is one of those that are open with so many marks.
-pub record Good (n marks : ℕ) (xs ys : List ℕ) (cs : List ℤ) (levels : List ℕ) (i : ℕ) : Type 0 where
-  pub in_bounds : InBounds n (rule_at (columns xs ys cs) i)
-  pub level_open : at levels i ≤ marks + 1
+-- The rule in place i is within bounds, and its level is one of those that are open.
+pub record Good (t : Tables) (i : ℕ) : Type 0 where
+  pub in_bounds : InBounds t.counts.steps (rule_at t.rules i)
+  pub level_open : at t.levels i ≤ t.counts.marks + 1
 
 -- Place i is free, and said to be on no chain.
-pub record FreeThere (levels : List ℕ) (i : ℕ) (heads nexts : List ℕ) (r : ℕ) (heads' nexts' : List ℕ) : Type 0 where
-  pub is_0 : r ≡ 0
-  pub free : at levels i ≡ 0
+pub record FreeThere (t : Tables) (i : ℕ) (heads nexts heads' nexts' : List ℕ) : Type 0 where
+  pub free : at t.levels i ≡ 0
   pub heads_are : heads' ≡ heads
   pub nexts_are : nexts' ≡ set nexts i OFF
 
 -- The rule held in place i is good, and was put on its chain.
-pub record GoodThere (n marks : ℕ) (xs ys : List ℕ) (cs : List ℤ) (levels : List ℕ) (i : ℕ) (heads nexts : List ℕ) (r : ℕ) (heads' nexts' : List ℕ) : Type 0 where
-  pub is_1 : r ≡ 1
-  pub held : 0 < at levels i
-  pub good : Good n marks xs ys cs levels i
-  pub pushed : Pushed i xs heads nexts heads' nexts'
+pub record GoodThere (t : Tables) (i : ℕ) (heads nexts heads' nexts' : List ℕ) : Type 0 where
+  pub held : 0 < at t.levels i
+  pub good : Good t i
+  pub pushed : Pushed i t.rules.firsts heads nexts heads' nexts'
 
 -- The rule held in place i is not good.
-pub record BadThere (n marks : ℕ) (xs ys : List ℕ) (cs : List ℤ) (levels : List ℕ) (i r : ℕ) : Type 0 where
-  pub is_2 : r ≡ 2
-  pub held : 0 < at levels i
-  pub bad : Good n marks xs ys cs levels i → ⊥
+pub record BadThere (t : Tables) (i : ℕ) : Type 0 where
+  pub held : 0 < at t.levels i
+  pub bad : Good t i → ⊥
 
--- What looking at place i gives: one of the three.
-abbrev pub Settled : ℕ → ℕ → List ℕ → List ℕ → List ℤ → List ℕ → ℕ → List ℕ → List ℕ → ℕ → List ℕ → List ℕ → Type 0
-Settled n marks xs ys cs levels i heads nexts r heads' nexts' =
-    FreeThere levels i heads nexts r heads' nexts' ⊎ (GoodThere n marks xs ys cs levels i heads nexts r heads' nexts' ⊎ BadThere n marks xs ys cs levels i r)
+-- What looking at place i says of it and leaves.
+abbrev pub Settled : Tables → ℕ → List ℕ → List ℕ → Place → List ℕ → List ℕ → Type 0
+Settled t i heads nexts Free heads' nexts' = FreeThere t i heads nexts heads' nexts'
+Settled t i heads nexts Fine heads' nexts' = GoodThere t i heads nexts heads' nexts'
+Settled t i heads nexts Bad heads' nexts' = BadThere t i
 
--- Every rule held is within bounds, over n steps, and of a level that is open, and m are held.
-pub record HeldIn (n m marks : ℕ) (xs ys : List ℕ) (cs : List ℤ) (levels : List ℕ) : Type 0 where
-  pub rules_good : (i : ℕ) → held_by levels i → InBounds n (rule_at (columns xs ys cs) i)
-  pub levels_open : (i : ℕ) → held_by levels i → at levels i ≤ marks + 1
-  pub rules_counted : m ≡ taken RULES levels
+-- Every rule held is within bounds and of a level that is open, and as many are held as counted.
+pub record HeldIn (t : Tables) : Type 0 where
+  pub rules_good : (i : ℕ) → held t i → InBounds t.counts.steps (rule_at t.rules i)
+  pub levels_open : (i : ℕ) → held t i → at t.levels i ≤ t.counts.marks + 1
+  pub rules_counted : t.counts.rules ≡ taken RULES t.levels
 
 -- The answer r says whether it is so; where it is yes, heads and nexts hold the chains of the rules held, and these alone.
-pub record RulesTested (n m marks : ℕ) (xs ys : List ℕ) (cs : List ℤ) (levels : List ℕ) (r : Bool) (heads nexts : List ℕ) : Type 0 where
-  pub decides : Decides r (HeldIn n m marks xs ys cs levels)
-  pub chained : r ≡ true → LentChains n (held_by levels) xs heads nexts
+pub record RulesTested (t : Tables) (r : Bool) (heads nexts : List ℕ) : Type 0 where
+  pub decides : Decides r (HeldIn t)
+  pub chained : r ≡ true → LentChains t.counts.steps (held_by t.levels) t.rules.firsts heads nexts
 
 -- What the test of the tables needs: room in them, and in the lists for the chains.
 pub record Testable (t : Tables) (heads nexts : List ℕ) : Type 0 where

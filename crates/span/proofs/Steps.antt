@@ -6,8 +6,7 @@ use native.Mathlib.Omega.{arith}
 use native.Mathlib.Decide.{ℕ_discrete}
 use lib.ListN.{length}
 use borrow.Author.Tests.{eq-eqb, ne_eqb, le-leb, lt-leb}
-use Rattle.text.specs.declared.Tok.{Tok}
-use Rattle.text.specs.Lexicon.{token_at}
+use Rattle.text.specs.Lexicon.{Tok, token_at}
 use Rattle.text.proofs.Tokens.{token_placed}
 use Rattle.span.specs.Span.{span, span_from}
 
@@ -64,13 +63,6 @@ span_end s d i h = by_kind (token_at s i) refl (ℕ_discrete (token_at s i).kind
     by_kind t e (yes k) = span_ends s d i t e k
     by_kind t e (no n) = absurd (omega (arith, ((token_placed s i t e).some n).1, ((token_placed s i t e).some n).2))
 
--- Where the text begins with an opening bracket its span is that of the whole text; where it does not, it is 0.
-module _ (s : List ℕ) (t : Tok) (e : t ≡ token_at s 0) where
-  pub span_begun : t.kind ≡ 1 → t.from ≡ 0 → (r : ℕ) → IsSpan s 0 0 r → r ≡ span s
-  span_begun k z r p = rw (← e) simp (eq-eqb t.kind 1 k, eq-eqb t.from 0 z) (p (suc (length s)) (omega arith))
-
-  pub span_other_kind : (t.kind ≡ 1 → ⊥) → 0 ≡ span s
-  span_other_kind n = rw (← e) simp (ne_eqb t.kind 1 n)
-
-  pub span_late : t.kind ≡ 1 → (t.from ≡ 0 → ⊥) → 0 ≡ span s
-  span_late k n = rw (← e) simp (eq-eqb t.kind 1 k, ne_eqb t.from 0 n)
+-- Where the text begins with an opening bracket its span is that of the whole text.
+pub span_begun : (s : List ℕ) (t : Tok) → t ≡ token_at s 0 → t.kind ≡ 1 → t.from ≡ 0 → (r : ℕ) → IsSpan s 0 0 r → r ≡ span s
+span_begun s t e k z r p = rw (← e) simp (eq-eqb t.kind 1 k, eq-eqb t.from 0 z) (p (suc (length s)) (omega arith))

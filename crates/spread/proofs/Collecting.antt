@@ -14,7 +14,9 @@ use Rattle.meaning.specs.Tables.{at}
 use Rattle.meaning.specs.Reckoning.{count}
 use Rattle.meaning.proofs.Counting.{count_none, count_suc, count_more, count_at_most}
 use Rattle.spread.specs.State.{without_gain, StandsIn}
-use Rattle.waiting.specs.Waiting.{Put, New, Entered, Led, LedBut}
+use Rattle.waiting.specs.Places.{Put}
+use Rattle.waiting.specs.Waiting.{Entered}
+use Rattle.waiting.specs.declared.Waiting.{Waiting}
 use Rattle.spread.specs.Clauses.{Collected, alone}
 use Rattle.waiting.proofs.Places.{put_set, put_here}
 use Rattle.spread.proofs.Places.{put_instead}
@@ -149,32 +151,14 @@ alone_is n y gain g g' none put v v-in = tell (ℕ_discrete v y)
     tell (yes e) = alone_there y gain v e ∙ sym (ap g' e ∙ put.there)
     tell (no e) = alone_elsewhere y gain v e ∙ sym (put.others v e ∙ none v v-in)
 
--- One step more: it enters the list where it has a gain.
+-- One step more: it waits from then on where it has a gain.
 pub collected_one :
-    (n : ℕ) (gains by by' list list' places places' leaders leaders' : List ℕ) (k k' v : ℕ) → v < length by → Collected v (at gains) (at by) (at list) k →
-    Led n (at gains) (at list) (at places) (at leaders) k →
-    ((0 < at gains v) × (by' ≡ set by v 0) × Entered n (at gains) v (at list) k (at list') (at places') (at leaders') k')
-    ⊎ ((at gains v ≤ 0) × (by' ≡ by) × (list' ≡ list) × (places' ≡ places) × (leaders' ≡ leaders) × (k' ≡ k)) →
-    Collected (v + 1) (at gains) (at by') (at list') k' × Led n (at gains) (at list') (at places') (at leaders') k'
-collected_one n gains by by' list list' places places' leaders leaders' k k' v by_room c led (inl (has, by-is, entered)) =
-    let counted : k' ≡ k + 1 = entered.one_more ∙ sym (add-one k) in (
-      rw (by-is, counted)
-          (collected_more (at gains) (at by) (at (set by v 0)) (at list) (at list') k v has entered.put (put_set by v 0 by_room) c),
-      entered.led,
-    )
-collected_one n gains by by' list list' places places' leaders leaders' k k' v by_room c led (inr (none, by-is, list_is, places_is, leaders-is, k-is)) =
-    rw (by-is, list_is, places_is, leaders-is, k-is) (collected_past (at gains) (at by) (at list) k v (omega arith) c, led)
-
--- A step that comes after those that are collected can enter.
-pub step_after :
-    (n : ℕ) (g by list : ℕ → ℕ) (k v : ℕ) → v < n → 0 < g v → Collected v g by list k → New n g list k v
-step_after n g by list k v v-in has c = record {
-  step_in = v-in;
-  some = has;
-  room = omega (arith, c.counted);
-  fresh = λ j j-in e. omega (arith, c.listed.step j j-in);
-}
-
--- All are led, so all but any one are.
-pub led_all_but : (y n : ℕ) (g list places leaders : ℕ → ℕ) (k : ℕ) → Led n g list places leaders k → LedBut y n g list places leaders k
-led_all_but y n g list places leaders k led = record { grouped = led.grouped; gain = led.gain; most = λ j j-in other. led.most j j-in }
+    {N G : ℕ} (gains by by' : List ℕ) (before after : Waiting N G) (v : ℕ) → v < length by → Collected v (at gains) (at by) (at before.list) before.count →
+    ((0 < at gains v) × (by' ≡ set by v 0) × Entered gains v before after) ⊎ ((at gains v ≤ 0) × (by' ≡ by) × (after ≡ before)) →
+    Collected (v + 1) (at gains) (at by') (at after.list) after.count
+collected_one gains by by' before after v by_room c (inl (has, by-is, entered)) =
+    let counted : after.count ≡ before.count + 1 = entered.one_more ∙ sym (add-one before.count) in
+    rw (by-is, counted)
+    (collected_more (at gains) (at by) (at (set by v 0)) (at before.list) (at after.list) before.count v has entered.put (put_set by v 0 by_room) c)
+collected_one gains by by' before after v by_room c (inr (none, by-is, same)) =
+    rw (by-is, same) (collected_past (at gains) (at by) (at before.list) before.count v (omega arith) c)

@@ -9,7 +9,7 @@ use Rattle.meaning.specs.Rules.{Rule, Plan, InSteps}
 use Rattle.meaning.specs.Tables.{at}
 use Rattle.meaning.specs.Reckoning.{up, dn}
 use Rattle.meaning.proofs.Whole.{plan→, →plan}
-use Rattle.waiting.specs.Waiting.{Put}
+use Rattle.waiting.specs.Places.{Put}
 use Rattle.spread.specs.Trace.{CameBy, Traced}
 use Rattle.spread.specs.State.{Ready, BetweenTurns}
 use Rattle.spread.specs.Clauses.{Collected, Spread}

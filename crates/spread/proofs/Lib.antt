@@ -1,7 +1,6 @@
 -- The laws of a spread, and what it is used for.
 pub mod Places
 pub mod Collecting
-pub mod Relaxing
 pub mod Raising
 pub mod Settling
 pub mod Walking

@@ -5,7 +5,7 @@ use mathlib.Core.Path.{◌≡◌, refl, sym, ◌∙◌, ap, ap₂}
 use mathlib.Core.List.{List, [], ◌∷◌}
 use lib.ListN.{length, take}
 use Rattle.meaning.specs.Tables.{at}
-use Rattle.waiting.specs.Waiting.{Put}
+use Rattle.waiting.specs.Places.{Put}
 
 -- The c places from place j on.
 abbrev pub part : (ℕ → ℕ) → ℕ → ℕ → List ℕ

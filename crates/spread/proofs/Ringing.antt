@@ -14,7 +14,7 @@ use Rattle.meaning.proofs.More.{more_new, more_old}
 use Rattle.spread.specs.Ground.{rules}
 use Rattle.spread.specs.Trace.{CameBy}
 use Rattle.spread.specs.Ring.{rule, Reached, Lacks, Arrives, Hops, RingIn}
-use Rattle.waiting.specs.Waiting.{Put}
+use Rattle.waiting.specs.Places.{Put}
 use Rattle.spread.proofs.Parts.{part, take_part, part_front}
 use Rattle.spread.proofs.Collecting.{alone_elsewhere}
 

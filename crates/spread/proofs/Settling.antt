@@ -7,7 +7,7 @@ use Rattle.meaning.specs.Rules.{Rule, InSteps}
 use Rattle.meaning.specs.Reckoning.{up, dn}
 use Rattle.spread.specs.Trace.{CameBy}
 use Rattle.spread.specs.State.{Listed, StandsIn, None, Every, Spreading}
-use Rattle.waiting.specs.Waiting.{Put}
+use Rattle.waiting.specs.Places.{Put}
 use Rattle.spread.specs.Relax.{instead}
 use Rattle.waiting.proofs.Places.{put_here}
 use Rattle.spread.proofs.Places.{put_instead}

@@ -7,7 +7,7 @@ use mathlib.Core.List.{List}
 use lib.IntN.{ℤ}
 use Rattle.meaning.specs.Tables.{at}
 use Rattle.spread.specs.State.{Ready, BetweenTurns}
-use Rattle.waiting.specs.Waiting.{Put, LargestAt}
+use Rattle.waiting.specs.Places.{Put, LargestAt}
 use Rattle.spread.specs.Relax.{instead}
 use Rattle.spread.proofs.Places.{put_instead}
 use Rattle.spread.specs.Ground.{rules, Ground}

@@ -6,7 +6,6 @@ use mathlib.Core.Path.{◌≡◌, refl, sym, ◌∙◌, subst}
 use mathlib.Core.Logic.{inl, inr}
 use mathlib.Core.Bool.{false, false≢true}
 use mathlib.Core.List.{List}
-use lib.ListN.{length}
 use lib.IntN.{ℤ}
 use lib.Dec.{eqb}
 use borrow.Author.Tests.{eq-eqb}
@@ -32,34 +31,18 @@ some_without n g y y-in none =
 
 -- Every rule held can be relaxed.
 pub relaxable :
-    (n : ℕ) (H : ℕ → Type 0) (order : ℕ → ℕ) (xs ys : List ℕ) (cs : List ℤ) (days heads nexts gains by list places leaders : List ℕ) (k i : ℕ) →
-    Ground n H order xs ys cs days heads nexts → H i → StepsRoom n gains by list places leaders → Ready n (at gains) (at list) k → Relaxable n ys cs days gains by k i
-relaxable n H order xs ys cs days heads nexts gains by list places leaders k i ground held room ready = record {
+    (n : ℕ) (H : ℕ → Type 0) (order : ℕ → ℕ) (xs ys : List ℕ) (cs : List ℤ) (days heads nexts gains by list : List ℕ) (k i most : ℕ) →
+    Ground n H order xs ys cs days heads nexts → H i → StepsRoom n most gains by → Ready n (at gains) (at list) k → Relaxable n ys cs days gains by k i
+relaxable n H order xs ys cs days heads nexts gains by list k i most ground held room ready = record {
   second_place = (ground.placed i held).second_place;
   amount_place = (ground.placed i held).amount_place;
   second_in = (ground.in_steps i held).second_in;
   second_day = omega (arith, ground.days_room, (ground.in_steps i held).second_in);
-  second_gain = omega (arith, room.room.gains_room, (ground.in_steps i held).second_in);
+  second_gain = omega (arith, room.gains_room, (ground.in_steps i held).second_in);
   second_by = omega (arith, room.by_room, (ground.in_steps i held).second_in);
   number_fits = omega (arith, ground.number_in i held);
   small = ready.small (at ys i) (ground.in_steps i held).second_in;
   room = λ none. omega (arith, ready.room, some_without n (at gains) (at ys i) (ground.in_steps i held).second_in none);
-}
-
--- Lists of the same lengths have the same room.
-pub room_kept :
-    (n : ℕ) (gains by list places leaders gains' by' list' places' leaders' : List ℕ) → length gains' ≡ length gains → length by' ≡ length by →
-    length list' ≡ length list → length places' ≡ length places → length leaders' ≡ length leaders → StepsRoom n gains by list places leaders →
-    StepsRoom n gains' by' list' places' leaders'
-room_kept n gains by list places leaders gains' by' list' places' leaders' gains-same by_same list_same places_same leaders-same room = record {
-  room = record {
-    few = room.room.few;
-    gains_room = omega (arith, room.room.gains_room);
-    list_room = omega (arith, room.room.list_room);
-    places_room = omega (arith, room.room.places_room);
-    leaders_room = omega (arith, room.room.leaders_room);
-  };
-  by_room = omega (arith, room.by_room);
 }
 
 -- A rule that is kept as it is has been seen to.

@@ -1,18 +1,33 @@
 -- What each function of a spread promises.
-use Rattle.std.specs.Prelude.{ℕ, ◌+◌, ◌^◌, ◌≤◌, ◌<◌, ◌≡◌, List, length, ℤ}
+use Rattle.std.specs.Prelude.{ℕ, ◌+◌, ◌*◌, ◌^◌, ◌≤◌, ◌<◌, ◌≡◌, List, length, ℤ}
+use Rattle.meaning.specs.Bounds.{STEPS}
 use Rattle.meaning.specs.Rules.{Plan}
 use Rattle.meaning.specs.Tables.{at}
 use Rattle.spread.specs.Least.{ForcedFrom}
 use Rattle.spread.specs.Trace.{Traced}
 use Rattle.spread.specs.State.{without_gain, Listed, StandsIn, Ready, None, Every, Spreading, BetweenTurns}
-use Rattle.waiting.specs.Waiting.{Put, Room}
+use Rattle.waiting.specs.declared.Waiting.{Waiting}
+use Rattle.waiting.specs.Places.{GROUP, Put}
+use Rattle.waiting.specs.Waiting.{Led}
 use Rattle.spread.specs.Relax.{instead}
 use Rattle.spread.specs.Ground.{rules}
 
--- The gains, the rules they came by and what the waiting steps need have a place for each of n steps.
-pub record StepsRoom (n : ℕ) (gains by list places leaders : List ℕ) : Type 0 where
-  pub room : Room n gains list places leaders
+-- Of n steps each can wait where there is room for `most`, and has a place for its gain and for the rule that it comes by.
+pub record StepsRoom (n most : ℕ) (gains by : List ℕ) : Type 0 where
+  pub steps_in : n ≤ most
+  pub gains_room : n ≤ length gains
   pub by_room : n ≤ length by
+
+-- Steps that wait can be kept, at most `most` of them in so many groups.
+pub record GroupsRoom (most groups : ℕ) : Type 0 where
+  pub few : most ≤ STEPS
+  pub leaders_room : (most ≤ GROUP * groups) × (groups ≤ most)
+
+-- A turn can be made: each step has its places, the gains are small enough, and all that wait are led.
+pub record Underway {N G : ℕ} (n : ℕ) (gains by : List ℕ) (w : Waiting N G) : Type 0 where
+  pub steps_room : StepsRoom n N gains by
+  pub ready : Ready n (at gains) (at w.list) w.count
+  pub led : Led gains w
 
 -- The first k places of the list hold each step below n with a gain, once, and no rule is named for any of them.
 pub record Collected (n : ℕ) (g by list : ℕ → ℕ) (k : ℕ) : Type 0 where

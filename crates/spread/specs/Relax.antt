@@ -3,7 +3,7 @@ use Rattle.std.specs.Prelude.{ℕ, suc, ◌+◌, ◌^◌, ◌≤◌, ◌<◌, �
 use Rattle.meaning.specs.Tables.{at}
 use Rattle.meaning.specs.Reckoning.{up, dn}
 use Rattle.lent.specs.Lent.{BIAS}
-use Rattle.waiting.specs.Waiting.{Put}
+use Rattle.waiting.specs.Places.{Put}
 
 -- The numbers f with v at place i instead.
 unfoldable pub instead : ℕ → ℕ → (ℕ → ℕ) → ℕ → ℕ

@@ -10,47 +10,43 @@ ghost use Rattle.meaning.specs.Tables.{at};
 ghost use Rattle.lent.specs.Decides.{Decides};
 ghost use Rattle.chains.specs.Chains.{number, linked};
 ghost use Rattle.spread.specs.Ground.{Ground};
-ghost use Rattle.spread.specs.State.{Ready};
 ghost use Rattle.spread.specs.Relax.{Relaxable, Relaxed};
-ghost use Rattle.waiting.specs.Waiting.{Led, Room};
-ghost use Rattle.spread.specs.Clauses.{StepsRoom, Collected, RelaxedAll, Turned, Askable, AskableAlone, Begun, alone, Spread, SettledAll};
+ghost use Rattle.waiting.specs.Waiting.{Led};
+ghost use Rattle.spread.specs.Clauses.{StepsRoom, GroupsRoom, Underway, Collected, RelaxedAll, Turned, Askable, AskableAlone, Begun, alone, Spread, SettledAll};
 ghost use Rattle.spread.specs.Ring.{Reached, Lacks, Hops, RingIn};
+ghost use Rattle.chains.specs.Held.{of_chains, of_held};
+
+use chains::{Held, Links};
+use waiting::Waiting;
 
 // Lists for at most so many steps are short ones: clearing long ones takes more time than a spread over few steps.
 pub const FEW: usize = 256;
 
-// So many leaders have FEW steps.
-const FEW_GROUPS: usize = (FEW + 15) / 16;
+// So many leaders have FEW steps, and so many have STEPS.
+const FEW_GROUPS: usize = (FEW + waiting::GROUP - 1) / waiting::GROUP;
 
-// Puts each step below n with a gain into the list, names no rule for it, and gives back how many there are.
-fn collect(
-    n: usize,
-    gains: &[u64],
-    by: &mut [u16],
-    list: &mut [u16],
-    places: &mut [u16],
-    leaders: &mut [u16],
-) -> usize
-    requires { StepsRoom n gains.now by.old list.old places.old leaders.old }
-    ensures collected { Collected n (at gains.now) (at by.new) (at list.new) result }
-    ensures led { Led n (at gains.now) (at list.new) (at places.new) (at leaders.new) result }
+const GROUPS: usize = (meaning::STEPS + waiting::GROUP - 1) / waiting::GROUP;
+
+// The steps below n with a gain, which wait; no rule is named for any of them.
+fn collect<const N: usize, const G: usize>(n: usize, gains: &[u64], by: &mut [u16]) -> Waiting<N, G>
+    requires steps_room { StepsRoom n N gains.now by.old }
+    requires groups_room { GroupsRoom N G }
+    ensures collected { Collected n (at gains.now) (at by.new) (at result.list) result.count }
+    ensures led { Led gains.now result }
 {
-    let mut k = 0;
-    let mut v = 0;
-    while v < n {
-        if 0 < waiting::gain_at(gains, v) {
+    let mut waiting = Waiting::new();
+    for v in 0..n {
+        if 0 < gains[v] {
             by[v] = 0;
-            k = waiting::enter(n, v, gains, list, places, leaders, k);
+            waiting.enter(v, gains);
         }
-        v += 1;
     }
-    k
+    waiting
 }
 
 // Relaxes the rule under i, where `reach` is the day of its first step with its gain, plus lent::BIAS: where the rule asks more of its second
-// step than that has, its gain is raised to just that and the rule is named for it; and where it had no gain, it is put at the end of the
-// list. Gives back how many steps the list has then.
-fn relax(
+// step than that has, its gain is raised to just that and the rule is named for it; and where it had no gain, it waits from then on.
+fn relax<const N: usize, const G: usize>(
     n: usize,
     i: usize,
     reach: u64,
@@ -59,138 +55,103 @@ fn relax(
     days: &[u32],
     gains: &mut [u64],
     by: &mut [u16],
-    list: &mut [u16],
-    places: &mut [u16],
-    leaders: &mut [u16],
-    k: usize,
-) -> usize
-    requires relaxable { Relaxable n ys.now cs.now days.now gains.old by.old k i }
-    requires room { Room n gains.old list.old places.old leaders.old }
-    requires led { Led n (at gains.old) (at list.old) (at places.old) (at leaders.old) k }
+    waiting: &mut Waiting<N, G>,
+)
+    requires relaxable { Relaxable n ys.now cs.now days.now gains.old by.old waiting.old.count i }
+    requires steps_in { n ≤ N }
+    requires led { Led gains.old waiting.old }
     ensures relaxed { Relaxed ys.now cs.now days.now i reach
-        gains.old by.old list.old k
-        gains.new by.new list.new result }
-    ensures led_2 { Led n (at gains.new) (at list.new) (at places.new) (at leaders.new) result }
+        gains.old by.old waiting.old.list waiting.old.count
+        gains.new by.new waiting.new.list waiting.new.count }
+    ensures led_2 { Led gains.new waiting.new }
 {
     let y = lent::number_at(ys, i);
     let far = lent::day_at(days, y) + lent::amount_at(cs, i);
     let have = gains[y];
     if reach <= far + have {
-        return k;
+        return;
     }
     gains[y] = reach - far;
     by[y] = (i + 1) as u16;
     if 0 < have {
-        waiting::rise(n, y, gains, list, places, leaders, k);
-        return k;
+        waiting.rise(y, gains);
+        return;
     }
-    waiting::enter(n, y, gains, list, places, leaders, k)
+    waiting.enter(y, gains);
 }
 
-// Relaxes each rule of step x. Gives back how many steps the list has then.
-fn relax_all(
+// Relaxes each rule of step x.
+fn relax_all<const N: usize, const G: usize>(
     n: usize,
-    xs: &[u16],
-    ys: &[u16],
-    cs: &[i32],
-    days: &[u32],
-    heads: &[u16],
-    nexts: &[u16],
+    held: Held<'_>,
     x: usize,
     gains: &mut [u64],
     by: &mut [u16],
-    list: &mut [u16],
-    places: &mut [u16],
-    leaders: &mut [u16],
-    k: usize,
-) -> usize
-    requires ground { Ground n (linked nexts.now) number xs.now ys.now cs.now days.now heads.now nexts.now }
-    requires steps_room { StepsRoom n gains.old by.old list.old places.old leaders.old }
-    requires ready { Ready n (at gains.old) (at list.old) k }
-    requires led { Led n (at gains.old) (at list.old) (at places.old) (at leaders.old) k }
+    waiting: &mut Waiting<N, G>,
+)
+    requires ground { of_chains (Ground n) held }
+    requires underway { Underway n gains.old by.old waiting.old }
     requires x_lt_n { x < n }
-    ensures relaxed_all { RelaxedAll n (linked nexts.now) xs.now ys.now cs.now days.now x
-        gains.old by.old list.old k
-        gains.new by.new list.new result }
-    ensures led_2 { Led n (at gains.new) (at list.new) (at places.new) (at leaders.new) result }
+    ensures relaxed_all { of_held (RelaxedAll n) held.entry x
+        gains.old by.old waiting.old.list waiting.old.count
+        gains.new by.new waiting.new.list waiting.new.count }
+    ensures led_2 { Led gains.new waiting.new }
 {
-    let reach = lent::day_at(days, x) + waiting::gain_at(gains, x) + lent::BIAS;
-    let mut count = k;
-    let mut link = lent::number_at(heads, x);
-    while 0 < link {
-        let i = link - 1;
-        count = relax(
-            n, i, reach, ys, cs, days, gains, by, list, places, leaders, count,
+    let reach = u64::from(held.days[x]) + gains[x] + lent::BIAS;
+    for i in Links::new(held.nexts, lent::number_at(held.heads, x)) {
+        relax(
+            n,
+            i,
+            reach,
+            held.rules.ys,
+            held.rules.cs,
+            held.days,
+            gains,
+            by,
+            waiting,
         );
-        link = lent::number_at(nexts, i);
     }
-    count
 }
 
-// One turn: settles a step of largest gain in the list, which has one, and relaxes its rules. Gives back how many steps the list has then.
-fn turn(
+// One turn: settles a waiting step of largest gain, of which there are some, and relaxes its rules.
+fn turn<const N: usize, const G: usize>(
     n: usize,
-    xs: &[u16],
-    ys: &[u16],
-    cs: &[i32],
-    days: &[u32],
-    heads: &[u16],
-    nexts: &[u16],
+    held: Held<'_>,
     gains: &mut [u64],
     by: &mut [u16],
-    list: &mut [u16],
-    places: &mut [u16],
-    leaders: &mut [u16],
-    k: usize,
-) -> usize
-    requires ground { Ground n (linked nexts.now) number xs.now ys.now cs.now days.now heads.now nexts.now }
-    requires steps_room { StepsRoom n gains.old by.old list.old places.old leaders.old }
-    requires ready { Ready n (at gains.old) (at list.old) k }
-    requires led { Led n (at gains.old) (at list.old) (at places.old) (at leaders.old) k }
-    requires k_nonzero { 0 < k }
-    ensures turned { Turned n (linked nexts.now) xs.now ys.now cs.now days.now
-        gains.old by.old list.old k
-        gains.new by.new list.new result }
-    ensures led_2 { Led n (at gains.new) (at list.new) (at places.new) (at leaders.new) result }
+    waiting: &mut Waiting<N, G>,
+)
+    requires ground { of_chains (Ground n) held }
+    requires underway { Underway n gains.old by.old waiting.old }
+    requires some { 0 < waiting.old.count }
+    ensures turned { of_held (Turned n) held.entry
+        gains.old by.old waiting.old.list waiting.old.count
+        gains.new by.new waiting.new.list waiting.new.count }
+    ensures led_2 { Led gains.new waiting.new }
 {
-    let x = waiting::take(n, gains, list, places, leaders, k);
-    relax_all(
-        n,
-        xs,
-        ys,
-        cs,
-        days,
-        heads,
-        nexts,
-        x,
-        gains,
-        by,
-        list,
-        places,
-        leaders,
-        k - 1,
-    )
+    let x = waiting.take(gains);
+    relax_all(n, held, x, gains, by, waiting);
 }
 
-// Gives step y, below n, the gain that is asked for there alone: y stands alone in the list, and no rule is named for it. Gives back how many steps the list has, 1.
-fn begin(
+// Gives step y, below n, the gain that is asked for there alone: y alone waits, and no rule is named for it.
+fn begin<const N: usize, const G: usize>(
     n: usize,
     y: usize,
     gain: u64,
     gains: &mut [u64],
     by: &mut [u16],
-    list: &mut [u16],
-    places: &mut [u16],
-    leaders: &mut [u16],
-) -> usize
+) -> Waiting<N, G>
     requires askable_alone { AskableAlone n y gain gains.old by.old }
-    requires room { Room n gains.old list.old places.old leaders.old }
-    ensures begun { Begun n y gain gains.old gains.new by.new list.new result }
-    ensures led { Led n (at gains.new) (at list.new) (at places.new) (at leaders.new) result }
+    requires steps_in { n ≤ N }
+    requires groups_room { GroupsRoom N G }
+    ensures begun { Begun n y gain gains.old gains.new by.new result.list result.count }
+    ensures led { Led gains.new result }
 {
     gains[y] = gain;
     by[y] = 0;
-    waiting::enter(n, y, gains, list, places, leaders, 0)
+    let mut waiting = Waiting::new();
+    waiting.enter(y, gains);
+    waiting
 }
 
 // Whether the goal is a step below n with a gain.
@@ -198,206 +159,99 @@ fn reached(n: usize, gains: &[u64], goal: usize) -> bool
     requires { n ≤ length gains.now }
     ensures { Decides result ((goal < n) × (0 < at gains.now goal)) }
 {
-    goal < n && 0 < waiting::gain_at(gains, goal)
+    goal < n && 0 < gains[goal]
 }
 
-// Turn by turn, settles the steps of the list, which first has k, and those that enter it, until none is left or the goal is a step with a gain.
-fn settle_all(
+// Turn by turn, settles the steps that wait, at first and later on, until none is left or the goal is a step with a gain.
+fn settle_all<const N: usize, const G: usize>(
     n: usize,
-    xs: &[u16],
-    ys: &[u16],
-    cs: &[i32],
-    days: &[u32],
-    heads: &[u16],
-    nexts: &[u16],
+    held: Held<'_>,
     goal: usize,
     gains: &mut [u64],
     by: &mut [u16],
-    list: &mut [u16],
-    places: &mut [u16],
-    leaders: &mut [u16],
-    k: usize,
+    waiting: &mut Waiting<N, G>,
 )
-    requires ground { Ground n (linked nexts.now) number xs.now ys.now cs.now days.now heads.now nexts.now }
-    requires steps_room { StepsRoom n gains.old by.old list.old places.old leaders.old }
-    requires ready { Ready n (at gains.old) (at list.old) k }
-    requires led { Led n (at gains.old) (at list.old) (at places.old) (at leaders.old) k }
-    ensures { SettledAll n (linked nexts.now) xs.now ys.now cs.now days.now goal
-        gains.old by.old list.old k
+    requires ground { of_chains (Ground n) held }
+    requires underway { Underway n gains.old by.old waiting.old }
+    ensures { of_held (SettledAll n) held.entry goal
+        gains.old by.old waiting.old.list waiting.old.count
         gains.new by.new }
 {
-    let mut left = k;
-    while 0 < left {
-        if reached(n, gains, goal) {
-            return;
-        }
-        left = turn(
-            n, xs, ys, cs, days, heads, nexts, gains, by, list, places, leaders, left,
-        );
+    while !waiting.is_empty() && !reached(n, gains, goal) {
+        turn(n, held, gains, by, waiting);
     }
 }
 
 // Raises the gains of n steps as little as keeps each rule held, which the days keep, where heads and nexts are the chains of the rules: the days
 // with their gains are then the earliest plan that is not before the days with the gains at entry. It stops early where the goal is a step below n
 // that has a gain. `by` has for each step with a gain the number, plus 1, of the rule that it came by, or 0 where it kept its gain.
-pub fn spread(
-    n: usize,
-    xs: &[u16],
-    ys: &[u16],
-    cs: &[i32],
-    days: &[u32],
-    heads: &[u16],
-    nexts: &[u16],
-    goal: usize,
-    gains: &mut [u64],
-    by: &mut [u16],
-)
-    requires ground { Ground n (linked nexts.now) number xs.now ys.now cs.now days.now heads.now nexts.now }
+// No struct of gains and by: of arrays, it needs a size of its own beside those of what waits; of two `&mut`, each promise must say that it holds the same ones.
+pub fn spread(n: usize, held: Held<'_>, goal: usize, gains: &mut [u64], by: &mut [u16])
+    requires ground { of_chains (Ground n) held }
     requires askable { Askable n gains.old by.old }
-    ensures { Spread n (linked nexts.now) xs.now ys.now cs.now days.now goal
-        (λ v. at days.now v + at gains.old v)
+    ensures { of_held (Spread n) held.entry goal
+        (λ v. at held.entry.days.now v + at gains.old v)
         gains.old gains.new by.new }
 {
-    let mut list = [0u16; meaning::STEPS];
-    let mut places = [0u16; meaning::STEPS];
-    let mut leaders = [0u16; waiting::GROUPS];
-    let k = collect(n, gains, by, &mut list, &mut places, &mut leaders);
-    settle_all(
-        n,
-        xs,
-        ys,
-        cs,
-        days,
-        heads,
-        nexts,
-        goal,
-        gains,
-        by,
-        &mut list,
-        &mut places,
-        &mut leaders,
-        k,
-    );
+    let mut waiting = collect::<{ meaning::STEPS }, GROUPS>(n, gains, by);
+    settle_all(n, held, goal, gains, by, &mut waiting);
 }
 
-// The same, where the gain is asked for at step y alone and no step below n has one at entry, with list, places and leaders to work in.
-fn spread_in(
+// The same, where the gain is asked for at step y alone and no step below n has one at entry, with room for N steps that wait.
+fn spread_in<const N: usize, const G: usize>(
     n: usize,
-    xs: &[u16],
-    ys: &[u16],
-    cs: &[i32],
-    days: &[u32],
-    heads: &[u16],
-    nexts: &[u16],
+    held: Held<'_>,
     y: usize,
     gain: u64,
     goal: usize,
     gains: &mut [u64],
     by: &mut [u16],
-    list: &mut [u16],
-    places: &mut [u16],
-    leaders: &mut [u16],
 )
-    requires ground { Ground n (linked nexts.now) number xs.now ys.now cs.now days.now heads.now nexts.now }
+    requires ground { of_chains (Ground n) held }
     requires askable_alone { AskableAlone n y gain gains.old by.old }
-    requires room { Room n gains.old list.old places.old leaders.old }
-    ensures { Spread n (linked nexts.now) xs.now ys.now cs.now days.now goal
-        (λ v. at days.now v + alone y gain v)
+    requires steps_in { n ≤ N }
+    requires groups_room { GroupsRoom N G }
+    ensures { of_held (Spread n) held.entry goal
+        (λ v. at held.entry.days.now v + alone y gain v)
         gains.old gains.new by.new }
 {
-    let k = begin(n, y, gain, gains, by, list, places, leaders);
-    settle_all(
-        n, xs, ys, cs, days, heads, nexts, goal, gains, by, list, places, leaders, k,
-    );
+    let mut waiting = begin::<N, G>(n, y, gain, gains, by);
+    settle_all(n, held, goal, gains, by, &mut waiting);
 }
 
-// The same, with lists of its own: short ones for few steps, which are cleared sooner.
+// The same, with room for few steps where these are few: it is cleared sooner.
 pub fn spread_one(
     n: usize,
-    xs: &[u16],
-    ys: &[u16],
-    cs: &[i32],
-    days: &[u32],
-    heads: &[u16],
-    nexts: &[u16],
+    held: Held<'_>,
     y: usize,
     gain: u64,
     goal: usize,
     gains: &mut [u64],
     by: &mut [u16],
 )
-    requires ground { Ground n (linked nexts.now) number xs.now ys.now cs.now days.now heads.now nexts.now }
+    requires ground { of_chains (Ground n) held }
     requires askable_alone { AskableAlone n y gain gains.old by.old }
-    ensures { Spread n (linked nexts.now) xs.now ys.now cs.now days.now goal
-        (λ v. at days.now v + alone y gain v)
+    ensures { of_held (Spread n) held.entry goal
+        (λ v. at held.entry.days.now v + alone y gain v)
         gains.old gains.new by.new }
 {
     if n <= FEW {
-        let mut list = [0u16; FEW];
-        let mut places = [0u16; FEW];
-        let mut leaders = [0u16; FEW_GROUPS];
-        spread_in(
-            n,
-            xs,
-            ys,
-            cs,
-            days,
-            heads,
-            nexts,
-            y,
-            gain,
-            goal,
-            gains,
-            by,
-            &mut list,
-            &mut places,
-            &mut leaders,
-        );
+        spread_in::<FEW, FEW_GROUPS>(n, held, y, gain, goal, gains, by);
         return;
     }
-    let mut list = [0u16; meaning::STEPS];
-    let mut places = [0u16; meaning::STEPS];
-    let mut leaders = [0u16; waiting::GROUPS];
-    spread_in(
-        n,
-        xs,
-        ys,
-        cs,
-        days,
-        heads,
-        nexts,
-        y,
-        gain,
-        goal,
-        gains,
-        by,
-        &mut list,
-        &mut places,
-        &mut leaders,
-    );
+    spread_in::<{ meaning::STEPS }, GROUPS>(n, held, y, gain, goal, gains, by);
 }
 
 // How many hops lead back to y from x, which the gain asked for at y alone has reached: a hop is to the first step of the rule that a step came by.
-fn hops(
-    n: usize,
-    m: usize,
-    xs: &[u16],
-    ys: &[u16],
-    cs: &[i32],
-    days: &[u32],
-    nexts: &[u16],
-    gains: &[u64],
-    by: &[u16],
-    x: usize,
-    y: usize,
-) -> usize
-    requires { Reached n (linked nexts.now) m xs.now ys.now cs.now days.now gains.now by.now x y }
-    ensures { Hops n xs.now by.now x y result }
+fn hops(n: usize, m: usize, held: Held<'_>, gains: &[u64], by: &[u16], x: usize, y: usize) -> usize
+    requires { Reached n (linked held.nexts.now) m held.rules.xs.now held.rules.ys.now held.rules.cs.now held.days.now gains.now by.now x y }
+    ensures { Hops n held.entry.rules.xs.now by.now x y result }
 {
     let mut v = x;
     let mut k = 0;
+    // No iterator: that the walk meets y is known of these gains alone, and its steps stand in no list.
     while v != y {
-        v = lent::number_at(xs, lent::number_at(by, v) - 1);
+        v = lent::number_at(held.rules.xs, lent::number_at(by, v) - 1);
         k += 1;
     }
     k
@@ -408,11 +262,7 @@ fn hops(
 pub fn ring(
     n: usize,
     m: usize,
-    xs: &[u16],
-    ys: &[u16],
-    cs: &[i32],
-    days: &[u32],
-    nexts: &[u16],
+    held: Held<'_>,
     gains: &[u64],
     by: &[u16],
     x: usize,
@@ -420,19 +270,19 @@ pub fn ring(
     c: i32,
     list: &mut [u32],
 ) -> usize
-    requires reached { Reached n (linked nexts.now) m xs.now ys.now cs.now days.now gains.now by.now x y }
-    requires lacks { Lacks days.now gains.now x y c }
+    requires reached { Reached n (linked held.nexts.now) m held.rules.xs.now held.rules.ys.now held.rules.cs.now held.days.now gains.now by.now x y }
+    requires lacks { Lacks held.days.now gains.now x y c }
     requires n_in_bounds { n ≤ length list.old }
-    ensures { RingIn (linked nexts.now) m xs.now ys.now cs.now x y c result list.old list.new }
+    ensures { RingIn (linked held.entry.nexts.now) m held.entry.rules.xs.now held.entry.rules.ys.now held.entry.rules.cs.now x y c result list.old list.new }
 {
-    let k = hops(n, m, xs, ys, cs, days, nexts, gains, by, x, y) + 1;
+    let k = hops(n, m, held, gains, by, x, y) + 1;
     let mut v = x;
     let mut j = k;
     while v != y {
         let i = lent::number_at(by, v) - 1;
         j -= 1;
         list[j] = i as u32;
-        v = lent::number_at(xs, i);
+        v = lent::number_at(held.rules.xs, i);
     }
     list[0] = m as u32;
     k

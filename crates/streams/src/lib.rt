@@ -3,18 +3,18 @@
 // can say; the numbers here are those that it answered. Whoever calls hands on the streams, which take no bytes.
 #![tactic(auto)]
 
-ghost use Rattle.std.specs.Prelude.{◌≡◌, ◌≤◌, length, take};
+ghost use Rattle.std.specs.Prelude.{◌≡◌, ◌<◌, ◌≤◌, length, take, IfOk, IfErr};
 
 use std::fmt::InlineText;
+use std::io;
 use std::io::{Error, ErrorKind, Print, Read, Stderr, Stdin, Stdout};
 
 // How often in a row an interrupted call is made again. A proved loop ends, and no run comes to this number.
 const TURNS: u64 = u64::MAX;
 
-// What was read: whether a read failed, and the place past the bytes read.
-#[derive(Drop)]
-pub struct Filled {
-    pub failed: bool,
+// A stream failed; `at` is the place that was come to before.
+#[derive(Clone, Copy, Debug, PartialEq, Eq)]
+pub struct Stopped {
     pub at: usize,
 }
 
@@ -28,10 +28,7 @@ const WORDS: usize = 256;
 
 // Writes to standard error. Where that fails too, nobody is left to be told.
 fn say(error: Stderr, bytes: &[u8]) {
-    match error.write_all(bytes) {
-        Ok(()) => {}
-        Err(_) => {}
-    }
+    let _ = error.write_all(bytes);
 }
 
 // The system's words for a failure, without the error's number that std writes after them.
@@ -56,115 +53,68 @@ fn interrupted(why: &Error) -> bool {
     why.kind() == ErrorKind::Interrupted
 }
 
-// A read failed: standard error says why, and no byte came.
-fn unread(error: Stderr, why: Error) -> Filled
-    ensures { result.at ≡ 0 }
-{
-    tell(error, b"dates: the script cannot be read", why);
-    Filled {
-        failed: true,
-        at: 0,
-    }
-}
-
 // One read into all of rest: how many bytes came, 0 at the end of the text.
-fn read_once(input: Stdin, error: Stderr, rest: &mut [u8]) -> Filled
-    ensures { result.at ≤ length rest.old }
+fn read_once(input: Stdin, rest: &mut [u8]) -> io::Result<usize>
+    ensures { IfOk result (λ got. got ≤ length rest.old) }
 {
     let mut from = input;
-    let mut turns = TURNS;
-    while turns > 0 {
+    for _ in 0..TURNS {
         match from.read(rest) {
-            Ok(got) => {
-                return Filled {
-                    failed: false,
-                    at: got,
-                };
-            }
-            Err(why) => {
-                if !interrupted(&why) {
-                    return unread(error, why);
-                }
-            }
+            Err(why) if interrupted(&why) => {}
+            answer => return answer,
         }
-        turns -= 1;
     }
-    unread(error, Error::from_raw_os_error(INTERRUPTED))
+    Err(Error::from_raw_os_error(INTERRUPTED))
 }
 
-// Reads from place `from` on, until buf is full, the text ends or a read fails. What stands before that place stays.
-pub fn fill(input: Stdin, error: Stderr, buf: &mut [u8], from: usize) -> Filled
+// Reads from place `from` on, until buf is full, the text ends or a read fails: the place past the bytes read. What stands before `from` stays.
+pub fn fill(input: Stdin, error: Stderr, buf: &mut [u8], from: usize) -> Result<usize, Stopped>
     requires { from ≤ length buf.old }
-    ensures at_in_bounds { result.at ≤ length buf.new }
-    ensures from_le_at { from ≤ result.at }
+    ensures ok { IfOk result (λ at. (from ≤ at) × (at ≤ length buf.new)) }
+    ensures err { IfErr result (λ stopped. (from ≤ stopped.at) × (stopped.at ≤ length buf.new)) }
     ensures buf_unchanged { take from buf.new ≡ take from buf.old }
 {
     let mut at = from;
     while at < buf.len() {
-        let got = read_once(input, error, &mut buf[at..]);
-        if got.failed {
-            return Filled {
-                failed: true,
-                at: at,
-            };
-        }
-        if got.at == 0 {
-            return Filled {
-                failed: false,
-                at: at,
-            };
-        }
-        at += got.at;
-    }
-    Filled {
-        failed: false,
-        at: at,
-    }
-}
-
-// A write failed: standard error says why, and no byte was taken.
-fn unwritten(error: Stderr, why: Error) -> usize
-    ensures { result ≡ 0 }
-{
-    tell(error, b"dates: the answers cannot be written", why);
-    0
-}
-
-// One write of rest, from its first byte on: how many bytes were taken, 0 where it failed.
-fn write_once(output: Stdout, error: Stderr, rest: &[u8]) -> usize
-    ensures { result ≤ length rest.now }
-{
-    let mut turns = TURNS;
-    while turns > 0 {
-        match output.write_some(rest) {
-            Ok(took) => {
-                if took > 0 {
-                    return took;
-                }
-                return unwritten(error, Error::from_raw_os_error(NO_FAILURE));
-            }
+        match read_once(input, &mut buf[at..]) {
+            Ok(0) => break,
+            Ok(got) => at += got,
             Err(why) => {
-                if !interrupted(&why) {
-                    return unwritten(error, why);
-                }
+                tell(error, b"dates: the script cannot be read", why);
+                return Err(Stopped { at });
             }
         }
-        turns -= 1;
     }
-    unwritten(error, Error::from_raw_os_error(INTERRUPTED))
+    Ok(at)
 }
 
-// Writes the bytes, each write from the first byte on that the one before it did not take, until all are taken or a write fails: how many were taken.
-pub fn put(output: Stdout, error: Stderr, bytes: &[u8]) -> usize
-    ensures { result ≤ length bytes.now }
+// One write of rest, from its first byte on: how many bytes were taken, never 0.
+fn write_once(output: Stdout, rest: &[u8]) -> io::Result<usize>
+    ensures { IfOk result (λ took. (0 < took) × (took ≤ length rest.now)) }
+{
+    for _ in 0..TURNS {
+        match output.write_some(rest) {
+            Ok(0) => return Err(Error::from_raw_os_error(NO_FAILURE)),
+            Err(why) if interrupted(&why) => {}
+            answer => return answer,
+        }
+    }
+    Err(Error::from_raw_os_error(INTERRUPTED))
+}
+
+// Writes the bytes, each write from the first byte on that the one before it did not take, until all are taken. Where a write fails it says how many were taken, fewer than all.
+pub fn put(output: Stdout, error: Stderr, bytes: &[u8]) -> Result<(), Stopped>
+    ensures { IfErr result (λ stopped. stopped.at < length bytes.now) }
 {
     let mut at = 0;
     while at < bytes.len() {
-        let took = write_once(output, error, &bytes[at..]);
-        if took == 0 {
-            return at;
+        match write_once(output, &bytes[at..]) {
+            Ok(took) => at += took,
+            Err(why) => {
+                tell(error, b"dates: the answers cannot be written", why);
+                return Err(Stopped { at });
+            }
         }
-        at += took;
     }
-    at
+    Ok(())
 }

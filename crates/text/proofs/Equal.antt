@@ -1,10 +1,11 @@
 -- Two texts have the same bytes exactly where they are equal.
 use Prim.Native.Nat.{ℕ}
 use mathlib.Core.Path.{◌≡◌, refl}
-use mathlib.Core.Bool.{Bool, true, false, cond, false≢true}
+use mathlib.Core.Bool.{Bool, true, false, cond, ◌&&◌, false≢true}
 use mathlib.Core.List.{List, [], ◌∷◌}
 use lib.Dec.{eqb}
 use borrow.Author.Tests.{eqb-true, eq-eqb}
+use Rattle.std.specs.Cmp.Lexicographic.{pointwise}
 use Rattle.text.specs.Lexicon.{same_bytes}
 
 pub both_parts : (b c : Bool) → cond b c false ≡ true → (b ≡ true) × (c ≡ true)
@@ -26,3 +27,15 @@ pub equal_same : (k : List ℕ) → same_bytes k k ≡ true
 unfolding same_bytes
 equal_same [] = refl
 equal_same (a ∷ k) = rw (eq-eqb a a refl) (equal_same k)
+
+and_same : (t p q : Bool) → p ≡ q → (t && p) ≡ cond t q false
+and_same true p q e = e
+and_same false p q e = refl
+
+-- What `==` of slices says is the definitions' test.
+pub pointwise_same : (k l : List ℕ) → pointwise eqb k l ≡ same_bytes k l
+unfolding same_bytes
+pointwise_same [] [] = refl
+pointwise_same [] (b ∷ l) = refl
+pointwise_same (a ∷ k) [] = refl
+pointwise_same (a ∷ k) (b ∷ l) = and_same (eqb a b) (pointwise eqb k l) (same_bytes k l) (pointwise_same k l)

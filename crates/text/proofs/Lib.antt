@@ -2,6 +2,7 @@
 pub mod Reading
 pub mod Classes
 pub mod Runs
+pub mod Comments
 pub mod Standing
 pub mod Words
 pub mod Numbers

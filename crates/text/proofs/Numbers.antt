@@ -1,13 +1,13 @@
 -- A number cut at the cap after each digit is the number cut at the end: what is past the cap stays past it.
 use mathlib.Core.Path.{◌≡◌, sym, ◌∙◌, ap}
 use mathlib.Core.List.{List, [], ◌∷◌}
-use Prim.Native.Nat.{ℕ, ◌+◌, ◌*◌, ◌-◌, ◌<◌, ◌≤◌}
+use Prim.Native.Nat.{ℕ, ◌+◌, ◌*◌, ◌-◌, ◌<◌, ◌≤◌, min}
 use native.Mathlib.Omega.{arith}
 use native.Mathlib.Decide.{dec_le}
-use lib.ListN.{length, get_or}
+use lib.ListN.{length, get_or, drop, drop_of_length-le}
 use borrow.Author.Tests.{le-leb, lt-leb}
-use Rattle.text.specs.Lexicon.{bytes, cut, number}
-use Rattle.text.proofs.Words.{bytes_more, bytes_none}
+use Rattle.text.specs.Lexicon.{cut, number}
+use Rattle.text.proofs.Runs.{drop_more}
 
 pub cut_small : (n : ℕ) → n ≤ 10000000 → cut n ≡ n
 cut_small n h = simp (le-leb n 10000000 h)
@@ -44,15 +44,22 @@ cut_first n l = by_size (dec_le n 10000000)
     by_size (yes k) = ap (λ (m : ℕ). cut (number m l)) (cut_small n k)
     by_size (no d) = past (cut n) (omega (arith, cut_large n (omega arith))) ∙ sym (past n (omega arith))
 
-module _ (s : List ℕ) (i b n : ℕ) where
-  -- One digit more: d is its value and m what is read then.
-  pub number_more : (d m : ℕ) → i < b → b ≤ length s → d ≡ get_or s i 0 - 48 → m ≡ cut (10 * n + d) → cut (number m (bytes s (i + 1) b)) ≡ cut (number n (bytes s i b))
-  unfolding number
-  number_more d m h k e c =
-      ap (λ (v : ℕ). cut (number v (bytes s (i + 1) b))) (c ∙ ap (λ (v : ℕ). cut (10 * n + v)) e)
-      ∙ cut_first (10 * n + (get_or s i 0 - 48)) (bytes s (i + 1) b)
-      ∙ ap (λ (l : List ℕ). cut (number n l)) (sym (bytes_more s i b h k))
+pub cut_min : (n : ℕ) → min 10000000 n ≡ cut n
+cut_min n = by_size (dec_le n 10000000)
+  where
+    by_size : Dec (n ≤ 10000000) → min 10000000 n ≡ cut n
+    by_size (yes k) = omega (arith, cut_small n k)
+    by_size (no d) = omega (arith, cut_past n (omega arith))
 
-  pub number_end : n ≤ 10000000 → b ≤ i → cut (number n (bytes s i b)) ≡ n
+module _ (l : List ℕ) (i n : ℕ) where
+  -- One digit more: d is its value and m what is read then.
+  pub number_more : (d m : ℕ) → i < length l → d ≡ get_or l i 0 - 48 → m ≡ min 10000000 (10 * n + d) → cut (number m (drop (i + 1) l)) ≡ cut (number n (drop i l))
   unfolding number
-  number_end h k = ap (λ (l : List ℕ). cut (number n l)) (bytes_none s i b k) ∙ cut_small n h
+  number_more d m h e c =
+      ap (λ (v : ℕ). cut (number v (drop (i + 1) l))) (c ∙ cut_min (10 * n + d) ∙ ap (λ (v : ℕ). cut (10 * n + v)) e)
+      ∙ cut_first (10 * n + (get_or l i 0 - 48)) (drop (i + 1) l)
+      ∙ ap (λ (r : List ℕ). cut (number n r)) (sym (drop_more l i h))
+
+  pub number_end : n ≤ 10000000 → length l ≤ i → cut (number n (drop i l)) ≡ n
+  unfolding number
+  number_end h k = ap (λ (r : List ℕ). cut (number n r)) (drop_of_length-le l k) ∙ cut_small n h

@@ -134,3 +134,7 @@ module _ (s : List ℕ) (i p : ℕ) where
     where
       place : extent (drop i s) ≡ 0 → i ≡ f + extent (drop f s)
       place z = omega arith
+
+-- The piece that stands at f is p, and ends at place e.
+pub piece_is : (s : List ℕ) (f p : ℕ) {e : ℕ} → whole 0 (drop f s) ≡ p → e ≡ f + extent (drop f s) → tok (kind p) f e ≡ piece_at s f
+piece_is s f p w x = ap (λ (n : ℕ). tok (kind p) f n) x ∙ ap (λ (n : ℕ). tok (kind n) f (f + extent (drop f s))) (sym w)

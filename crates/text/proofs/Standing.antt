@@ -7,8 +7,7 @@ use native.Mathlib.Omega.{arith}
 use lib.Dec.{eqb}
 use lib.ListN.{length, drop, get_or, drop_of_length-le}
 use borrow.Author.Tests.{ne_eqb}
-use Rattle.text.specs.declared.Tok.{Tok}
-use Rattle.text.specs.Lexicon.{class, skipped, tok, piece_at, token_of, start, token_at}
+use Rattle.text.specs.Lexicon.{Tok, class, skipped, tok, piece_at, token_of, start, token_at}
 use Rattle.text.proofs.Classes.{not_white, not_semicolon}
 use Rattle.text.proofs.Runs.{drop_more, passed, skip_end, skip_stop}
 

@@ -9,8 +9,7 @@ use native.Mathlib.Decide.{ℕ_discrete, dec_lt}
 use lib.Dec.{T, leb, leb→le}
 use lib.ListN.{length, drop, get_or, length-drop}
 use lib.Seq.{get_or-drop, get_or-take}
-use Rattle.text.specs.declared.Tok.{Tok}
-use Rattle.text.specs.Lexicon.{digit as digit-class, class, whole, extent, skipped, tok, piece_at, start, token_at, bytes}
+use Rattle.text.specs.Lexicon.{Tok, digit as digit-class, class, whole, extent, skipped, tok, piece_at, start, token_at, bytes}
 use Rattle.text.proofs.Reading.{both_left, both_right}
 use Rattle.text.proofs.Classes.{digit_of}
 use Rattle.text.proofs.Runs.{piece_on}

@@ -1,6 +1,5 @@
 -- The lexicon of scripts, from SMT-LIB 2.6: white space, comments, pieces and tokens. A text is a list of bytes; a token is found from a place in it.
 use Rattle.std.specs.Prelude.{ℕ, ◌+◌, ◌*◌, ◌-◌, Bool, true, false, cond, List, [], ◌∷◌, eqb, leb, drop, take}
-use Rattle.text.specs.declared.Tok.{Tok}
 
 -- a or b; a and b; b is from lo to hi.
 abbrev pub either : Bool → Bool → Bool
@@ -226,6 +225,12 @@ extent (b ∷ l) = cond (ends (class b)) 0 (1 + extent l)
 unfoldable pub whole : ℕ → List ℕ → ℕ
 whole p [] = p
 whole p (b ∷ l) = cond (ends (class b)) p (whole (grown p (class b)) l)
+
+-- A token: its kind, where it begins, and the place past its last byte.
+pub record Tok : Type 0 where
+  pub kind : ℕ
+  pub from : ℕ
+  pub to : ℕ
 
 abbrev pub tok : ℕ → ℕ → ℕ → Tok
 tok k f t = record { kind = k; from = f; to = t }

@@ -1,5 +1,29 @@
 // The lexicon as one table; specs/Table.antt has the same numbers, and proofs/Reading.antt proves that it says what the lexicon says.
 
+// Classes and pieces stay numbers: each is a place in the table, which one load reads. The classes of bytes up to QUOTE end a piece.
+pub const WHITE: u8 = 0;
+
+pub const OPENS: u8 = 1;
+
+pub const CLOSES: u8 = 2;
+
+pub const SEMICOLON: u8 = 3;
+
+pub const QUOTE: u8 = 4;
+
+// No token has such a byte.
+pub const FOREIGN: u8 = 5;
+
+// Digits stand between FOREIGN and POINT, letters past COLON.
+pub const POINT: u8 = 9;
+
+pub const COLON: u8 = 11;
+
+// A piece that has no byte yet, and one that is a symbol so far.
+pub const NOTHING: u8 = 0;
+
+pub const A_SYMBOL: u8 = 10;
+
 // How many places the table of the lexicon has.
 pub const PLACES: usize = 528;
 

@@ -1,43 +1,28 @@
 // What get-value prints: the names with their days.
 #![tactic(auto)]
 
-ghost use Rattle.std.specs.Prelude.{◌≡◌, ℕ, ◌+◌, ◌<◌, ◌≤◌, length, get_or};
+ghost use Rattle.std.specs.Prelude.{◌≡◌, ℕ, ◌+◌, ◌<◌, ◌≤◌, length};
 ghost use Rattle.meaning.specs.Bounds.{STEPS, ASKED, ROOM};
 ghost use Rattle.meaning.specs.Tables.{at};
-ghost use Rattle.text.specs.Lexicon.{bytes};
 ghost use Rattle.names.specs.Names.{Shelved};
 ghost use Rattle.write.specs.Written.{over};
 ghost use Rattle.script_meaning.specs.Effect.{pair};
 ghost use Rattle.values.specs.Pair.{gap, row_values};
 
-// Writes a space where it is later than the first pair, and nothing before the first; gives back the place past what was written.
-fn put_gap(out: &mut [u8], to: usize, later: bool) -> usize
-    requires { to + length (gap later) ≤ length out.old }
-    ensures { (out.new ≡ over out.old to (gap later)) × (result ≡ to + length (gap later)) }
+// What stands before a pair: a space where it is later than the first, and nothing before the first.
+fn gap_before(later: bool) -> &'static [u8]
+    ensures { result.now ≡ gap later }
 {
-    if later {
-        return write::word(out, to, b" ");
-    }
-    to
+    if later { b" " } else { b"" }
 }
 
-// The day of step k.
-fn day_at(days: &[u32], k: usize) -> u32
-    requires { k < length days.now }
-    ensures { result ≡ get_or days.now k 0 }
-{
-    days[k]
-}
-
-// Writes the name that stands from place a to place b with its day, in brackets, and gives back the place past it.
-fn put_pair(s: &[u8], a: usize, b: usize, day: u32, out: &mut [u8], to: usize) -> usize
-    requires a_le_b { a ≤ b }
-    requires b_in_bounds { b ≤ length s.now }
-    requires day_in_bounds { to + length (pair (bytes s.now a b) day) ≤ length out.old }
-    ensures { (out.new ≡ over out.old to (pair (bytes s.now a b) day)) × (result ≡ to + length (pair (bytes s.now a b) day)) }
+// Writes the name with its day, in brackets, and gives back the place past it.
+fn put_pair(name: &[u8], day: u32, out: &mut [u8], to: usize) -> usize
+    requires { to + length (pair name.now day) ≤ length out.old }
+    ensures { (out.new ≡ over out.old to (pair name.now day)) × (result ≡ to + length (pair name.now day)) }
 {
     let e = write::word(out, to, b"(");
-    let e = write::word(out, e, &s[a..b]);
+    let e = write::word(out, e, name);
     let e = write::word(out, e, b" ");
     let e = write::number(out, e, day);
     write::word(out, e, b")")
@@ -64,15 +49,12 @@ pub fn put_values(
     ensures value { result ≡ to + length (row_values names.now lens.now days.now column.now k) }
 {
     let mut e = write::word(out, to, b"(");
-    let mut i = 0usize;
-    while i < k {
+    for i in 0..k {
         let step = lent::number_at(column, i);
         let from = meaning::NAME_BYTES * step;
         let past = from + lens[step] as usize;
-        let day = day_at(days, step);
-        e = put_gap(out, e, 0 < i);
-        e = put_pair(names, from, past, day, out, e);
-        i += 1;
+        e = write::word(out, e, gap_before(0 < i));
+        e = put_pair(&names[from..past], days[step], out, e);
     }
     write::word(out, e, b")\n")
 }

@@ -1,5 +1,4 @@
 -- The laws of the waiting steps.
 pub mod Places
-pub mod Leading
-pub mod Searching
+pub mod Parts
 pub mod Leaving

@@ -5,7 +5,7 @@ use mathlib.Core.List.{List}
 use lib.ListN.{length, set}
 use lib.Seq.{get_or-set_same, get_or-set_other}
 use Rattle.meaning.specs.Tables.{at}
-use Rattle.waiting.specs.Waiting.{Put}
+use Rattle.waiting.specs.Places.{Put}
 
 -- A store at place i puts the number there.
 pub put_set : (l : List ℕ) (i v : ℕ) → i < length l → Put i v (at l) (at (set l i v))

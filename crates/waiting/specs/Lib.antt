@@ -1,2 +1,3 @@
 -- What the contracts of the waiting steps cite.
+pub mod Places
 pub mod Waiting

@@ -3,39 +3,27 @@
 // of largest gain is found among the leaders; when it leaves, its group is looked through for a new one.
 #![tactic(auto)]
 
-ghost use Rattle.std.specs.Prelude.{◌≡◌, ◌+◌, ◌/◌, ◌<◌, length};
+ghost use Rattle.std.specs.Prelude.{◌≡◌, ◌*◌, ◌<◌, ◌≤◌, length};
 ghost use Rattle.meaning.specs.Tables.{at};
-ghost use Rattle.waiting.specs.Waiting.{Room, Searchable, LargestIn, Leadable, Promoted, LedBut, Led, New, Entered, Regroupable, Regrouped, Taken};
+ghost use Rattle.waiting.specs.Places.{GROUP, Below, Placed, HasLeaders, LargestOf, Leadable, Promoted, Regroupable, Regrouped};
 
 // A group has so many places.
-const GROUP: usize = 16;
+pub const GROUP: usize = 16;
 
-// How many leaders there are: one for each group of STEPS places.
-pub const GROUPS: usize = (meaning::STEPS + GROUP - 1) / GROUP;
-
-// The gain of step v.
-pub fn gain_at(gains: &[u64], v: usize) -> u64
-    requires { v < length gains.now }
-    ensures { result ≡ at gains.now v }
+// Of these steps, which are some, one that has the largest gain.
+fn largest(steps: &[u16], gains: &[u64]) -> u16
+    requires some { 0 < length steps.now }
+    requires gains_room { Below (length gains.now) steps.now (length steps.now) }
+    ensures { LargestOf (at gains.now) (at steps.now) (length steps.now) result }
 {
-    gains[v]
-}
-
-// Of the places from `from` to below `to` of the list, one that has a step of largest gain.
-fn largest(list: &[u16], from: usize, to: usize, gains: &[u64]) -> usize
-    requires { Searchable gains.now list.now from to }
-    ensures { LargestIn (at gains.now) (at list.now) from to result }
-{
-    let mut best = from;
-    let mut top = gain_at(gains, lent::number_at(list, from));
-    let mut j = from + 1;
-    while j < to {
-        let gain = gain_at(gains, lent::number_at(list, j));
+    let mut best = steps[0];
+    let mut top = gains[best as usize];
+    for &step in &steps[1..] {
+        let gain = gains[step as usize];
         if top < gain {
             top = gain;
-            best = j;
+            best = step;
         }
-        j += 1;
     }
     best
 }
@@ -45,98 +33,113 @@ fn lead(y: usize, b: usize, gains: &[u64], leaders: &mut [u16])
     requires { Leadable gains.now leaders.old y b }
     ensures { Promoted (at gains.now) y b leaders.old leaders.new }
 {
-    if gain_at(gains, lent::number_at(leaders, b)) < gain_at(gains, y) {
+    if gains[leaders[b] as usize] < gains[y] {
         leaders[b] = y as u16;
     }
 }
 
-// Step y, below n, which does not stand in the list, is put at its end. Gives back how many steps wait then.
-pub fn enter(
-    n: usize,
-    y: usize,
-    gains: &[u64],
-    list: &mut [u16],
-    places: &mut [u16],
-    leaders: &mut [u16],
-    k: usize,
-) -> usize
-    requires room { Room n gains.now list.old places.old leaders.old }
-    requires led_but { LedBut y n (at gains.now) (at list.old) (at places.old) (at leaders.old) k }
-    requires new { New n (at gains.now) (at list.old) k y }
-    ensures { Entered n (at gains.now) y (at list.old) k (at list.new) (at places.new) (at leaders.new) result }
-{
-    list[k] = y as u16;
-    places[y] = k as u16;
-    if k % GROUP == 0 {
-        leaders[k / GROUP] = y as u16;
-        return k + 1;
-    }
-    lead(y, k / GROUP, gains, leaders);
-    k + 1
-}
-
-// The gain of step y, below n, has risen: it may lead its group now, where it stands in the list.
-pub fn rise(
-    n: usize,
-    y: usize,
-    gains: &[u64],
-    list: &[u16],
-    places: &[u16],
-    leaders: &mut [u16],
-    k: usize,
-)
-    requires room { Room n gains.now list.now places.now leaders.old }
-    requires led_but { LedBut y n (at gains.now) (at list.now) (at places.now) (at leaders.old) k }
-    requires y_lt_n { y < n }
-    ensures { Led n (at gains.now) (at list.now) (at places.now) (at leaders.new) k }
-{
-    let j = lent::number_at(places, y);
-    if j < k && lent::number_at(list, j) == y {
-        lead(y, j / GROUP, gains, leaders);
-    }
-}
-
-// Finds the leader of group b among the first k places, where the group has some of them.
-fn regroup(b: usize, gains: &[u64], list: &[u16], leaders: &mut [u16], k: usize)
-    requires { Regroupable gains.now list.now leaders.old k b }
-    ensures { Regrouped (at gains.now) (at list.now) k b (at leaders.old) (at leaders.new) }
+// Finds the leader of group b among the steps, where the group has some of them.
+fn regroup(b: usize, gains: &[u64], steps: &[u16], leaders: &mut [u16])
+    requires { Regroupable gains.now steps.now leaders.old b }
+    ensures { Regrouped (at gains.now) (at steps.now) (length steps.now) b (at leaders.old) (at leaders.new) }
 {
     let from = GROUP * b;
-    if k <= from {
+    if steps.len() <= from {
         return;
     }
-    let mut to = from + GROUP;
-    if k < to {
-        to = k;
-    }
-    leaders[b] = list[largest(list, from, to, gains)];
+    let to = usize::min(steps.len(), from + GROUP);
+    leaders[b] = largest(&steps[from..to], gains);
 }
 
-// Takes a step of largest gain out of the list, which has some; the last step gets its place. Gives back the step.
-pub fn take(
-    n: usize,
-    gains: &[u64],
-    list: &mut [u16],
-    places: &mut [u16],
-    leaders: &mut [u16],
-    k: usize,
-) -> usize
-    requires room { Room n gains.now list.old places.old leaders.old }
-    requires led { Led n (at gains.now) (at list.old) (at places.old) (at leaders.old) k }
-    requires k_nonzero { 0 < k }
-    ensures { Taken n (at gains.now) (at list.old) k result (at list.new) (at places.new) (at leaders.new) }
-{
-    let end = (k - 1) / GROUP;
-    let b = largest(leaders, 0, end + 1, gains);
-    let x = lent::number_at(leaders, b);
-    let j = lent::number_at(places, x);
-    let last = lent::number_at(list, k - 1);
-    let ended = lent::number_at(leaders, end);
-    list[j] = last as u16;
-    places[last] = j as u16;
-    regroup(b, gains, list, leaders, k - 1);
-    if ended == last {
-        regroup(end, gains, list, leaders, k - 1);
+// The steps that wait, of N steps in G groups: `count` of them, in the first places of the list.
+#[derive(Drop)]
+pub struct Waiting<const N: usize, const G: usize> {
+    pub list: [u16; N],
+    places: [u16; N],
+    leaders: [u16; G],
+    pub count: usize,
+    ghost steps_fit: { N ≤ 65536 },
+    ghost groups: { (N ≤ GROUP * G) × (G ≤ N) },
+    ghost within: { count ≤ N },
+    ghost below: { Below N list count },
+    ghost placed: { Placed list places count },
+    ghost leader: { HasLeaders list places leaders count },
+}
+
+impl<const N: usize, const G: usize> Waiting<N, G> {
+    ghost use Rattle.std.specs.Prelude.{◌↔◌, IsTrue};
+    ghost use Rattle.waiting.specs.Waiting.{LedBut, Led, New, Entered, Risen, Taken};
+
+    // None waits.
+    pub fn new() -> Self
+        requires steps_fit { N ≤ 65536 }
+        requires groups { (N ≤ GROUP * G) × (G ≤ N) }
+        ensures { result.count ≡ 0 }
+    {
+        Waiting {
+            list: [0; N],
+            places: [0; N],
+            leaders: [0; G],
+            count: 0,
+        }
     }
-    x
+
+    // Whether no step waits.
+    pub fn is_empty(&self) -> bool
+        ensures { IsTrue result ↔ (self.now.count ≡ 0) }
+    {
+        self.count == 0
+    }
+
+    // Step y, which does not wait yet, is put at the end of the list.
+    pub fn enter(&mut self, y: usize, gains: &[u64])
+        requires led_but { LedBut y gains.now self.old }
+        requires new { New gains.now self.old y }
+        ensures { Entered gains.now y self.old self.new }
+    {
+        let k = self.count;
+        self.list[k] = y as u16;
+        self.places[y] = k as u16;
+        self.count = k + 1;
+        if k % GROUP == 0 {
+            self.leaders[k / GROUP] = y as u16;
+            return;
+        }
+        lead(y, k / GROUP, gains, &mut self.leaders);
+    }
+
+    // The gain of step y has risen: it may lead its group now, where it waits.
+    pub fn rise(&mut self, y: usize, gains: &[u64])
+        requires led_but { LedBut y gains.now self.old }
+        requires step_in { y < N }
+        ensures { Risen gains.now self.old self.new }
+    {
+        let j = self.places[y] as usize;
+        if j < self.count && self.list[j] as usize == y {
+            lead(y, j / GROUP, gains, &mut self.leaders);
+        }
+    }
+
+    // Takes a step of largest gain out of the list, which has some; the last step gets its place. Gives back the step.
+    pub fn take(&mut self, gains: &[u64]) -> usize
+        requires led { Led gains.now self.old }
+        requires some { 0 < self.old.count }
+        ensures { Taken gains.now result self.old self.new }
+    {
+        let k = self.count - 1;
+        let end = k / GROUP;
+        let leaders = &self.leaders[..];
+        let x = largest(&leaders[..end + 1], gains) as usize;
+        let j = self.places[x] as usize;
+        let last = self.list[k];
+        let ended = self.leaders[end];
+        self.list[j] = last;
+        self.places[last as usize] = j as u16;
+        self.count = k;
+        regroup(j / GROUP, gains, &self.list[..k], &mut self.leaders);
+        if ended == last {
+            regroup(end, gains, &self.list[..k], &mut self.leaders);
+        }
+        x
+    }
 }

@@ -1,3 +1,2 @@
 -- What the proofs of the words share.
-pub mod Chain
-pub mod Groups
+pub mod Among

@@ -1,356 +1,195 @@
-// The public calls, each on the office's lists as they are lent. Those that a call can write are its own copy, which then stands in the office; the gap table is lent as it is.
+// The public calls, each on the office's tables and lists as the line lends them.
+use crate::answer::{Answer, Given};
+use crate::line::{Ask, Rule};
 use crate::office::Office;
-use crate::words::Ask;
-use crate::{cells, office, words};
-use gaps::Gaps;
-
-// Open.
-pub fn open_steps<'a>(
-    ask: Ask,
-    o: Office,
-    xs: &'a [u16],
-    ys: &'a [u16],
-    cs: &'a [i32],
-    wxs: &'a [u16],
-    wys: &'a [u16],
-    wcs: &'a [i32],
-    gaps: &mut Gaps,
-) -> Office {
-    let mut days = o.days;
-    let mut levels = o.levels;
-    let reply = desk::open(
-        o.counts,
-        xs,
-        ys,
-        cs,
-        cells::lend_numbers(ask, words::DAYS, &mut days),
-        cells::lend_levels(ask, words::LEVELS, &mut levels),
-        wxs,
-        wys,
-        wcs,
-        gaps,
-        ask.first,
-    );
-    let mut next = office::after(o, reply);
-    next.days = days;
-    next.levels = levels;
-    next
-}
-
-// Watch.
-pub fn watch<'a>(
-    ask: Ask,
-    o: Office,
-    xs: &'a [u16],
-    ys: &'a [u16],
-    cs: &'a [i32],
-    days: &'a [u32],
-    levels: &'a [u8],
-    gaps: &'a Gaps,
-) -> Office {
-    let mut wxs = o.wxs;
-    let mut wys = o.wys;
-    let mut wcs = o.wcs;
-    let reply = desk::watch(
-        o.counts,
-        xs,
-        ys,
-        cs,
-        days,
-        levels,
-        cells::lend_steps(ask, words::WXS, &mut wxs),
-        cells::lend_steps(ask, words::WYS, &mut wys),
-        cells::lend_amounts(ask, words::WCS, &mut wcs),
-        gaps,
-        ask.x as u32,
-        ask.y as u32,
-        ask.c,
-    );
-    let mut next = office::after(o, reply);
-    next.wxs = wxs;
-    next.wys = wys;
-    next.wcs = wcs;
-    next
-}
-
-// Mark.
-pub fn mark<'a>(
-    o: Office,
-    xs: &'a [u16],
-    ys: &'a [u16],
-    cs: &'a [i32],
-    days: &'a [u32],
-    levels: &'a [u8],
-    wxs: &'a [u16],
-    wys: &'a [u16],
-    wcs: &'a [i32],
-    gaps: &'a Gaps,
-) -> Office {
-    let reply = desk::mark(o.counts, xs, ys, cs, days, levels, wxs, wys, wcs, gaps);
-    office::after(o, reply)
-}
-
-// Back.
-pub fn back<'a>(
-    ask: Ask,
-    o: Office,
-    xs: &'a [u16],
-    ys: &'a [u16],
-    cs: &'a [i32],
-    wxs: &'a [u16],
-    wys: &'a [u16],
-    wcs: &'a [i32],
-    gaps: &mut Gaps,
-) -> Office {
-    let mut days = o.days;
-    let mut levels = o.levels;
-    let reply = desk::back(
-        o.counts,
-        xs,
-        ys,
-        cs,
-        cells::lend_numbers(ask, words::DAYS, &mut days),
-        cells::lend_levels(ask, words::LEVELS, &mut levels),
-        wxs,
-        wys,
-        wcs,
-        gaps,
-    );
-    let mut next = office::after(o, reply);
-    next.days = days;
-    next.levels = levels;
-    next
-}
-
-// Withdraw.
-pub fn withdraw<'a>(
-    ask: Ask,
-    o: Office,
-    xs: &'a [u16],
-    ys: &'a [u16],
-    cs: &'a [i32],
-    wxs: &'a [u16],
-    wys: &'a [u16],
-    wcs: &'a [i32],
-    gaps: &mut Gaps,
-) -> Office {
-    let mut days = o.days;
-    let mut levels = o.levels;
-    let reply = desk::withdraw(
-        o.counts,
-        xs,
-        ys,
-        cs,
-        cells::lend_numbers(ask, words::DAYS, &mut days),
-        cells::lend_levels(ask, words::LEVELS, &mut levels),
-        wxs,
-        wys,
-        wcs,
-        gaps,
-        ask.first,
-    );
-    let mut next = office::after(o, reply);
-    next.days = days;
-    next.levels = levels;
-    next
-}
-
-// Add, with list one for the ring.
-pub fn add<'a>(
-    ask: Ask,
-    o: Office,
-    wxs: &'a [u16],
-    wys: &'a [u16],
-    wcs: &'a [i32],
-    gaps: &mut Gaps,
-) -> Office {
-    let mut xs = o.xs;
-    let mut ys = o.ys;
-    let mut cs = o.cs;
-    let mut days = o.days;
-    let mut levels = o.levels;
-    let mut one = o.one;
-    let reply = desk::add(
-        o.counts,
-        cells::lend_steps(ask, words::XS, &mut xs),
-        cells::lend_steps(ask, words::YS, &mut ys),
-        cells::lend_amounts(ask, words::CS, &mut cs),
-        cells::lend_numbers(ask, words::DAYS, &mut days),
-        cells::lend_levels(ask, words::LEVELS, &mut levels),
-        wxs,
-        wys,
-        wcs,
-        gaps,
-        cells::lend_numbers(ask, words::ONE, &mut one),
-        ask.x as u32,
-        ask.y as u32,
-        ask.c,
-    );
-    let mut next = office::after(o, reply);
-    next.xs = xs;
-    next.ys = ys;
-    next.cs = cs;
-    next.days = days;
-    next.levels = levels;
-    next.one = one;
-    next
-}
-
-// Trial, with list one for the days and list two for the ring.
-pub fn trial<'a>(
-    ask: Ask,
-    o: Office,
-    xs: &'a [u16],
-    ys: &'a [u16],
-    cs: &'a [i32],
-    days: &'a [u32],
-    levels: &'a [u8],
-    wxs: &'a [u16],
-    wys: &'a [u16],
-    wcs: &'a [i32],
-    gaps: &'a Gaps,
-) -> Office {
-    let mut one = o.one;
-    let mut two = o.two;
-    let reply = desk::trial(
-        o.counts,
-        xs,
-        ys,
-        cs,
-        days,
-        levels,
-        wxs,
-        wys,
-        wcs,
-        gaps,
-        cells::lend_numbers(ask, words::ONE, &mut one),
-        cells::lend_numbers(ask, words::TWO, &mut two),
-        ask.x as u32,
-        ask.y as u32,
-        ask.c,
-    );
-    let mut next = office::after(o, reply);
-    next.one = one;
-    next.two = two;
-    next
-}
-
-// Consequences, with lists one and two.
-pub fn consequences<'a>(
-    ask: Ask,
-    o: Office,
-    xs: &'a [u16],
-    ys: &'a [u16],
-    cs: &'a [i32],
-    days: &'a [u32],
-    levels: &'a [u8],
-    wxs: &'a [u16],
-    wys: &'a [u16],
-    wcs: &'a [i32],
-    gaps: &'a Gaps,
-) -> Office {
-    let mut one = o.one;
-    let mut two = o.two;
-    let reply = desk::consequences(
-        o.counts,
-        xs,
-        ys,
-        cs,
-        days,
-        levels,
-        wxs,
-        wys,
-        wcs,
-        gaps,
-        cells::lend_numbers(ask, words::ONE, &mut one),
-        cells::lend_numbers(ask, words::TWO, &mut two),
-    );
-    let mut next = office::after(o, reply);
-    next.one = one;
-    next.two = two;
-    next
-}
+use crate::words::{Call, List, Table};
+use lent::Tables;
+use meaning::{Lengths, Refusal};
 
 // The list that Ring check is to look at: list two where the line names it, else the numbers after the rule.
-fn ring_of<'a>(ask: Ask, numbers: &'a [u32], two: &'a [u32]) -> &'a [u32] {
-    if ask.list == words::TWO {
-        return two;
+fn ring_of<'a>(ask: Ask<'a>, two: &'a [u32]) -> &'a [u32] {
+    match ask.list() {
+        Some(List::Two) => two,
+        _ => ask.numbers().get(3..).unwrap_or(&[]),
     }
-    let n = words::within(ask.count as usize, numbers.len());
-    if n < 3 {
-        return &numbers[0..0];
+}
+
+impl Office {
+    // Makes the call.
+    pub fn make(&mut self, call: Call, ask: Ask<'_>) -> Answer {
+        match call {
+            Call::Open => self.open(ask).map(Given::from),
+            Call::Watch => self.watch(ask).map(Given::from),
+            Call::Mark => self.mark(ask).map(Given::from),
+            Call::Back => self.back(ask).map(Given::from),
+            Call::Withdraw => self.withdraw(ask).map(Given::from),
+            Call::Add => self.add(ask).map(Given::from),
+            Call::Trial => self.trial(ask).map(Given::from),
+            Call::Consequences => self.consequences(ask).map(Given::from),
+            Call::RingCheck => self.ring_check(ask).map(Given::from),
+            Call::LastDay => self.last_day(ask).map(Given::from),
+            Call::Gap => self.gap(ask).map(Given::from),
+        }
     }
-    &numbers[3..n]
-}
 
-// Ring check.
-pub fn ring_check<'a>(
-    ask: Ask,
-    o: Office,
-    xs: &'a [u16],
-    ys: &'a [u16],
-    cs: &'a [i32],
-    days: &'a [u32],
-    levels: &'a [u8],
-    wxs: &'a [u16],
-    wys: &'a [u16],
-    wcs: &'a [i32],
-    gaps: &'a Gaps,
-    two: &'a [u32],
-) -> Office {
-    let numbers = ask.numbers;
-    let reply = desk::ring_check(
-        o.counts,
-        xs,
-        ys,
-        cs,
-        days,
-        levels,
-        wxs,
-        wys,
-        wcs,
-        gaps,
-        ring_of(ask, &numbers, two),
-        ask.x as u32,
-        ask.y as u32,
-        ask.c,
-    );
-    office::after(o, reply)
-}
+    fn open(&mut self, ask: Ask<'_>) -> Result<(), Refusal> {
+        let held = self.rules.lent(Table::Held, ask);
+        let watched = self.watched.lent(Table::Watched, ask);
+        self.counts = desk::open(
+            self.counts,
+            held,
+            ask.lend(List::Days, &mut self.days),
+            ask.lend(List::Levels, &mut self.levels),
+            watched,
+            &mut self.gaps,
+            ask.number(0),
+        )?;
+        Ok(())
+    }
 
-// Last day.
-pub fn last_day<'a>(
-    o: Office,
-    xs: &'a [u16],
-    ys: &'a [u16],
-    cs: &'a [i32],
-    days: &'a [u32],
-    levels: &'a [u8],
-    wxs: &'a [u16],
-    wys: &'a [u16],
-    wcs: &'a [i32],
-    gaps: &'a Gaps,
-) -> Office {
-    let reply = desk::last_day(o.counts, xs, ys, cs, days, levels, wxs, wys, wcs, gaps);
-    office::after(o, reply)
-}
+    fn watch(&mut self, ask: Ask<'_>) -> Result<(), Refusal> {
+        let held = self.rules.lent(Table::Held, ask);
+        let (wxs, wys, wcs) = self.watched.lend(Table::Watched, ask);
+        let Rule { x, y, c } = ask.rule();
+        self.counts = desk::watch(
+            self.counts,
+            held,
+            ask.lent(List::Days, &self.days),
+            ask.lent(List::Levels, &self.levels),
+            wxs,
+            wys,
+            wcs,
+            &self.gaps,
+            x,
+            y,
+            c,
+        )?;
+        Ok(())
+    }
 
-// Gap, of the line's first two numbers.
-pub fn gap<'a>(
-    ask: Ask,
-    o: Office,
-    xs: &'a [u16],
-    ys: &'a [u16],
-    cs: &'a [i32],
-    days: &'a [u32],
-    levels: &'a [u8],
-    wxs: &'a [u16],
-    wys: &'a [u16],
-    wcs: &'a [i32],
-    gaps: &'a Gaps,
-) -> Office {
-    let reply = desk::gap(
-        o.counts, xs, ys, cs, days, levels, wxs, wys, wcs, gaps, ask.first, ask.second,
-    );
-    office::after_gap(o, reply)
+    fn mark(&mut self, ask: Ask<'_>) -> Result<(), Refusal> {
+        let held = self.rules.lent(Table::Held, ask);
+        let watched = self.watched.lent(Table::Watched, ask);
+        let tables = Tables {
+            rules: held,
+            days: ask.lent(List::Days, &self.days),
+            levels: ask.lent(List::Levels, &self.levels),
+            watched,
+        };
+        self.counts = desk::mark(self.counts, tables, &self.gaps)?;
+        Ok(())
+    }
+
+    fn back(&mut self, ask: Ask<'_>) -> Result<(), Refusal> {
+        let held = self.rules.lent(Table::Held, ask);
+        let watched = self.watched.lent(Table::Watched, ask);
+        self.counts = desk::back(
+            self.counts,
+            held,
+            ask.lend(List::Days, &mut self.days),
+            ask.lend(List::Levels, &mut self.levels),
+            watched,
+            &mut self.gaps,
+        )?;
+        Ok(())
+    }
+
+    fn withdraw(&mut self, ask: Ask<'_>) -> Result<(), Refusal> {
+        let held = self.rules.lent(Table::Held, ask);
+        let watched = self.watched.lent(Table::Watched, ask);
+        self.counts = desk::withdraw(
+            self.counts,
+            held,
+            ask.lend(List::Days, &mut self.days),
+            ask.lend(List::Levels, &mut self.levels),
+            watched,
+            &mut self.gaps,
+            ask.number(0),
+        )?;
+        Ok(())
+    }
+
+    // Add, with list one for the ring.
+    fn add(&mut self, ask: Ask<'_>) -> Result<u32, Refusal> {
+        let (xs, ys, cs) = self.rules.lend(Table::Held, ask);
+        let watched = self.watched.lent(Table::Watched, ask);
+        let Rule { x, y, c } = ask.rule();
+        let added = desk::add(
+            self.counts,
+            xs,
+            ys,
+            cs,
+            ask.lend(List::Days, &mut self.days),
+            ask.lend(List::Levels, &mut self.levels),
+            watched,
+            &mut self.gaps,
+            ask.lend(List::One, &mut self.one),
+            x,
+            y,
+            c,
+        )?;
+        self.counts = added.counts;
+        Ok(added.moved)
+    }
+
+    // Trial, with list one for the days and list two for the ring.
+    pub fn trial(&mut self, ask: Ask<'_>) -> Result<u32, Refusal> {
+        let held = self.rules.lent(Table::Held, ask);
+        let watched = self.watched.lent(Table::Watched, ask);
+        let tables = Tables {
+            rules: held,
+            days: ask.lent(List::Days, &self.days),
+            levels: ask.lent(List::Levels, &self.levels),
+            watched,
+        };
+        let Rule { x, y, c } = ask.rule();
+        desk::trial(
+            self.counts,
+            tables,
+            &self.gaps,
+            ask.lend(List::One, &mut self.one),
+            ask.lend(List::Two, &mut self.two),
+            x,
+            y,
+            c,
+        )
+    }
+
+    // Consequences, with lists one and two.
+    fn consequences(&mut self, ask: Ask<'_>) -> Result<Lengths, Refusal> {
+        let held = self.rules.lent(Table::Held, ask);
+        let watched = self.watched.lent(Table::Watched, ask);
+        let tables = Tables {
+            rules: held,
+            days: ask.lent(List::Days, &self.days),
+            levels: ask.lent(List::Levels, &self.levels),
+            watched,
+        };
+        desk::consequences(
+            self.counts,
+            tables,
+            &self.gaps,
+            ask.lend(List::One, &mut self.one),
+            ask.lend(List::Two, &mut self.two),
+        )
+    }
+
+    fn ring_check(&self, ask: Ask<'_>) -> Result<bool, Refusal> {
+        let lent = self.lent(ask);
+        let ring = ring_of(ask, lent.two);
+        let Rule { x, y, c } = ask.rule();
+        desk::ring_check(lent.counts, lent.tables, lent.gaps, ring, x, y, c)
+    }
+
+    fn last_day(&self, ask: Ask<'_>) -> Result<u32, Refusal> {
+        let lent = self.lent(ask);
+        desk::last_day(lent.counts, lent.tables, lent.gaps)
+    }
+
+    // Gap, of the line's first two numbers.
+    fn gap(&self, ask: Ask<'_>) -> Result<Option<i64>, Refusal> {
+        let lent = self.lent(ask);
+        let (x, y) = (ask.number(0), ask.number(1));
+        desk::gap(lent.counts, lent.tables, lent.gaps, x, y)
+    }
 }

@@ -17,332 +17,160 @@
 //   show gaps X | show gaps X Y          a row of the gap table over the steps; one cell
 #![tactic(auto)]
 
-ghost use Rattle.std.specs.Prelude.{◌≤◌, length};
-
+mod answer;
 mod calls;
-mod cells;
+mod line;
 mod office;
+mod rules;
+mod same;
 mod show;
 mod words;
 
-use gaps::Gaps;
+use answer::{Given, Told};
+use line::{Ask, Line};
 use meaning::Counts;
 use office::Office;
-use words::{Ask, Line};
+use same::{Same, Start};
+use std::io::{Result, Write, writer};
+use words::{Asked, Call};
 
-// Writes what the call gave, and what is to be seen after it; `before` is the office before the call.
-fn tell<'a>(
-    ask: Ask,
-    o: Office,
-    before: Office,
-    was: &'a Gaps,
-    xs: &'a [u16],
-    ys: &'a [u16],
-    cs: &'a [i32],
-    days: &'a [u32],
-    levels: &'a [u8],
-    wxs: &'a [u16],
-    wys: &'a [u16],
-    wcs: &'a [i32],
-    gaps: &'a Gaps,
-    one: &'a [u32],
-    two: &'a [u32],
-) -> Office {
-    let all = Counts {
-        steps: 0,
-        rules: 0,
-        marks: 0,
-        watched: 0,
-        last: 0,
-    };
-    let s = cells::compared(
-        before,
-        was,
-        cells::same_counts(o.counts, before.counts),
-        all,
-        0,
-        0,
-        0,
-        0,
-        xs,
-        ys,
-        cs,
-        days,
-        levels,
-        wxs,
-        wys,
-        wcs,
-        gaps,
-        one,
-        two,
-    );
-    let given = office::values(o.last, o.written);
-    show::told(ask, given, s);
-    show::seen(ask, given, o.counts, s, days, one, two);
-    o
-}
+// So many bytes of a text are read at most.
+const TEXT: usize = 65536;
 
-// So many cells of the levels are the calls' own; Open writes every one.
-const BOUND: u32 = meaning::RULES as u32;
+// The calls that a line `each` makes, in this order: every one but Open.
+const EACH: [Call; 10] = [
+    Call::Watch,
+    Call::Mark,
+    Call::Back,
+    Call::Withdraw,
+    Call::Add,
+    Call::Trial,
+    Call::Consequences,
+    Call::RingCheck,
+    Call::LastDay,
+    Call::Gap,
+];
 
-// Writes whether the places past the counts, past the first k of list one and past the first l of list two still hold the pattern, all of them; of the rules past the line's
-// third number where that is more, and of the levels past the bound.
-fn past<'a>(
-    ask: Ask,
-    o: Office,
-    pattern: Office,
-    unwritten: &'a Gaps,
-    xs: &'a [u16],
-    ys: &'a [u16],
-    cs: &'a [i32],
-    days: &'a [u32],
-    levels: &'a [u8],
-    wxs: &'a [u16],
-    wys: &'a [u16],
-    wcs: &'a [i32],
-    gaps: &'a Gaps,
-    one: &'a [u32],
-    two: &'a [u32],
-) -> Office {
-    let mut from = o.counts;
-    if from.rules < ask.third {
-        from.rules = ask.third;
+// Makes the call, and writes what it gave where that is wanted.
+fn alone<W: Write>(out: &mut W, call: Call, ask: Ask<'_>, office: &mut Office) -> Result<()> {
+    let before = *office;
+    let answer = office.make(call, ask);
+    if !ask.is_loud() {
+        return Ok(());
     }
-    let s = cells::compared(
-        pattern,
-        unwritten,
-        true,
-        from,
-        BOUND,
-        cells::kept(from.steps),
-        ask.first,
-        ask.second,
-        xs,
-        ys,
-        cs,
-        days,
-        levels,
-        wxs,
-        wys,
-        wcs,
-        gaps,
-        one,
-        two,
-    );
-    show::say(show::COLON);
-    show::same(cells::all_same(s));
-    o
+    let lent = office.lent(ask);
+    let same = Same::of(Start::default(), lent, &before);
+    show::told(out, call, answer, same, lent)
 }
 
-// Makes a public call, or looks, on the lists as they are lent. `other` is an office to hold them against, and `kept` a gap table.
-fn made<'a>(
-    op: u32,
-    ask: Ask,
-    o: Office,
-    other: Office,
-    kept: &'a Gaps,
-    xs: &'a [u16],
-    ys: &'a [u16],
-    cs: &'a [i32],
-    days: &'a [u32],
-    levels: &'a [u8],
-    wxs: &'a [u16],
-    wys: &'a [u16],
-    wcs: &'a [i32],
-    gaps: &mut Gaps,
-    one: &'a [u32],
-    two: &'a [u32],
-) -> Office {
-    match op {
-        words::OPEN => calls::open_steps(ask, o, xs, ys, cs, wxs, wys, wcs, gaps),
-        words::WATCH => calls::watch(ask, o, xs, ys, cs, days, levels, gaps),
-        words::MARK => calls::mark(o, xs, ys, cs, days, levels, wxs, wys, wcs, gaps),
-        words::BACK => calls::back(ask, o, xs, ys, cs, wxs, wys, wcs, gaps),
-        words::WITHDRAW => calls::withdraw(ask, o, xs, ys, cs, wxs, wys, wcs, gaps),
-        words::ADD => calls::add(ask, o, wxs, wys, wcs, gaps),
-        words::TRIAL => calls::trial(ask, o, xs, ys, cs, days, levels, wxs, wys, wcs, gaps),
-        words::CONSEQUENCES => {
-            calls::consequences(ask, o, xs, ys, cs, days, levels, wxs, wys, wcs, gaps)
+// Makes every call but Open and part, one after the other, and writes what each gave, and whether all is as before, where that is wanted.
+fn each<W: Write>(out: &mut W, ask: Ask<'_>, office: &mut Office) -> Result<()> {
+    let mut sign = ':';
+    for call in EACH {
+        let before = *office;
+        let answer = office.make(call, ask);
+        if ask.is_loud() {
+            let same = Same::of(Start::default(), office.lent(ask), &before);
+            write!(
+                out,
+                "{sign} {call} {} {}",
+                Told(answer),
+                show::word(same.all())
+            )?;
         }
-        words::RING => {
-            calls::ring_check(ask, o, xs, ys, cs, days, levels, wxs, wys, wcs, gaps, two)
-        }
-        words::LAST => calls::last_day(o, xs, ys, cs, days, levels, wxs, wys, wcs, gaps),
-        words::GAP => calls::gap(ask, o, xs, ys, cs, days, levels, wxs, wys, wcs, gaps),
-        words::PART => {
-            show::part(desk::trial_part(one, two, o.last));
-            o
-        }
-        words::TELL => tell(
-            ask, o, other, kept, xs, ys, cs, days, levels, wxs, wys, wcs, gaps, one, two,
-        ),
-        words::PAST => past(
-            ask, o, other, kept, xs, ys, cs, days, levels, wxs, wys, wcs, gaps, one, two,
-        ),
-        words::RULE => {
-            show::rule(xs, ys, cs, ask.first);
-            o
-        }
-        _ => {
-            show::cell(ask, o.counts, days, levels, gaps);
-            o
-        }
+        sign = ',';
     }
-}
-
-// Lends the tables and lists to one operation, one of them with as many places as the line says.
-fn lend(op: u32, ask: Ask, o: Office, other: Office, kept: &Gaps, gaps: &mut Gaps) -> Office {
-    let xs = o.xs;
-    let ys = o.ys;
-    let cs = o.cs;
-    let days = o.days;
-    let levels = o.levels;
-    let wxs = o.wxs;
-    let wys = o.wys;
-    let wcs = o.wcs;
-    let one = o.one;
-    let two = o.two;
-    made(
-        op,
-        ask,
-        o,
-        other,
-        kept,
-        cells::lent_steps(ask, words::XS, &xs),
-        cells::lent_steps(ask, words::YS, &ys),
-        cells::lent_amounts(ask, words::CS, &cs),
-        cells::lent_numbers(ask, words::DAYS, &days),
-        cells::lent_levels(ask, words::LEVELS, &levels),
-        cells::lent_steps(ask, words::WXS, &wxs),
-        cells::lent_steps(ask, words::WYS, &wys),
-        cells::lent_amounts(ask, words::WCS, &wcs),
-        gaps,
-        cells::lent_numbers(ask, words::ONE, &one),
-        cells::lent_numbers(ask, words::TWO, &two),
-    )
-}
-
-// Makes the public call, and writes what it gave where that is wanted.
-fn public(call: u32, ask: Ask, o: Office, gaps: &mut Gaps) -> Office {
-    let was = *gaps;
-    let next = lend(call, ask, o, o, &was, gaps);
-    if !ask.loud {
-        return next;
-    }
-    show::name(ask, call);
-    lend(words::TELL, ask, next, o, &was, gaps)
-}
-
-// Makes every call but Open and part, one after the other.
-fn each(ask: Ask, o: Office, gaps: &mut Gaps) -> Office {
-    let o = public(words::WATCH, ask, o, gaps);
-    let o = public(words::MARK, ask, o, gaps);
-    let o = public(words::BACK, ask, o, gaps);
-    let o = public(words::WITHDRAW, ask, o, gaps);
-    let o = public(words::ADD, ask, o, gaps);
-    let o = public(words::TRIAL, ask, o, gaps);
-    let o = public(words::CONSEQUENCES, ask, o, gaps);
-    let o = public(words::RING, ask, o, gaps);
-    let o = public(words::LAST, ask, o, gaps);
-    public(words::GAP, ask, o, gaps)
-}
-
-// Looks at what is lent; the office and the gap table are held against the pattern.
-fn looked(op: u32, ask: Ask, o: Office, gaps: &mut Gaps) -> Office {
-    let unwritten = office::pattern();
-    lend(op, ask, o, office::fresh(o.counts), &unwritten, gaps)
+    Ok(())
 }
 
 // Makes the call Trial, and writes the part that is handed back after it.
-fn tried(ask: Ask, o: Office, gaps: &mut Gaps) -> Office {
-    let mut trial = ask;
-    trial.op = words::TRIAL;
-    let next = public(words::TRIAL, trial, o, gaps);
-    looked(words::PART, ask, next, gaps)
+fn part<W: Write>(out: &mut W, ask: Ask<'_>, office: &mut Office) -> Result<()> {
+    let before = *office;
+    let answer = office.trial(ask);
+    let lent = office.lent(ask);
+    if ask.is_loud() {
+        let same = Same::of(Start::default(), lent, &before);
+        show::told(out, Call::Trial, answer.map(Given::from), same, lent)?;
+    }
+    let steps = lent.counts.steps;
+    show::part(out, desk::trial_part(lent.one, lent.two, steps, answer))
 }
 
-// Puts the line's number into one place of a list or one cell of the gap table.
-fn put(ask: Ask, o: Office, gaps: &mut Gaps) -> Office {
-    office::put_gap(ask, gaps);
-    office::put(ask, o)
+// Where a line `past` begins to look: past the counts, past the line's first number of list one and past its second of list two; of the rules past its third number where that is more, and
+// of the levels past the bound, since Open writes every cell before it.
+fn past_counts(counts: Counts, ask: Ask<'_>) -> Start {
+    let steps = counts.steps as usize;
+    Start {
+        rules: counts.rules.max(ask.number(2)) as usize,
+        steps,
+        levels: meaning::RULES,
+        watched: counts.watched as usize,
+        gaps: if steps <= meaning::YARD_STEPS {
+            steps
+        } else {
+            0
+        },
+        one: ask.number(0) as usize,
+        two: ask.number(1) as usize,
+    }
+}
+
+// Writes whether the places past these still hold the pattern, all of them.
+fn past<W: Write>(out: &mut W, ask: Ask<'_>, office: &Office) -> Result<()> {
+    let counts = office.counts;
+    let start = past_counts(counts, ask);
+    let same = Same::of(start, office.lent(ask), &Office::unwritten(counts));
+    write!(out, ": {}", show::word(same.all()))
 }
 
 // Carries out the line once.
-fn step(ask: Ask, o: Office, gaps: &mut Gaps) -> Office {
-    let op = ask.op;
-    match op {
-        words::HEADING => o,
-        words::NONE => {
-            show::say(show::UNKNOWN);
-            o
-        }
-        words::OPEN..=words::GAP => public(op, ask, o, gaps),
-        words::PART => tried(ask, o, gaps),
-        words::EACH => each(ask, o, gaps),
-        words::FILL => office::filled(o.counts, gaps),
-        words::PUT => put(ask, o, gaps),
-        words::COUNTS => office::counted(ask, o),
-        _ => looked(op, ask, o, gaps),
+fn step<W: Write>(out: &mut W, ask: Ask<'_>, office: &mut Office) -> Result<()> {
+    match ask.asked() {
+        Asked::Heading => {}
+        Asked::Nothing => write!(out, ": ?")?,
+        Asked::Call(call) => alone(out, call, ask, office)?,
+        Asked::Part => part(out, ask, office)?,
+        Asked::Each => each(out, ask, office)?,
+        Asked::Counts => office.counts = ask.counts(),
+        Asked::Put => office.put(ask),
+        Asked::Fill => *office = Office::unwritten(office.counts),
+        Asked::Past => past(out, ask, office)?,
+        Asked::Rule => show::rule(out, ask, office.lent(ask))?,
+        Asked::Show => show::place(out, ask, office.lent(ask))?,
     }
+    Ok(())
 }
 
-// Carries out the line as often as it says.
-fn repeat(line: Line, o: Office, gaps: &mut Gaps) -> Office {
-    let mut next = o;
-    let n = words::turns(line);
-    let mut turn: u32 = 0;
-    while turn < n {
-        next = step(words::at_turn(line, turn), next, gaps);
-        turn += 1;
+// Writes the line, and after it what it gives, carried out as often as it says.
+fn carried<W: Write>(out: &mut W, text: &[u8], office: &mut Office) -> Result<()> {
+    out.write_all(text)?;
+    let line = Line::read(text);
+    for turn in 0..line.turns() {
+        step(out, line.at_turn(turn), office)?;
     }
-    next
-}
-
-// Writes the line, and after it what it gives.
-fn carried(text: &[u8], o: Office, gaps: &mut Gaps) -> Office {
-    show::text(text);
-    let next = repeat(words::read(text), o, gaps);
-    show::text(b"\n");
-    next
-}
-
-// The end of the line that starts at `at`: its line feed, or the text's end.
-fn line_end(text: &[u8], at: usize) -> usize
-    requires { at ≤ length text.now }
-    ensures { (at ≤ result) × (result ≤ length text.now) }
-{
-    let mut e = at;
-    while e < text.len() {
-        if text[e] == 10 {
-            return e;
-        }
-        e += 1;
-    }
-    e
+    out.write_all(b"\n")
 }
 
 // Carries out the text line by line.
-fn run(text: &[u8])
-    requires { length text.now ≤ 65536 }
-{
-    let mut at: usize = 0;
-    let mut gaps = office::pattern();
-    let mut o = office::fresh(Counts {
+fn run<W: Write>(out: &mut W, text: &[u8]) -> Result<()> {
+    let mut office = Office::unwritten(Counts {
         steps: 9,
         rules: 9,
         marks: 9,
         watched: 9,
         last: 9,
     });
-    while at < text.len() {
-        let e = line_end(text, at);
-        o = carried(&text[at..e], o, &mut gaps);
-        at = e + 1;
+    for line in text.split_inclusive(|byte| *byte == b'\n') {
+        carried(out, line.strip_suffix(b"\n").unwrap_or(line), &mut office)?;
     }
+    Ok(())
 }
 
-fn main() {
-    let mut text = [0u8; 65536];
-    let n = io::read_full(0, &mut text);
-    run(&text[0..n]);
+fn main(rt: HostRuntime) {
+    let mut text = [0; TEXT];
+    let read = io::read_full(0, &mut text);
+    // Where a write fails, nobody is left to be told.
+    match run(&mut writer(&rt), &text[..read]) {
+        Ok(()) | Err(_) => {}
+    }
 }

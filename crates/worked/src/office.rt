@@ -1,9 +1,10 @@
-// All that the calls are lent, by value: the counts, the eight tables and two lists, and the last answer. The lists have one place more than the calls
-// need. The gap table is lent beside it.
-use crate::words;
-use crate::words::Ask;
-use gaps::{GapReply, Gaps};
-use meaning::{Counts, Reply};
+// All that the calls are lent, by value: the counts, the nine tables and two lists. The lists have one place more than the calls need.
+use crate::line::Ask;
+use crate::rules::{self, Columns};
+use crate::words::{List, Table};
+use gaps::Gaps;
+use lent::Tables;
+use meaning::Counts;
 
 // How many places the lists have.
 const RULE_PLACES: usize = meaning::RULES + 1;
@@ -12,198 +13,82 @@ const STEP_PLACES: usize = meaning::STEPS + 1;
 
 const WATCH_PLACES: usize = meaning::WATCHED + 1;
 
-// How many steps one yard has, and what a cell of the gap table holds that no call has written.
-const YARD: usize = meaning::YARD_STEPS;
-
-const UNWRITTEN: i64 = 7;
-
-// A reply's number and its two values. The second as it is written, which can be below 0: for Gap it is the limit.
-#[derive(Clone, Copy)]
-pub struct Given {
-    pub number: u32,
-    pub one: u32,
-    pub two: u32,
-    pub written: i64,
-}
-
-// The tables and lists, the counts, and the reply of the last call, with its second value as it is written.
+// The counts, the tables and the lists.
 #[derive(Clone, Copy)]
 pub struct Office {
     pub counts: Counts,
-    pub last: Reply,
-    pub written: i64,
-    pub xs: [u16; RULE_PLACES],
-    pub ys: [u16; RULE_PLACES],
-    pub cs: [i32; RULE_PLACES],
+    pub rules: Columns<RULE_PLACES>,
     pub days: [u32; STEP_PLACES],
     pub levels: [u8; RULE_PLACES],
-    pub wxs: [u16; WATCH_PLACES],
-    pub wys: [u16; WATCH_PLACES],
-    pub wcs: [i32; WATCH_PLACES],
+    pub watched: Columns<WATCH_PLACES>,
+    pub gaps: Gaps,
     pub one: [u32; WATCH_PLACES],
     pub two: [u32; WATCH_PLACES],
 }
 
-// The number and the values of a reply, the second of them written so.
-pub fn values(reply: Reply, written: i64) -> Given {
-    Given {
-        number: reply.number,
-        one: reply.one,
-        two: reply.two,
-        written: written,
-    }
+// The tables and lists as a line lends them: one of them with as many places as it says.
+#[derive(Clone, Copy)]
+pub struct Lent<'a> {
+    pub counts: Counts,
+    pub tables: Tables<'a>,
+    pub gaps: &'a Gaps,
+    pub one: &'a [u32],
+    pub two: &'a [u32],
 }
 
-// These counts, and the pattern in every place: what a place holds that no call has written.
-pub fn fresh(counts: Counts) -> Office {
-    Office {
-        counts: counts,
-        last: meaning::done(counts, 0, 0),
-        written: 0,
-        xs: [7; RULE_PLACES],
-        ys: [7; RULE_PLACES],
-        cs: [7; RULE_PLACES],
-        days: [7; STEP_PLACES],
-        levels: [7; RULE_PLACES],
-        wxs: [7; WATCH_PLACES],
-        wys: [7; WATCH_PLACES],
-        wcs: [7; WATCH_PLACES],
-        one: [7; WATCH_PLACES],
-        two: [7; WATCH_PLACES],
-    }
-}
-
-// The gap table with the pattern in every cell.
-pub fn pattern() -> Gaps {
-    let row = [UNWRITTEN; YARD];
-    [row; YARD]
-}
-
-// These counts, and the pattern in every place, and in every cell of the gap table.
-pub fn filled(counts: Counts, gaps: &mut Gaps) -> Office {
-    let all = pattern();
-    *gaps = all;
-    fresh(counts)
-}
-
-// The office after the call, which gave this reply.
-pub fn after(o: Office, reply: Reply) -> Office {
-    let counts = reply.counts;
-    let mut next = o;
-    next.counts = counts;
-    next.last = reply;
-    next.written = reply.two as i64;
-    next
-}
-
-// The office after Gap, which gave this reply.
-pub fn after_gap(o: Office, given: GapReply) -> Office {
-    let counts = given.counts;
-    let reply = Reply {
-        counts: counts,
-        number: given.number,
-        one: given.limited,
-        two: 0,
-    };
-    let mut next = o;
-    next.counts = counts;
-    next.last = reply;
-    next.written = given.limit;
-    next
-}
-
-// The counts that the line sets.
-pub fn counted(ask: Ask, o: Office) -> Office {
-    let counts = Counts {
-        steps: ask.first,
-        rules: ask.second,
-        marks: ask.third,
-        watched: ask.fourth,
-        last: ask.fifth,
-    };
-    let mut next = o;
-    next.counts = counts;
-    next
-}
-
-// The line's number put into one place of the list that it names, where there is such a place.
-pub fn put(ask: Ask, o: Office) -> Office {
-    let mut next = o;
-    let at = ask.first as usize;
-    let step = ask.y;
-    let amount = ask.signed;
-    let number = ask.second;
-    let level = (number % 256) as u8;
-    let list = ask.list;
-    match list {
-        words::XS => {
-            if at < RULE_PLACES {
-                next.xs[at] = step;
-            }
-        }
-        words::YS => {
-            if at < RULE_PLACES {
-                next.ys[at] = step;
-            }
-        }
-        words::CS => {
-            if at < RULE_PLACES {
-                next.cs[at] = amount;
-            }
-        }
-        words::DAYS => {
-            if at < STEP_PLACES {
-                next.days[at] = number;
-            }
-        }
-        words::LEVELS => {
-            if at < RULE_PLACES {
-                next.levels[at] = level;
-            }
-        }
-        words::WXS => {
-            if at < WATCH_PLACES {
-                next.wxs[at] = step;
-            }
-        }
-        words::WYS => {
-            if at < WATCH_PLACES {
-                next.wys[at] = step;
-            }
-        }
-        words::WCS => {
-            if at < WATCH_PLACES {
-                next.wcs[at] = amount;
-            }
-        }
-        words::GAPS => {}
-        words::ONE => {
-            if at < WATCH_PLACES {
-                next.one[at] = number;
-            }
-        }
-        _ => {
-            if at < WATCH_PLACES {
-                next.two[at] = number;
-            }
+impl Office {
+    // These counts, and the pattern in every place: what a place holds that no call has written.
+    pub fn unwritten(counts: Counts) -> Office {
+        Office {
+            counts,
+            rules: Columns::unwritten(),
+            days: [7; STEP_PLACES],
+            levels: [7; RULE_PLACES],
+            watched: Columns::unwritten(),
+            gaps: [[7; meaning::YARD_STEPS]; meaning::YARD_STEPS],
+            one: [7; WATCH_PLACES],
+            two: [7; WATCH_PLACES],
         }
     }
-    next
-}
 
-// The line's number put into one cell of the gap table, where the line names it and there is such a cell.
-pub fn put_gap(ask: Ask, gaps: &mut Gaps) {
-    let x = ask.first as usize;
-    let y = ask.second as usize;
-    let limit = ask.limit;
-    if ask.list != words::GAPS {
-        return;
+    // All of it as the line lends it.
+    pub fn lent(&self, ask: Ask<'_>) -> Lent<'_> {
+        let rules = self.rules.lent(Table::Held, ask);
+        let watched = self.watched.lent(Table::Watched, ask);
+        let tables = Tables {
+            rules,
+            days: ask.lent(List::Days, &self.days),
+            levels: ask.lent(List::Levels, &self.levels),
+            watched,
+        };
+        Lent {
+            counts: self.counts,
+            tables,
+            gaps: &self.gaps,
+            one: ask.lent(List::One, &self.one),
+            two: ask.lent(List::Two, &self.two),
+        }
     }
-    if YARD <= x {
-        return;
+
+    // Puts the line's number into one place of the list that it names, list two where it names none, where there is such a place; or into one cell of the gap table.
+    pub fn put(&mut self, ask: Ask<'_>) {
+        let at = ask.number(0) as usize;
+        let number = ask.number(1);
+        match ask.list() {
+            Some(List::Rules(Table::Held, column)) => self.rules.put(column, at, ask),
+            Some(List::Rules(Table::Watched, column)) => self.watched.put(column, at, ask),
+            Some(List::Days) => rules::put(&mut self.days, at, number),
+            Some(List::Levels) => rules::put(&mut self.levels, at, (number % 256) as u8),
+            Some(List::Gaps) => self.put_gap(at, number as usize, ask.limit()),
+            Some(List::One) => rules::put(&mut self.one, at, number),
+            Some(List::Two) | None => rules::put(&mut self.two, at, number),
+        }
     }
-    if YARD <= y {
-        return;
+
+    // Puts the limit into one cell of the gap table, where there is such a cell.
+    fn put_gap(&mut self, x: usize, y: usize, limit: i64) {
+        if let Some(row) = self.gaps.get_mut(x) {
+            rules::put(row, y, limit);
+        }
     }
-    gaps[x][y] = limit;
 }

@@ -3,9 +3,11 @@ use Prim.Native.Nat.{ℕ, zero, suc, ◌+◌, ◌-◌, ◌≤◌, ◌<◌, min}
 use native.Mathlib.Omega.{arith}
 use native.Mathlib.Numerals.{add-one}
 use mathlib.Core.Path.{◌≡◌, refl, sym, ap, ◌∙◌}
-use mathlib.Core.List.{List, [], ◌∷◌, ◌++◌}
-use lib.ListN.{length, get_or, set, take, drop, length-set, length-take, length-drop}
-use lib.Seq.{get_or-set_same, get_or-set_other, get_or-take, get_or-drop, length-take-le, take-suc, ext_get_or}
+use mathlib.Core.List.{List, [], ◌∷◌, ◌++◌, append_assoc}
+use lib.ListN.{length, get_or, set, take, drop, length-set, length-take, length-drop, take-append-drop}
+use lib.Seq.{get_or-set_same, get_or-set_other, get_or-take, get_or-drop, length-take-le, ext_get_or}
+use Rattle.std.proofs.Math.Seq.{take-suc-set}
+use Rattle.std.proofs.lemmas.List.{drop-set-lt}
 use Rattle.write.specs.Written.{over}
 
 pub length_over : (l : List ℕ) (i : ℕ) (w : List ℕ) → length (over l i w) ≡ length l
@@ -29,15 +31,6 @@ over_one l i b = refl
 pub over_none : (l : List ℕ) (i : ℕ) → over l i [] ≡ l
 unfolding over
 over_none l i = refl
-
--- One byte more of a word is one store more.
-pub over_more : (l : List ℕ) (i k : ℕ) (w : List ℕ) → k < length w → set (over l i (take k w)) (i + k) (get_or w k 0) ≡ over l i (take (k + 1) w)
-over_more l i k w h =
-    let here : length (take k w) ≡ k = length-take-le k w (omega arith) in
-    sym (over_one (over l i (take k w)) (i + k) (get_or w k 0))
-    ∙ ap (λ (j : ℕ). over (over l i (take k w)) (i + j) (get_or w k 0 ∷ [])) (sym here)
-    ∙ over_append l i (take k w) (get_or w k 0 ∷ [])
-    ∙ ap (over l i) (sym (take-suc w k 0 h) ∙ ap (λ (j : ℕ). take j w) (sym (add-one k)))
 
 -- Places before the word, past it and in it.
 pub getD_over_before : (l : List ℕ) (i : ℕ) (w : List ℕ) (k : ℕ) → k < i → get_or (over l i w) k 0 ≡ get_or l k 0
@@ -81,3 +74,17 @@ part_written l i w room = ext_get_or 0 (take (length w) (drop i (over l i w))) w
 -- A part that ends before the word is as it was.
 pub part_before : (l : List ℕ) (i : ℕ) (w : List ℕ) (a n : ℕ) → a + n ≤ i → take n (drop a (over l i w)) ≡ take n (drop a l)
 part_before l i w a n h = same_part (over l i w) l a n (length_over l i w) (λ k below. getD_over_before l i w (a + k) (omega arith))
+
+-- Written at once, over the part that has its length, a word is as written byte after byte.
+pub over_at_once : (l : List ℕ) (i : ℕ) (w : List ℕ) → i + length w ≤ length l → take i l ++ (w ++ drop (i + length w) l) ≡ over l i w
+unfolding over
+over_at_once l i [] room = ap (λ (k : ℕ). take i l ++ drop k l) (omega arith) ∙ take-append-drop i l
+over_at_once l i (b ∷ w) room =
+    let same : i + suc (length w) ≡ i + 1 + length w = omega arith in
+    let room' : i + 1 + length w ≤ length (set l i b) = omega (arith, length-set l i b) in
+    let front : take (i + 1) (set l i b) ≡ take i l ++ (b ∷ []) = ap (λ (k : ℕ). take k (set l i b)) (add-one i) ∙ take-suc-set l i b (omega arith) in
+    let back : drop (i + suc (length w)) l ≡ drop (i + 1 + length w) (set l i b) = ap (λ (k : ℕ). drop k l) same ∙ sym (drop-set-lt (i + 1 + length w) l i b (omega arith)) in
+    ap (λ (r : List ℕ). take i l ++ (b ∷ (w ++ r))) back
+    ∙ sym (append_assoc (take i l) (b ∷ []) (w ++ drop (i + 1 + length w) (set l i b)))
+    ∙ ap (λ (f : List ℕ). f ++ (w ++ drop (i + 1 + length w) (set l i b))) (sym front)
+    ∙ over_at_once (set l i b) (i + 1) w room'

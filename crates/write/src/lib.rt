@@ -9,10 +9,9 @@ pub fn word(out: &mut [u8], at: usize, w: &[u8]) -> usize
     requires { at + length w.now ≤ length out.old }
     ensures { (out.new ≡ over out.old at w.now) × (result ≡ at + length w.now) }
 {
-    for i in 0..w.len() {
-        out[at + i] = w[i];
-    }
-    at + w.len()
+    let end = at + w.len();
+    out[at..end].copy_from_slice(w);
+    end
 }
 
 // Writes the decimal digits of n from place at on, and gives back the place past them.
@@ -21,10 +20,10 @@ pub fn number(out: &mut [u8], at: usize, n: u32) -> usize
     ensures { (out.new ≡ over out.old at (decimal n)) × (result ≡ at + length (decimal n)) }
 {
     if n < 10 {
-        out[at] = (48 + n) as u8;
+        out[at] = b'0' + n as u8;
         return at + 1;
     }
     let e = number(out, at, n / 10);
-    out[e] = (48 + n % 10) as u8;
+    out[e] = b'0' + (n % 10) as u8;
     e + 1
 }

@@ -5,5 +5,4 @@ pub mod Staging
 pub mod Passing
 pub mod Lifting
 pub mod Machine
-pub mod Comparing
 pub mod Results

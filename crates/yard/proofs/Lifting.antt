@@ -1,12 +1,10 @@
--- From least amounts to slacks: a row with the cell of its own step set to no days, and a square of slacks.
+-- From least amounts to slacks.
 use Prim.Native.Nat.{ℕ, ◌+◌, ◌≤◌, ◌<◌}
 use native.Mathlib.Omega.{arith}
-use native.Mathlib.Decide.{ℕ_discrete}
-use mathlib.Core.Path.{◌≡◌, refl, sym, ap, subst}
+use mathlib.Core.Path.{◌≡◌, refl, ap}
 use mathlib.Core.List.{List, []}
 use mathlib.Core.Logic.{◌⊎◌, inl, inr}
-use lib.ListN.{length, get_or, set}
-use lib.Seq.{get_or-set_same, get_or-set_other}
+use lib.ListN.{get_or}
 use lib.IntN.{ℤ}
 use Rattle.meaning.specs.Bounds.{YARD_STEPS}
 use Rattle.meaning.specs.Rules.{Rule}
@@ -16,40 +14,6 @@ use Rattle.lent.specs.Lent.{columns, held_by, BIAS, Biased}
 use Rattle.gaps.specs.Slacks.{NONE, Spares}
 use Rattle.yard.specs.Squares.{way}
 use Rattle.yard.specs.Tables.{Least, Slackable, Leasable, SlackOf, RowKept, RowSlack, Single}
-
--- ---- one row
-
-module _ (x : ℕ) (days row : List ℕ) (inside : x < YARD_STEPS) (long : length row ≡ YARD_STEPS) where
-  -- The row with the cell of its own step set to no days.
-  abbrev owned : List ℕ
-  owned = set row x BIAS
-
-  own_cell : at owned x ≡ BIAS
-  own_cell = get_or-set_same row x BIAS 0 (omega (arith, long))
-
-  -- The days keep the amounts of such a row too.
-  pub row_lifts : RowKept x days row → (y : ℕ) → y < YARD_STEPS → at owned y < NONE → at days x + BIAS ≤ at days y + at owned y
-  row_lifts kept y below known = tell (ℕ_discrete y x)
-    where
-      tell : Dec (y ≡ x) → at days x + BIAS ≤ at days y + at owned y
-      tell (yes e) = omega (arith, ap (at days) e, ap (at owned) e, own_cell)
-      tell (no d) =
-          let same : at owned y ≡ at row y = get_or-set_other row x y BIAS 0 d in
-          omega (arith, same, kept y below (λ e. d (sym e)) (omega (arith, same, known)))
-
-  -- The slacks of such a row are those of the row, with 0 of the step itself.
-  pub row_slack : (y r : ℕ) → SlackOf (at owned y) (at days x + BIAS) (at days y) r → ((x ≡ y) × (r ≡ 0)) ⊎ ((x ≡ y → ⊥) × SlackOf (at row y) (at days x + BIAS) (at days y) r)
-  row_slack y r slack = tell (ℕ_discrete y x)
-    where
-      zero-here : y ≡ x → SlackOf (at owned y) (at days x + BIAS) (at days y) r → r ≡ 0
-      zero-here e (inl (none, is)) = absurd (omega (arith, none, ap (at owned) e, own_cell))
-      zero-here e (inr (known, narrow, is)) = omega (arith, is, ap (at days) e, ap (at owned) e, own_cell)
-
-      tell : Dec (y ≡ x) → ((x ≡ y) × (r ≡ 0)) ⊎ ((x ≡ y → ⊥) × SlackOf (at row y) (at days x + BIAS) (at days y) r)
-      tell (yes e) = inl (sym e, zero-here e slack)
-      tell (no d) = inr ((λ e. d (sym e)), subst (λ (w : ℕ). SlackOf w (at days x + BIAS) (at days y) r) (get_or-set_other row x y BIAS 0 d) slack)
-
--- ---- the whole square
 
 -- What the least amounts need of what the slacks do.
 pub leasable : {m : ℕ} {xs ys : List ℕ} {cs : List ℤ} {days levels : List ℕ} → Slackable m xs ys cs days levels → Leasable m xs ys cs levels

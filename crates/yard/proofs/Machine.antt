@@ -2,22 +2,20 @@
 use Prim.Native.Nat.{ℕ, ◌+◌, ◌≤◌, ◌<◌}
 use native.Mathlib.Omega.{arith}
 use mathlib.Core.Path.{◌≡◌, refl, sym, ◌∙◌, ap, subst}
-use mathlib.Core.Bool.{Bool, true, false, not}
-use mathlib.Core.Logic.{inl, inr}
+use mathlib.Core.Bool.{Bool, true, false, not, cond}
+use mathlib.Core.Logic.{◌⊎◌, inl, inr}
 use lib.Dec.{T}
-use lib.IntN.{ℤ, pos, negsuc, neg_ℤ, ◌+ℤ◌, ◌-ℤ◌}
+use lib.IntN.{ℤ, pos, negsuc, neg_ℤ, ◌+ℤ◌}
 use lib.Signed.{lt_z, ◌≤ℤ◌, ◌<ℤ◌, lt_z_no}
-use mir.Syntax.{w32, w64}
+use mir.Syntax.{w64}
 use mir.Val.{SFits, of_z, to_z}
-use mir.ValLaws.{to_z-of_z, to_z_pos}
-use borrow.Author.Tests.{le-leb, lt-leb}
+use mir.ValLaws.{to_z-of_z}
+use Rattle.std.specs.Int.{int_min}
 use Rattle.meaning.specs.Bounds.{LARGEST, NO_LIMIT}
 use Rattle.meaning.specs.Rules.{InAmount}
 use Rattle.meaning.specs.Reckoning.{up, dn}
-use Rattle.meaning.proofs.Whole.{le→, add_is, minus_is}
-use Rattle.lent.proofs.Amounts.{wide}
-use Rattle.gaps.specs.Slacks.{NONE, NEAR, Near}
-use Rattle.yard.specs.Cells.{limit}
+use Rattle.meaning.proofs.Whole.{le→, add_is}
+use Rattle.gaps.specs.Slacks.{NEAR, Near}
 
 -- ---- fits
 
@@ -58,35 +56,6 @@ test_less a b e = record { lt = subst T (sym e) tt }
 
 pub test_not_less : (a b : ℤ) → lt_z a b ≡ false → b ≤ℤ a
 test_not_less a b e = lt_z_no (subst (λ (t : Bool). T (not t)) (sym e) tt)
-
--- ---- the limit of a slack
-
-module _ (w a b : ℕ) (some : w < NONE) (day : a < 4294967296) (day-too : b < 4294967296) where
-  pub later_fits : SFits w64 (pos (w + a))
-  later_fits = record { sfits = omega arith }
-
-  pub day_fits : SFits w64 (pos b)
-  day_fits = record { sfits = omega arith }
-
-  later_is : to_z w64 (w + a) ≡ pos (w + a)
-  later_is = to_z_pos w64 (w + a) (omega arith)
-
-  day_is : to_z w64 b ≡ pos b
-  day_is = to_z_pos w64 b (omega arith)
-
-  plain_fits : SFits w64 (pos (w + a) -ℤ pos b)
-  plain_fits =
-      let sides = within (pos (w + a) -ℤ pos b) (w + a) b (omega (arith, minus_is (pos (w + a)) (pos b))) in
-      near_fits (pos (w + a) -ℤ pos b) (omega (arith, sides.0)) (omega (arith, sides.1))
-
-  pub limit_fits : SFits w64 (to_z w64 (w + a) -ℤ to_z w64 b)
-  limit_fits = rw (later_is, day_is) plain_fits
-
-  pub limit_read : to_z w64 (of_z w64 (to_z w64 (w + a) -ℤ to_z w64 b)) ≡ limit w a b
-  limit_read = rw (later_is, day_is) (to_z-of_z w64 (pos (w + a) -ℤ pos b) plain_fits ∙ rw (lt-leb NONE w some) refl)
-
-pub none_read : (w a b : ℕ) → NONE ≤ w → pos NO_LIMIT ≡ limit w a b
-none_read w a b none = rw (le-leb NONE w none) refl
 
 -- ---- the way over a rule
 
@@ -129,18 +98,13 @@ module _ (p c q : ℤ) (fits-p : SFits w64 p) (fits-c : SFits w64 c) (fits-q : S
   way_machine_is : way_machine ≡ (p +ℤ c) +ℤ q
   way_machine_is = (λ i. to_z w64 (of_z w64 (sum_machine_is i)) +ℤ to_z-of_z w64 q fits-q i) ∙ ap (λ (z : ℤ). z +ℤ q) (to_z-of_z w64 (p +ℤ c) sum_fits)
 
-  pub way_fits : SFits w64 (to_z w64 (of_z w64 (to_z w64 (of_z w64 p) +ℤ to_z w64 (of_z w64 c))) +ℤ to_z w64 (of_z w64 q))
-  way_fits = subst (SFits w64) (sym way_machine_is) plain_way_fits
-
   pub way_read : to_z w64 (of_z w64 (to_z w64 (of_z w64 (to_z w64 (of_z w64 p) +ℤ to_z w64 (of_z w64 c))) +ℤ to_z w64 (of_z w64 q))) ≡ (p +ℤ c) +ℤ q
   way_read = ap (λ (z : ℤ). to_z w64 (of_z w64 z)) way_machine_is ∙ to_z-of_z w64 ((p +ℤ c) +ℤ q) plain_way_fits
 
--- The tests of two numbers that the machine read as these.
-pub less_read : (z a : ℤ) {z' a' : ℤ} → z ≡ z' → a ≡ a' → lt_z z a ≡ true → z' <ℤ a'
-less_read z a is is-too e = test_less _ _ ((λ i. lt_z (sym is i) (sym is-too i)) ∙ e)
-
-pub not_less_read : (z a : ℤ) {z' a' : ℤ} → z ≡ z' → a ≡ a' → lt_z z a ≡ false → a' ≤ℤ z'
-not_less_read z a is is-too e = test_not_less _ _ ((λ i. lt_z (sym is i) (sym is-too i)) ∙ e)
-
-pub widened_read : (c : ℤ) → SFits w32 c → to_z w64 (of_z w64 (to_z w32 (of_z w32 c))) ≡ c
-widened_read c f = to_z-of_z w64 (to_z w32 (of_z w32 c)) (wide c f) ∙ to_z-of_z w32 c f
+-- The smaller of a cell and a way, as the machine reads both.
+pub lesser_read : {a way a' way' r : ℤ} → a ≡ a' → way ≡ way' → r ≡ int_min a way → ((way' <ℤ a') × (r ≡ way')) ⊎ ((a' ≤ℤ way') × (r ≡ a'))
+lesser_read {a} {way} {a'} {way'} {r} is is-too e = tell (lt_z way' a') refl (e ∙ (λ i. int_min (is i) (is-too i)))
+  where
+    tell : (t : Bool) → lt_z way' a' ≡ t → r ≡ cond t way' a' → ((way' <ℤ a') × (r ≡ way')) ⊎ ((a' ≤ℤ way') × (r ≡ a'))
+    tell true less same = inl (test_less way' a' less, same)
+    tell false no_less same = inr (test_not_less way' a' no_less, same)

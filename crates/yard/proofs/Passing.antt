@@ -1,5 +1,5 @@
 -- Places passed one by one: the square has the least amount of each pair, of the rules that were passed.
-use Prim.Native.Nat.{ℕ, ◌+◌, ◌≤◌, ◌<◌}
+use Prim.Native.Nat.{ℕ, ◌+◌, ◌*◌, ◌≤◌, ◌<◌, min}
 use native.Mathlib.Omega.{arith}
 use native.Mathlib.Decide.{ℕ_discrete, dec_lt}
 use mathlib.Core.Path.{◌≡◌, refl, sym, ◌∙◌, ap, subst}
@@ -8,14 +8,14 @@ use mathlib.Core.Logic.{◌⊎◌, inl, inr}
 use lib.ListN.{length, get_or, set, replicate, length-set, length-replicate, get_or-replicate}
 use lib.Seq.{get_or-set_same, get_or-set_other}
 use Rattle.meaning.specs.Bounds.{RULES, YARD_STEPS}
-use Rattle.meaning.specs.Rules.{Rule}
+use Rattle.meaning.specs.Rules.{Rule, InSteps}
 use Rattle.meaning.specs.Tables.{at, taken}
 use Rattle.meaning.proofs.Places.{taken_of_none, taken_free, taken_held}
 use Rattle.lent.specs.Lent.{held_by, Biased}
 use Rattle.lent.proofs.Cells.{taken_past}
 use Rattle.gaps.specs.Slacks.{NONE}
 use Rattle.yard.specs.Squares.{way}
-use Rattle.yard.specs.Tables.{blank_row, Blank, NoMore, Least}
+use Rattle.yard.specs.Tables.{put, blank_row, Blank, NoMore, Lowered, Least}
 
 -- ---- one cell of a square
 
@@ -23,10 +23,6 @@ use Rattle.yard.specs.Tables.{blank_row, Blank, NoMore, Least}
 pub record Shaped (square : List (List ℕ)) : Type 0 where
   pub rows : length square ≡ YARD_STEPS
   pub columns : (x : ℕ) → x < YARD_STEPS → length (get_or square x []) ≡ YARD_STEPS
-
--- The square with w in row x and column y.
-abbrev pub put : List (List ℕ) → ℕ → ℕ → ℕ → List (List ℕ)
-put square x y w = set square x (set (get_or square x []) y w)
 
 module _ {square : List (List ℕ)} (shaped : Shaped square) (x y w : ℕ) (row_in : x < YARD_STEPS) (column_in : y < YARD_STEPS) where
   row_put : get_or (put square x y w) x [] ≡ set (get_or square x []) y w
@@ -109,12 +105,12 @@ passing_none R levels {square} blank = record {
     given x y (inr (d, is)) = inl is
 
 module _ {i : ℕ} {R : ℕ → Rule} {levels : List ℕ} {seen : ℕ} {square : List (List ℕ)} (s : Passing i R levels seen square) where
-  -- Where not all have been seen, a place is left.
-  pub place_left : seen < taken RULES levels → i < RULES
-  place_left fewer = tell (dec_lt i RULES)
+  -- Where not all have been seen, and whole groups of 4 have been passed, one more is left.
+  pub group_inside : (b : ℕ) → i ≡ b * 4 → seen < taken RULES levels → i + 4 ≤ RULES
+  group_inside b groups fewer = tell (dec_lt i RULES)
     where
-      tell : Dec (i < RULES) → i < RULES
-      tell (yes h) = h
+      tell : Dec (i < RULES) → i + 4 ≤ RULES
+      tell (yes h) = omega (arith, groups, h)
       tell (no h) =
           let end : i ≡ RULES = omega (arith, s.within) in
           absurd (omega (arith, fewer, s.seen_are, ap (λ (j : ℕ). taken j levels) end))
@@ -173,45 +169,7 @@ module _ {i : ℕ} {R : ℕ → Rule} {levels : List ℕ} {seen : ℕ} {square :
     seen_one : seen + 1 ≡ taken (i + 1) levels
     seen_one = omega (arith, s.seen_are, taken_held i levels some)
 
-    -- What is at most the least amounts before, and at most w for the pair of the rule, is no more than those after.
-    under_more :
-        (W : ℕ → ℕ → ℕ) → ((x y : ℕ) → W x y ≤ way square x y) → W (R i).first (R i).second ≤ w →
-        (j : ℕ) → passed (i + 1) levels j → NoMore (R j).amount (W (R j).first (R j).second)
-    under_more W lower here j h = tell (ℕ_discrete j i)
-      where
-        tell : Dec (j ≡ i) → NoMore (R j).amount (W (R j).first (R j).second)
-        tell (yes e) =
-            subst (λ (k : ℕ). NoMore (R k).amount (W (R k).first (R k).second)) (sym e)
-            (record { lower = omega (arith, here, biased.is); narrow = omega (arith, here, biased.narrow) })
-        tell (no d) =
-            let before = s.least.under j (omega (arith, h.0), h.1) in
-            record { lower = omega (arith, lower (R j).first (R j).second, before.lower); narrow = omega (arith, lower (R j).first (R j).second, before.narrow) }
-
-    -- It is no less than those before.
-    pub passing_keeps : way square (R i).first (R i).second ≤ w → Passing (i + 1) R levels (seen + 1) square
-    passing_keeps no_less = record {
-      within = omega arith;
-      seen_are = seen_one;
-      shaped = s.shaped;
-      least = record {
-        self = s.least.self;
-        under = under_more (way square) (λ x y. omega arith) no_less;
-        given = λ x y h g. given x y (s.least.given x y h g);
-      };
-    }
-      where
-        given :
-            (x y : ℕ) →
-            (way square x y ≡ NONE) ⊎ ((x ≡ y) × (way square x y ≡ 0))
-            ⊎ ((j : ℕ) × passed i levels j × ((R j).first ≡ x) × ((R j).second ≡ y) × Biased (R j).amount (way square x y)) →
-            (way square x y ≡ NONE) ⊎ ((x ≡ y) × (way square x y ≡ 0))
-            ⊎ ((j : ℕ) × passed (i + 1) levels j × ((R j).first ≡ x) × ((R j).second ≡ y) × Biased (R j).amount (way square x y))
-        given x y (inl e) = inl e
-        given x y (inr (inl e)) = inr (inl e)
-        given x y (inr (inr (j, h, first, second, too))) = inr (inr (j, (omega (arith, h.0), h.1), first, second, too))
-
-    -- It is less.
-    module _ (less : w < way square (R i).first (R i).second) (first_in : (R i).first < YARD_STEPS) (second_in : (R i).second < YARD_STEPS) where
+    module _ (first_in : (R i).first < YARD_STEPS) (second_in : (R i).second < YARD_STEPS) where
       abbrev x₁ : ℕ
       x₁ = (R i).first
 
@@ -219,13 +177,13 @@ module _ {i : ℕ} {R : ℕ → Rule} {levels : List ℕ} {seen : ℕ} {square :
       y₁ = (R i).second
 
       abbrev new : List (List ℕ)
-      new = put square x₁ y₁ w
+      new = put square x₁ y₁ (min (way square x₁ y₁) w)
 
-      here : way new x₁ y₁ ≡ w
-      here = put_same s.shaped x₁ y₁ w first_in second_in
+      here : way new x₁ y₁ ≡ min (way square x₁ y₁) w
+      here = put_same s.shaped x₁ y₁ (min (way square x₁ y₁) w) first_in second_in
 
       there : (x y : ℕ) → ((x ≡ x₁) × (y ≡ y₁) → ⊥) → way new x y ≡ way square x y
-      there = put_other s.shaped x₁ y₁ w first_in second_in
+      there = put_other s.shaped x₁ y₁ (min (way square x₁ y₁) w) first_in second_in
 
       is-here : (x y : ℕ) → Dec ((x ≡ x₁) × (y ≡ y₁))
       is-here x y = tell (ℕ_discrete x x₁) (ℕ_discrete y y₁)
@@ -235,54 +193,59 @@ module _ {i : ℕ} {R : ℕ → Rule} {levels : List ℕ} {seen : ℕ} {square :
           tell (yes e) (no d) = no (λ h. d h.1)
           tell (no d) f = no (λ h. d h.0)
 
-      same-cell : (x y : ℕ) → (x ≡ x₁) × (y ≡ y₁) → way new x y ≡ w
-      same-cell x y (e, f) = (λ k. way new (e k) (f k)) ∙ here
+      same-cell : (x y : ℕ) → (x ≡ x₁) × (y ≡ y₁) → way new x y ≡ min (way square x y) w
+      same-cell x y (e, f) = (λ k. way new (e k) (f k)) ∙ here ∙ (λ k. min (way square (sym e k) (sym f k)) w)
 
-      was : (x y : ℕ) → (x ≡ x₁) × (y ≡ y₁) → way square x y ≡ way square x₁ y₁
-      was x y (e, f) = λ k. way square (e k) (f k)
-
-      lower : (x y : ℕ) → Dec ((x ≡ x₁) × (y ≡ y₁)) → way new x y ≤ way square x y
-      lower x y (yes e) = omega (arith, same-cell x y e, was x y e, less)
-      lower x y (no d) = omega (arith, there x y d)
+      no_more : (x y : ℕ) → Dec ((x ≡ x₁) × (y ≡ y₁)) → way new x y ≤ way square x y
+      no_more x y (yes e) = omega (arith, same-cell x y e)
+      no_more x y (no d) = omega (arith, there x y d)
 
       self : (v : ℕ) → v < YARD_STEPS → Dec ((v ≡ x₁) × (v ≡ y₁)) → way new v v ≡ 0
-      self v h (yes e) = absurd (omega (arith, was v v e, less, s.least.self v h))
+      self v h (yes e) = omega (arith, same-cell v v e, s.least.self v h)
       self v h (no d) = there v v d ∙ s.least.self v h
 
-      given :
-          (x y : ℕ) → Dec ((x ≡ x₁) × (y ≡ y₁)) →
-          (way square x y ≡ NONE) ⊎ ((x ≡ y) × (way square x y ≡ 0))
-          ⊎ ((j : ℕ) × passed i levels j × ((R j).first ≡ x) × ((R j).second ≡ y) × Biased (R j).amount (way square x y)) →
-          (way new x y ≡ NONE) ⊎ ((x ≡ y) × (way new x y ≡ 0))
-          ⊎ ((j : ℕ) × passed (i + 1) levels j × ((R j).first ≡ x) × ((R j).second ≡ y) × Biased (R j).amount (way new x y))
-      given x y (yes e) before =
-          inr (inr (i, (omega arith, (inside, some)), sym e.0, sym e.1, subst (Biased (R i).amount) (sym (same-cell x y e)) biased))
-      given x y (no d) (inl e) = inl (there x y d ∙ e)
-      given x y (no d) (inr (inl (e, is))) = inr (inl (e, there x y d ∙ is))
-      given x y (no d) (inr (inr (j, h, first, second, too))) =
-          inr (inr (j, (omega (arith, h.0), h.1), first, second, subst (Biased (R j).amount) (sym (there x y d)) too))
+      under : (j : ℕ) → passed (i + 1) levels j → Dec (j ≡ i) → NoMore (R j).amount (way new (R j).first (R j).second)
+      under j h (yes e) =
+          subst (λ (k : ℕ). NoMore (R k).amount (way new (R k).first (R k).second)) (sym e)
+          (record { lower = omega (arith, here, biased.is); narrow = omega (arith, here, biased.narrow) })
+      under j h (no d) =
+          let before = s.least.under j (omega (arith, h.0), h.1) in
+          let less = no_more (R j).first (R j).second (is-here (R j).first (R j).second) in
+          record { lower = omega (arith, less, before.lower); narrow = omega (arith, less, before.narrow) }
 
-      pub passing_lowers : Passing (i + 1) R levels (seen + 1) (put square (R i).first (R i).second w)
-      passing_lowers = record {
+      abbrev Given : (ℕ → Type 0) → (ℕ → ℕ → ℕ) → ℕ → ℕ → Type 0
+      Given H W x y = (W x y ≡ NONE) ⊎ ((x ≡ y) × (W x y ≡ 0)) ⊎ ((j : ℕ) × H j × ((R j).first ≡ x) × ((R j).second ≡ y) × Biased (R j).amount (W x y))
+
+      stays : (x y : ℕ) → way new x y ≡ way square x y → Given (passed i levels) (way square) x y → Given (passed (i + 1) levels) (way new) x y
+      stays x y same (inl e) = inl (same ∙ e)
+      stays x y same (inr (inl (e, is))) = inr (inl (e, same ∙ is))
+      stays x y same (inr (inr (j, h, first, second, too))) = inr (inr (j, (omega (arith, h.0), h.1), first, second, subst (Biased (R j).amount) (sym same) too))
+
+      given : (x y : ℕ) → Dec ((x ≡ x₁) × (y ≡ y₁)) → Given (passed i levels) (way square) x y → Given (passed (i + 1) levels) (way new) x y
+      given x y (no d) before = stays x y (there x y d) before
+      given x y (yes e) before = tell (dec_lt w (way square x y))
+        where
+          tell : Dec (w < way square x y) → Given (passed (i + 1) levels) (way new) x y
+          tell (yes less) =
+              let is : way new x y ≡ w = omega (arith, same-cell x y e, less) in
+              inr (inr (i, (omega arith, (inside, some)), sym e.0, sym e.1, subst (Biased (R i).amount) (sym is) biased))
+          tell (no no_less) = stays x y (omega (arith, same-cell x y e, no_less)) before
+
+      lowered_passing : Passing (i + 1) R levels (seen + 1) new
+      lowered_passing = record {
         within = omega arith;
         seen_are = seen_one;
-        shaped = put_shaped s.shaped x₁ y₁ w first_in second_in;
+        shaped = put_shaped s.shaped x₁ y₁ (min (way square x₁ y₁) w) first_in second_in;
         least = record {
           self = λ v h. self v h (is-here v v);
-          under = under_more (way new) (λ x y. lower x y (is-here x y)) (omega (arith, here));
+          under = λ j h. under j h (ℕ_discrete j i);
           given = λ x y h g. given x y (is-here x y) (s.least.given x y h g);
         };
       }
 
--- A held place is passed, and the cell of its rule is lowered where the rule has less.
+-- A held place is passed, and the cell of its rule is lowered to the rule's amount.
 pub passing_held :
-    {i : ℕ} {R : ℕ → Rule} {levels : List ℕ} {seen : ℕ} {square : List (List ℕ)} → Passing i R levels seen square →
-    i < RULES → 0 < at levels i → (w : ℕ) → Biased (R i).amount w → (R i).first < YARD_STEPS → (R i).second < YARD_STEPS →
-    (x y : ℕ) → x ≡ (R i).first → y ≡ (R i).second → (new : List (List ℕ)) → ((w < way square x y) × (new ≡ put square x y w)) ⊎ ((way square x y ≤ w) × (new ≡ square)) →
-    Passing (i + 1) R levels (seen + 1) new
-passing_held {i} {R} {levels} {seen} {square} s inside some w biased first_in second_in x y first second new (inl (less, is)) =
-    subst (Passing (i + 1) R levels (seen + 1)) (sym (is ∙ (λ k. put square (first k) (second k) w)))
-    (passing_lowers s inside some w biased (subst (λ (v : ℕ). w < v) (λ k. way square (first k) (second k)) less) first_in second_in)
-passing_held {i} {R} {levels} {seen} {square} s inside some w biased first_in second_in x y first second new (inr (no_less, is)) =
-    subst (Passing (i + 1) R levels (seen + 1)) (sym is)
-    (passing_keeps s inside some w biased (subst (λ (v : ℕ). v ≤ w) (λ k. way square (first k) (second k)) no_less))
+    {i : ℕ} {R : ℕ → Rule} {levels : List ℕ} {seen : ℕ} {square new : List (List ℕ)} → Passing i R levels seen square →
+    i < RULES → 0 < at levels i → InSteps YARD_STEPS (R i) → Lowered (R i) square new → Passing (i + 1) R levels (seen + 1) new
+passing_held {i} {R} {levels} {seen} {square} {new} s inside some steps l =
+    subst (Passing (i + 1) R levels (seen + 1)) (sym l.is) (lowered_passing s inside some l.counted l.biased steps.first_in steps.second_in)

@@ -1,44 +1,33 @@
 -- From the functions' own promises to those of the calls: the slacks of all ways, the gap table written or raised, and the answer whether it is right.
 use Prim.Native.Nat.{ℕ, ◌≤◌, ◌<◌}
 use native.Mathlib.Omega.{arith}
-use native.Mathlib.Decide.{dec_lt}
+use native.Mathlib.Decide.{dec_lt, dec_le}
 use mathlib.Core.Path.{◌≡◌, refl, sym, ◌∙◌, ap, subst}
-use mathlib.Core.Bool.{Bool, true}
-use mathlib.Core.List.{List, []}
-use lib.ListN.{length, get_or}
+use mathlib.Core.Bool.{Bool}
+use mathlib.Core.List.{List, [], ◌++◌}
+use lib.ListN.{length, get_or, take, drop}
+use Rattle.std.proofs.lemmas.List.{get_or-take}
 use lib.IntN.{ℤ, pos}
 use Rattle.meaning.specs.declared.Counts.{Counts}
 use Rattle.meaning.specs.Bounds.{YARD_STEPS}
-use Rattle.meaning.specs.Rules.{Rule}
 use Rattle.meaning.specs.Tables.{Tables, at, Sound}
 use Rattle.meaning.specs.Calls.{rules_of, held_in}
-use Rattle.lent.specs.Decides.{Decides, decides_yes, decides_same}
+use Rattle.lent.specs.Decides.{Decides}
 use Rattle.lent.specs.Idle.{unwatched}
 use Rattle.lent.specs.Promises.{Border}
 use Rattle.gaps.specs.Gaps.{Gaps, cell, Says, InYard, Right, Remade}
-use Rattle.gaps.specs.Slacks.{Slacks, stages, cell_of, SmallerOf, Raised}
+use Rattle.gaps.specs.Slacks.{Slacks, SmallerOf, Raised}
 use Rattle.gaps.proofs.Limits.{says_unique}
 use Rattle.gaps.proofs.Right.{slack_says}
 use Rattle.yard.specs.Cells.{limit}
 use Rattle.yard.specs.Squares.{way, Closed}
-use Rattle.yard.specs.Tables.{TableMade, Slackable, Single, Fresh, Agrees}
-
--- ---- the gap table by slacks
-
--- The gap table made afresh: of n steps, where these are of one yard, each cell that is kept is that of the slack of its pair; all others are as before.
-pub record Written (n : ℕ) (R : ℕ → Rule) (H : ℕ → Type 0) (p : ℕ → ℕ) (before after : Gaps) : Type 0 where
-  pub singles : ℕ → ℕ → ℕ
-  pub slacks : n ≤ YARD_STEPS → Slacks n R H p singles
-  pub cells : (x y : ℕ) → InYard n x y → cell after x y ≡ cell_of p x y (stages n singles x y)
-  pub others : (x y : ℕ) → (InYard n x y → ⊥) → cell after x y ≡ cell before x y
-  pub as_many : length after ≡ length before
-  pub as_long : (x : ℕ) → length (get_or after x []) ≡ length (get_or before x [])
-
--- r tells whether every cell of the gap table that is kept is that of the slack of its pair.
-pub record Compared (n : ℕ) (R : ℕ → Rule) (H : ℕ → Type 0) (p : ℕ → ℕ) (gaps : Gaps) (r : Bool) : Type 0 where
-  pub singles : ℕ → ℕ → ℕ
-  pub slacks : n ≤ YARD_STEPS → Slacks n R H p singles
-  pub tells : Decides r ((x y : ℕ) → InYard n x y → cell gaps x y ≡ cell_of p x y (stages n singles x y))
+use Rattle.std.proofs.Common.{int_eq, true≢false}
+use Rattle.std.specs.Cmp.Lexicographic.{pointwise}
+use Rattle.std.proofs.lemmas.List.{ext_get_or}
+use Rattle.std.proofs.lemmas.Bool.Decides.{Decides-int_eq}
+use Rattle.std.proofs.lemmas.Slice.Eq.{slice_eq-Decides}
+use Rattle.yard.proofs.Making.{made_front}
+use Rattle.yard.specs.Tables.{Made, TableMade, Slackable, Single}
 
 -- ---- what is needed
 
@@ -58,19 +47,6 @@ slackable counts xs ys cs days levels border few = record {
     second_in = omega (arith, few, (border.sound.rules_good i h).steps_in.second_in);
   };
   kept = border.sound.days_earliest.plan;
-}
-
--- ---- the slacks of all ways
-
-pub fresh : {n : ℕ} {R : ℕ → Rule} {H : ℕ → Type 0} {p : ℕ → ℕ} {square r : List (List ℕ)} → n ≤ YARD_STEPS → Single R H p square → Closed n square r → Fresh n R H p r
-fresh {n} {R} {H} {p} {square} few single closed = record {
-  singles = way square;
-  slacks = record {
-    self = λ v h. single.slacks.self v (omega arith);
-    under = single.slacks.under;
-    given = λ x y h g. single.slacks.given x y (omega arith) (omega arith);
-  };
-  ways = closed;
 }
 
 -- ---- the gap table cell by cell
@@ -98,96 +74,87 @@ module _ {P : ℕ → ℕ → ℤ → Type 0} {n : ℕ} {before after : Gaps} (m
       tell (yes h) = (m.made x h).long
       tell (no h) = ap length (m.rest x (omega arith))
 
--- ---- written
+-- ---- made afresh
 
-pub written_none : (n : ℕ) (R : ℕ → Rule) (H : ℕ → Type 0) (p : ℕ → ℕ) (gaps : Gaps) → YARD_STEPS < n → Written n R H p gaps gaps
-written_none n R H p gaps more = record {
-  singles = λ x y. 0;
-  slacks = λ few. absurd (omega (arith, few, more));
-  cells = λ x y in-yard. absurd (many more in-yard);
-  others = λ x y out. refl;
-  as_many = refl;
-  as_long = λ x. refl;
-}
-
-pub written_all :
-    {n : ℕ} {R : ℕ → Rule} {H : ℕ → Type 0} {p : ℕ → ℕ} {square : List (List ℕ)} {before after : Gaps} → n ≤ YARD_STEPS → Fresh n R H p square →
-    TableMade (λ x y z. z ≡ limit (way square x y) (p x) (p y)) n before after → Written n R H p before after
-written_all {n} {R} {H} {p} {square} few f m = record {
-  singles = f.singles;
-  slacks = λ h. f.slacks;
-  cells = λ x y in-yard. table_cell m x y in-yard ∙ ap (λ (w : ℕ). limit w (p x) (p y)) (f.ways x y in-yard.row_in in-yard.column_in);
+-- The cell of a pair's slack says what is so, so that what is written from the slacks is right.
+pub remade :
+    (t : Tables) → Sound t → (single square : List (List ℕ)) {before after : Gaps} → t.counts.steps ≤ YARD_STEPS →
+    Single (rules_of t) (held_in t) (at t.days) single → Closed t.counts.steps single square →
+    TableMade (λ x y z. z ≡ limit (way square x y) (at t.days x) (at t.days y)) t.counts.steps before after → Remade t before after
+remade t sound single square few s closed m = record {
+  right =
+      λ x y in-yard.
+      subst (Says (rules_of t) (held_in t) x y)
+      (sym (table_cell m x y in-yard ∙ ap (λ (w : ℕ). limit w (at t.days x) (at t.days y)) (closed x y in-yard.row_in in-yard.column_in)))
+      (slack_says t sound (way single) slacks x y in-yard);
   others = table_other m few;
   as_many = m.long;
   as_long = table_long m;
 }
+  where
+    slacks : Slacks t.counts.steps (rules_of t) (held_in t) (at t.days) (way single)
+    slacks = record {
+      self = λ v h. s.slacks.self v (omega arith);
+      under = s.slacks.under;
+      given = λ x y h g. s.slacks.given x y (omega arith) (omega arith);
+    }
 
 -- ---- compared
 
-pub compared_none : (n : ℕ) (R : ℕ → Rule) (H : ℕ → Type 0) (p : ℕ → ℕ) (gaps : Gaps) → YARD_STEPS < n → Compared n R H p gaps true
-compared_none n R H p gaps more = record {
-  singles = λ x y. 0;
-  slacks = λ few. absurd (omega (arith, few, more));
-  tells = decides_yes refl (λ x y in-yard. absurd (many more in-yard));
-}
+module _ (t : Tables) (gaps : Gaps) {made : Gaps} (m : Remade t gaps made) where
+  -- A right gap table has the same cells as one that was made afresh in its place.
+  same_cells : Right t gaps → (x y : ℕ) → cell made x y ≡ cell gaps x y
+  same_cells right x y = tell (dec_le t.counts.steps YARD_STEPS) (dec_lt x t.counts.steps) (dec_lt y t.counts.steps)
+    where
+      tell : Dec (t.counts.steps ≤ YARD_STEPS) → Dec (x < t.counts.steps) → Dec (y < t.counts.steps) → cell made x y ≡ cell gaps x y
+      tell (yes few) (yes h) (yes g) =
+          let in-yard : InYard t.counts.steps x y = record { one_yard = few; row_in = h; column_in = g } in
+          says_unique {R = rules_of t} {H = held_in t} {x = x} {y = y} (m.right x y in-yard) (right x y in-yard)
+      tell (no many) h g = m.others x y (λ in-yard. many in-yard.one_yard)
+      tell (yes few) (no past) g = m.others x y (λ in-yard. past in-yard.row_in)
+      tell (yes few) (yes h) (no past) = m.others x y (λ in-yard. past in-yard.column_in)
 
-pub compared_all :
-    (days : List ℕ) {n : ℕ} {R : ℕ → Rule} {H : ℕ → Type 0} (square : List (List ℕ)) (gaps : Gaps) {r : Bool} → n ≤ YARD_STEPS → Fresh n R H (at days) square →
-    Agrees n days square gaps r → Compared n R H (at days) gaps r
-compared_all days {n} {R} {H} square gaps {r} few f agrees = record {
-  singles = f.singles;
-  slacks = λ h. f.slacks;
-  tells =
-      decides_same
-      (λ right x y in-yard. right x y in-yard.row_in in-yard.column_in ∙ same x y in-yard.row_in in-yard.column_in)
-      (λ right x y h g. right x y (record { one_yard = few; row_in = h; column_in = g }) ∙ sym (same x y h g))
-      agrees;
-}
-  where
-    same : (x y : ℕ) → x < n → y < n → limit (way square x y) (at days x) (at days y) ≡ cell_of (at days) x y (stages n f.singles x y)
-    same x y h g = ap (λ (w : ℕ). limit w (at days x) (at days y)) (f.ways x y h g)
+  same_table : Right t gaps → made ≡ gaps
+  same_table right =
+      ext_get_or [] made gaps m.as_many
+      (λ x h. ext_get_or (pos 0) (get_or made x []) (get_or gaps x []) (m.as_long x) (λ y g. same_cells right x y))
+
+  -- So the comparison of the two tells whether it is right.
+  pub compared : (r : Bool) → r ≡ pointwise (pointwise int_eq) made gaps → Decides r (Right t gaps)
+  compared r is =
+      let same = slice_eq-Decides (λ (a b : List ℤ). slice_eq-Decides Decides-int_eq a b _ refl) made gaps r is in
+      record { so = λ e. subst (Right t) (same.0 e) m.right; not_so = λ e right. true≢false (sym (same.1 (same_table right)) ∙ e) }
 
 -- ---- raised
 
-pub raised_none : (n x y : ℕ) (c : ℤ) (gaps : Gaps) → YARD_STEPS < n → Raised n x y c gaps gaps
-raised_none n x y c gaps more = record {
-  smaller = λ i j in-yard. absurd (many more in-yard);
-  others = λ i j out. refl;
-  as_many = refl;
-  as_long = λ i. refl;
-}
+-- The row in place i has the ways over a rule of the amount c, from the step x on, which go on by `via`, where it was in the gap table before.
+abbrev pub RaisedRow : ℕ → ℕ → ℤ → List ℤ → Gaps → ℕ → List ℤ → Type 0
+RaisedRow n x c via old i row = Made (pos 0) (λ j z. SmallerOf (cell old i j) (cell old i x) c (get_or via j (pos 0)) z) n (get_or old i []) row
+
+-- Such a row, as the machine reads what it is made from.
+pub raised_row :
+    (n x i : ℕ) (c : ℤ) (via : List ℤ) (old : Gaps) {p c' : ℤ} {before row : List ℤ} → before ≡ get_or old i [] → p ≡ get_or before x (pos 0) → c' ≡ c →
+    Made (pos 0) (λ j z. SmallerOf (get_or before j (pos 0)) p c' (get_or via j (pos 0)) z) n before row → RaisedRow n x c via old i row
+raised_row n x i c via old {p} {c'} {before} {row} same read amount m =
+    subst (λ (l : List ℤ). Made (pos 0) (λ j z. SmallerOf (get_or l j (pos 0)) (get_or l x (pos 0)) c (get_or via j (pos 0)) z) n l row) same
+    (subst (λ (q : ℤ). Made (pos 0) (λ j z. SmallerOf (get_or before j (pos 0)) q c (get_or via j (pos 0)) z) n before row) read
+    (subst (λ (e : ℤ). Made (pos 0) (λ j z. SmallerOf (get_or before j (pos 0)) p e (get_or via j (pos 0)) z) n before row) amount m))
 
 pub raised_all :
-    {n x y : ℕ} {c : ℤ} {before after : Gaps} → n ≤ YARD_STEPS →
-    TableMade (λ i j z. SmallerOf (cell before i j) (cell before i x) c (cell before y j) z) n before after → Raised n x y c before after
-raised_all few m = record {
-  smaller = table_cell m;
-  others = table_other m few;
-  as_many = m.long;
-  as_long = table_long m;
+    {n x y m : ℕ} {c c' : ℤ} {before front : Gaps} → n ≤ YARD_STEPS → length before ≡ YARD_STEPS → length (take n before) ≤ m → c' ≡ c →
+    Made [] (RaisedRow n x c' (get_or before y []) (take n before)) m (take n before) front → Raised n x y c before (front ++ drop n before)
+raised_all {n} {x} {y} {m} {c} {c'} {before} {front} few rows end amount made = record {
+  smaller = table_cell all;
+  others = table_other all few;
+  as_many = all.long;
+  as_long = table_long all;
 }
-
--- ---- what is so
-
--- The cell of a pair's slack says what is so: what is written is right, and what is compared tells whether it is.
-pub written_remade :
-    (t : Tables) → Sound t → (before after : Gaps) → Written t.counts.steps (rules_of t) (held_in t) (at t.days) before after → Remade t before after
-written_remade t sound before after w = record {
-  right =
-      λ x y in-yard.
-      subst (Says (rules_of t) (held_in t) x y) (sym (w.cells x y in-yard)) (slack_says t sound w.singles (w.slacks in-yard.one_yard) x y in-yard);
-  others = w.others;
-  as_many = w.as_many;
-  as_long = w.as_long;
-}
-
-pub compared_right :
-    (t : Tables) → Sound t → (gaps : Gaps) (r : Bool) → Compared t.counts.steps (rules_of t) (held_in t) (at t.days) gaps r → Decides r (Right t gaps)
-compared_right t sound gaps r w =
-    decides_same
-    (λ cells x y in-yard. subst (Says (rules_of t) (held_in t) x y) (sym (cells x y in-yard)) (says x y in-yard))
-    (λ right x y in-yard. says_unique {R = rules_of t} {H = held_in t} {x = x} {y = y} (right x y in-yard) (says x y in-yard))
-    w.tells
   where
-    says : (x y : ℕ) → InYard t.counts.steps x y → Says (rules_of t) (held_in t) x y (cell_of (at t.days) x y (stages t.counts.steps w.singles x y))
-    says x y in-yard = slack_says t sound w.singles (w.slacks in-yard.one_yard) x y in-yard
+    all : TableMade (λ i j z. SmallerOf (cell before i j) (cell before i x) c (cell before y j) z) n before (front ++ drop n before)
+    all =
+        made_front (omega (arith, few, rows)) end
+        (λ i h row.
+        subst (λ (l : List ℤ). Made (pos 0) (λ j z. SmallerOf (get_or l j (pos 0)) (get_or l x (pos 0)) c' (cell before y j) z) n l row → Made (pos 0) (λ j z. SmallerOf (cell before i j) (cell before i x) c (cell before y j) z) n (get_or before i []) row)
+        (sym (get_or-take n before i [] h))
+        (subst (λ (e : ℤ). Made (pos 0) (λ j z. SmallerOf (cell before i j) (cell before i x) e (cell before y j) z) n (get_or before i []) row) amount))
+        made

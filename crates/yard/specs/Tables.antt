@@ -1,15 +1,13 @@
 -- What the making of the gap table needs, and what is in it afterwards.
-use Rattle.std.specs.Prelude.{ℕ, ◌+◌, ◌≤◌, ◌<◌, ◌≡◌, Bool, List, [], ◌⊎◌, length, get_or, set, replicate, ℤ, pos}
+use Rattle.std.specs.Prelude.{ℕ, ◌+◌, ◌≤◌, ◌<◌, ◌≡◌, min, List, [], ◌⊎◌, length, get_or, set, replicate, ℤ, pos}
 use Rattle.meaning.specs.Bounds.{RULES, YARD_STEPS}
 use Rattle.meaning.specs.Rules.{Rule, InSteps}
 use Rattle.meaning.specs.Reckoning.{up, dn}
 use Rattle.meaning.specs.Tables.{rule_at, at, taken}
-use Rattle.lent.specs.Decides.{Decides}
 use Rattle.lent.specs.Lent.{columns, held_by, KeptAt, BIAS, Biased}
-use Rattle.gaps.specs.Gaps.{Gaps, cell}
-use Rattle.gaps.specs.Slacks.{NONE, Slacks, stages}
+use Rattle.gaps.specs.Gaps.{Gaps}
+use Rattle.gaps.specs.Slacks.{NONE, Slacks}
 use Rattle.yard.specs.Squares.{way}
-use Rattle.yard.specs.Cells.{limit}
 
 -- P holds of each of the first n elements of the list after; all others are those of the list before, and there are as many.
 pub record Made {A : Type 0} (d : A) (P : ℕ → A → Type 0) (n : ℕ) (before after : List A) : Type 0 where
@@ -20,6 +18,10 @@ pub record Made {A : Type 0} (d : A) (P : ℕ → A → Type 0) (n : ℕ) (befor
 -- P holds of each cell of the first n rows and columns; all others are as before, and so are the lengths of the rows and their number.
 abbrev pub TableMade : (ℕ → ℕ → ℤ → Type 0) → ℕ → Gaps → Gaps → Type 0
 TableMade P n before after = Made [] (λ x row. Made (pos 0) (P x) n (get_or before x []) row) n before after
+
+-- The square with w in row x and column y.
+abbrev pub put : List (List ℕ) → ℕ → ℕ → ℕ → List (List ℕ)
+put square x y w = set square x (set (get_or square x []) y w)
 
 -- Row v of the square where nothing is known but that each step is on its own day.
 abbrev pub blank_row : ℕ → List ℕ
@@ -43,6 +45,12 @@ pub record Leasable (m : ℕ) (xs ys : List ℕ) (cs : List ℤ) (levels : List 
 pub record NoMore (c : ℤ) (w : ℕ) : Type 0 where
   pub lower : w + dn c ≤ up c + BIAS
   pub narrow : w < 4294967296
+
+-- The square after is the one before with the cell of the rule's pair lowered to the rule's amount, counted from BIAS below 0, where that is less.
+pub record Lowered (r : Rule) (before after : List (List ℕ)) : Type 0 where
+  pub counted : ℕ
+  pub biased : Biased r.amount counted
+  pub is : after ≡ put before r.first r.second (min (way before r.first r.second) counted)
 
 -- The least amounts that single rules give, counted from BIAS below 0: of each pair the least of the rules held from the one step to the other; 0 of a step to itself; else NONE.
 pub record Least (R : ℕ → Rule) (H : ℕ → Type 0) (W : ℕ → ℕ → ℕ) : Type 0 where
@@ -80,17 +88,3 @@ pub record Slackable (m : ℕ) (xs ys : List ℕ) (cs : List ℤ) (days levels :
 pub record Single (R : ℕ → Rule) (H : ℕ → Type 0) (p : ℕ → ℕ) (square : List (List ℕ)) : Type 0 where
   pub slacks : Slacks YARD_STEPS R H p (way square)
   pub bounded : (x y : ℕ) → x < YARD_STEPS → y < YARD_STEPS → way square x y ≤ NONE
-
--- The square has the slacks of the pairs of the first n steps with all ways over these steps.
-pub record Fresh (n : ℕ) (R : ℕ → Rule) (H : ℕ → Type 0) (p : ℕ → ℕ) (square : List (List ℕ)) : Type 0 where
-  pub singles : ℕ → ℕ → ℕ
-  pub slacks : Slacks n R H p singles
-  pub ways : (x y : ℕ) → x < n → y < n → way square x y ≡ stages n singles x y
-
--- r tells whether every cell of the first n rows and columns is that of its slack in the square.
-abbrev pub Agrees : ℕ → List ℕ → List (List ℕ) → Gaps → Bool → Type 0
-Agrees n days square gaps r = Decides r ((x y : ℕ) → x < n → y < n → cell gaps x y ≡ limit (way square x y) (at days x) (at days y))
-
--- r tells whether the two rows have the same cells.
-abbrev pub SameRow : List ℤ → List ℤ → Bool → Type 0
-SameRow a b r = Decides r ((y : ℕ) → y < YARD_STEPS → get_or a y (pos 0) ≡ get_or b y (pos 0))

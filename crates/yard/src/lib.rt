@@ -3,9 +3,9 @@
 
 ghost use Rattle.std.specs.Prelude.{◌≡◌, ℕ, ◌+◌, ◌<◌, ◌≤◌, [], length, get_or, pos};
 ghost use Rattle.meaning.specs.Bounds.{YARD_STEPS};
-ghost use Rattle.meaning.specs.Rules.{InAmount};
+ghost use Rattle.meaning.specs.Rules.{InAmount, InSteps};
 ghost use Rattle.meaning.specs.Tables.{rule_at, at};
-ghost use Rattle.lent.specs.Lent.{columns, held_by};
+ghost use Rattle.lent.specs.Lent.{columns_of, columns, held_by, Placed};
 ghost use Rattle.lent.specs.Idle.{unwatched};
 ghost use Rattle.lent.specs.Promises.{Border};
 ghost use Rattle.lent.specs.Decides.{Decides};
@@ -13,12 +13,13 @@ ghost use Rattle.gaps.specs.Gaps.{cell, InYard, Right, Remade};
 ghost use Rattle.gaps.specs.Slacks.{NONE as NONE_SPEC, Near, SmallerOf, Raised};
 ghost use Rattle.yard.specs.Cells.{limit};
 ghost use Rattle.yard.specs.Squares.{way, RowBounded, Bounded, RowStaged, Closed};
-ghost use Rattle.yard.specs.Tables.{Made, TableMade, Blank, Leasable, Least, Slackable, SlackOf, RowKept, RowSlack, Single, Fresh, Agrees, SameRow};
+ghost use Rattle.yard.specs.Tables.{Made, TableMade, Blank, Leasable, Lowered, Least, Slackable, SlackOf, RowKept, RowSlack, Single};
 
 use gaps::Gaps;
+use lent::Rules;
 use meaning::Counts;
 
-// The slack of a pair of which nothing is known.
+// The slack of a pair of which nothing is known. With an Option a row would take 1.5 times the instructions and twice the room.
 const NONE: u64 = 1125899906842624;
 
 // So many places are read at a time; the number of all places is a multiple of it.
@@ -27,83 +28,75 @@ const GROUP: usize = 4;
 // One row of slacks, and all of them.
 type Row = [u64; meaning::YARD_STEPS];
 
-type Square = [[u64; meaning::YARD_STEPS]; meaning::YARD_STEPS];
+type Square = [Row; meaning::YARD_STEPS];
 
-// One row of the gap table.
+// One row of the gap table. A cell without a limit has NO_LIMIT, and is no Option, since C lends the table (`gaps` in include/dates.h).
 type Limits = [i64; meaning::YARD_STEPS];
 
-// The row with the ways that begin with `base` and go on by the row `via`.
-fn stage_row(base: u64, via: Row, row: Row) -> Row
+// Puts the ways that begin with `base` and go on by the row `via` into the row. Every cell is looked at, so that many are at a time.
+// This loop and the others over a row or a table are no function that takes a closure: it would have this head, and each call as many lines.
+fn stage_row(base: u64, via: &Row, row: &mut Row)
     requires base_bound { base ≤ NONE_SPEC }
-    requires row_bounded { RowBounded via }
-    ensures { RowStaged base via row result }
+    requires row_bounded { RowBounded via.now }
+    ensures { RowStaged base via.now row.old row.new }
 {
-    let mut new = row;
-    for y in 0..meaning::YARD_STEPS {
-        let way = base + via[y];
-        let mut cell = row[y];
-        if way < cell {
-            cell = way;
-        }
-        new[y] = cell;
+    for (y, cell) in row.iter_mut().enumerate() {
+        *cell = u64::min(*cell, base + via[y]);
     }
-    new
 }
 
-// The square with the ways over each of the first n steps, one step after the other. A row whose slack to the step is NONE has no way over it.
-fn closed(n: usize, square: Square) -> Square
+// Puts the ways over each of the first n steps into the square, one step after the other. A row whose slack to the step is NONE has no way over it.
+fn close(n: usize, square: &mut Square)
     requires n_bound { n ≤ YARD_STEPS }
-    requires bounded { Bounded square }
-    ensures { Closed n square result }
+    requires bounded { Bounded square.old }
+    ensures { Closed n square.old square.new }
 {
-    let mut new = square;
     for k in 0..n {
-        let via = new[k];
-        for x in 0..n {
-            let base = new[x][k];
+        let via = square[k];
+        for row in square[..n].iter_mut() {
+            let base = row[k];
             if base < NONE {
-                let row = new[x];
-                let staged = stage_row(base, via, row);
-                new[x] = staged;
+                stage_row(base, &via, row);
             }
         }
     }
-    new
 }
 
 // The square where nothing is known but that each step is on its own day.
 fn blank() -> Square
     ensures { Blank result }
 {
-    let row = [NONE; meaning::YARD_STEPS];
-    let mut square = [row; meaning::YARD_STEPS];
-    for v in 0..meaning::YARD_STEPS {
-        let mut own = row;
-        own[v] = 0;
-        square[v] = own;
+    let mut square = [[NONE; meaning::YARD_STEPS]; meaning::YARD_STEPS];
+    for (v, row) in square.iter_mut().enumerate() {
+        row[v] = 0;
     }
     square
 }
 
-// The square of the least amounts that single rules give, of m rules held, counted from BIAS below 0. Places are read, a group at a time, until all of the rules have been seen.
-fn least(m: usize, xs: &[u16], ys: &[u16], cs: &[i32], levels: &[u8]) -> Square
-    requires { Leasable m xs.now ys.now cs.now levels.now }
-    ensures { Least (rule_at (columns xs.now ys.now cs.now)) (held_by levels.now) (way result) }
+// Lowers the cell of the pair of the rule under k to its amount, counted from BIAS below 0, where that is less.
+fn lower(k: usize, rules: Rules<'_>, square: &mut Square)
+    requires placed { Placed rules.xs.now rules.ys.now rules.cs.now k }
+    requires steps_in { InSteps YARD_STEPS (rule_at (columns_of rules) k) }
+    ensures { Lowered (rule_at (columns_of rules.entry) k) square.old square.new }
 {
-    let start = blank();
-    let mut square = start;
+    let cell = &mut square[lent::number_at(rules.xs, k)][lent::number_at(rules.ys, k)];
+    *cell = u64::min(*cell, lent::amount_at(rules.cs, k));
+}
+
+// The square of the least amounts that single rules give, of m rules held, counted from BIAS below 0. Places are read, a group at a time, until all of the rules have been seen.
+fn least(m: usize, rules: Rules<'_>, levels: &[u8]) -> Square
+    requires { Leasable m rules.xs.now rules.ys.now rules.cs.now levels.now }
+    ensures { Least (rule_at (columns_of rules.entry)) (held_by levels.now) (way result) }
+{
+    let mut square = blank();
     let mut seen = 0;
     let mut i = 0;
+    // A `for` over the groups would ask at each whether it is the last, and as well whether all have been seen.
     while seen < m {
         let end = i + GROUP;
         for k in i..end {
             if levels[k] != 0 {
-                let x = lent::number_at(xs, k);
-                let y = lent::number_at(ys, k);
-                let w = lent::amount_at(cs, k);
-                if w < square[x][y] {
-                    square[x][y] = w;
-                }
+                lower(k, rules, &mut square);
                 seen += 1;
             }
         }
@@ -124,64 +117,39 @@ fn slack_of(w: u64, dx: u64, dy: u64) -> u64
     dy + w - dx
 }
 
-// The row of slacks of step x, from its row of least amounts. A step has its own day, so that its own cell becomes 0.
-fn slack_row(x: usize, days: &[u32], row: Row) -> Row
+// Makes the row of slacks of step x, from its row of least amounts. A step has its own day, so that its own cell becomes 0.
+fn slack_row(x: usize, days: &[u32], row: &mut Row)
     requires x_bound { x < YARD_STEPS }
     requires in_bounds { YARD_STEPS ≤ length days.now }
-    requires row_kept { RowKept x days.now row }
-    ensures { RowSlack x days.now row result }
+    requires row_kept { RowKept x days.now row.old }
+    ensures { RowSlack x days.now row.old row.new }
 {
     let dx = lent::day_at(days, x) + lent::BIAS;
-    let mut old = row;
-    old[x] = lent::BIAS;
-    let mut new = old;
-    for y in 0..meaning::YARD_STEPS {
-        let z = slack_of(old[y], dx, lent::day_at(days, y));
-        new[y] = z;
+    row[x] = lent::BIAS;
+    for (y, cell) in row.iter_mut().enumerate() {
+        *cell = slack_of(*cell, dx, lent::day_at(days, y));
     }
-    new
 }
 
-// The square of slacks, from that of least amounts.
-fn slacked(days: &[u32], square: Square) -> Square
+// Makes the square of slacks, from that of least amounts.
+fn make_slacks(days: &[u32], square: &mut Square)
     requires in_bounds { YARD_STEPS ≤ length days.now }
-    requires by_index { (x : ℕ) → x < YARD_STEPS → RowKept x days.now (get_or square x []) }
-    ensures { (x : ℕ) → x < YARD_STEPS → RowSlack x days.now (get_or square x []) (get_or result x []) }
+    requires by_index { (x : ℕ) → x < YARD_STEPS → RowKept x days.now (get_or square.old x []) }
+    ensures { (x : ℕ) → x < YARD_STEPS → RowSlack x days.now (get_or square.old x []) (get_or square.new x []) }
 {
-    let mut new = square;
-    for x in 0..meaning::YARD_STEPS {
-        let row = new[x];
-        let next = slack_row(x, days, row);
-        new[x] = next;
+    for (x, row) in square.iter_mut().enumerate() {
+        slack_row(x, days, row);
     }
-    new
 }
 
 // The square of the slacks that single rules give, of m rules held. All rules of a pair have the days of its steps in common, so the least slack is that of the least amount.
-fn slacks(m: usize, xs: &[u16], ys: &[u16], cs: &[i32], days: &[u32], levels: &[u8]) -> Square
-    requires { Slackable m xs.now ys.now cs.now days.now levels.now }
-    ensures { Single (rule_at (columns xs.now ys.now cs.now)) (held_by levels.now) (at days.now) result }
+fn slacks(m: usize, rules: Rules<'_>, days: &[u32], levels: &[u8]) -> Square
+    requires { Slackable m rules.xs.now rules.ys.now rules.cs.now days.now levels.now }
+    ensures { Single (rule_at (columns_of rules.entry)) (held_by levels.now) (at days.now) result }
 {
-    let square = least(m, xs, ys, cs, levels);
-    slacked(days, square)
-}
-
-// The square of the slacks of n steps with all ways, of m rules held.
-fn afresh(
-    n: usize,
-    m: usize,
-    xs: &[u16],
-    ys: &[u16],
-    cs: &[i32],
-    days: &[u32],
-    levels: &[u8],
-) -> Square
-    requires n_bound { n ≤ YARD_STEPS }
-    requires slackable { Slackable m xs.now ys.now cs.now days.now levels.now }
-    ensures { Fresh n (rule_at (columns xs.now ys.now cs.now)) (held_by levels.now) (at days.now) result }
-{
-    let square = slacks(m, xs, ys, cs, days, levels);
-    closed(n, square)
+    let mut square = least(m, rules, levels);
+    make_slacks(days, &mut square);
+    square
 }
 
 // The cell of a pair whose slack is w, where its steps have the days dx and dy.
@@ -196,109 +164,53 @@ fn limit_of(w: u64, dx: u64, dy: u64) -> i64
     (w + dx) as i64 - dy as i64
 }
 
-// The row of the gap table of a step with the day dx, from its row of slacks: the first n cells. All others are as before.
-fn limits(n: usize, dx: u64, days: &[u32], row: Row, before: Limits) -> Limits
+// Writes the first n cells of a row of the gap table, of a step with the day dx, from its row of slacks.
+fn write_row(n: usize, dx: u64, days: &[u32], row: &Row, cells: &mut Limits)
     requires n_bound { n ≤ YARD_STEPS }
     requires n_in_bounds { n ≤ length days.now }
     requires dx_bound { dx < 4294967296 }
-    ensures { Made (pos 0) (λ y z. z ≡ limit (at row y) dx (at days.now y)) n before result }
+    ensures { Made (pos 0) (λ y z. z ≡ limit (at row.now y) dx (at days.now y)) n cells.old cells.new }
 {
-    let mut new = before;
-    for y in 0..n {
-        let z = limit_of(row[y], dx, lent::day_at(days, y));
-        new[y] = z;
+    for (y, cell) in cells[..n].iter_mut().enumerate() {
+        *cell = limit_of(row[y], dx, lent::day_at(days, y));
     }
-    new
 }
 
-// The gap table with the cells of n steps written from their slacks.
-fn written(n: usize, days: &[u32], square: Square, before: Gaps) -> Gaps
+// Writes the cells of n steps into the gap table, from their slacks.
+fn write(n: usize, days: &[u32], square: &Square, gaps: &mut Gaps)
     requires n_bound { n ≤ YARD_STEPS }
     requires n_in_bounds { n ≤ length days.now }
-    ensures { TableMade (λ x y z. z ≡ limit (way square x y) (at days.now x) (at days.now y)) n before result }
+    ensures { TableMade (λ x y z. z ≡ limit (way square.now x y) (at days.now x) (at days.now y)) n gaps.old gaps.new }
 {
-    let mut new = before;
-    for x in 0..n {
-        let row = square[x];
-        let cells = new[x];
-        let next = limits(n, lent::day_at(days, x), days, row, cells);
-        new[x] = next;
+    for (x, cells) in gaps[..n].iter_mut().enumerate() {
+        write_row(n, lent::day_at(days, x), days, &square[x], cells);
     }
-    new
-}
-
-// Whether the two rows have the same cells. Every cell is looked at, so that many are at a time.
-fn same_row(a: Limits, b: Limits) -> bool
-    ensures { SameRow a b result }
-{
-    let mut same = true;
-    for y in 0..meaning::YARD_STEPS {
-        if a[y] != b[y] {
-            same = false;
-        }
-    }
-    same
-}
-
-// Whether the cells of n steps are those of their slacks.
-fn agrees(n: usize, days: &[u32], square: Square, gaps: &Gaps) -> bool
-    requires n_bound { n ≤ YARD_STEPS }
-    requires n_in_bounds { n ≤ length days.now }
-    ensures { Agrees n days.now square gaps.now result }
-{
-    for x in 0..n {
-        let row = square[x];
-        let cells = gaps[x];
-        let next = limits(n, lent::day_at(days, x), days, row, cells);
-        if !same_row(cells, next) {
-            return false;
-        }
-    }
-    true
 }
 
 // Makes the gap table afresh, beside tables that are known to be sound. Where there are more steps than one yard has, nothing is written.
-pub fn remake(
-    counts: Counts,
-    xs: &[u16],
-    ys: &[u16],
-    cs: &[i32],
-    days: &[u32],
-    levels: &[u8],
-    gaps: &mut Gaps,
-)
-    requires { Border (unwatched counts xs.now ys.now cs.now days.now levels.now) }
-    ensures { Remade (unwatched counts xs.now ys.now cs.now days.now levels.now) gaps.old gaps.new }
+pub fn remake(counts: Counts, rules: Rules<'_>, days: &[u32], levels: &[u8], gaps: &mut Gaps)
+    requires { Border (unwatched counts rules.xs.now rules.ys.now rules.cs.now days.now levels.now) }
+    ensures { Remade (unwatched counts rules.entry.xs.now rules.entry.ys.now rules.entry.cs.now days.now levels.now) gaps.old gaps.new }
 {
     let n = counts.steps as usize;
-    if meaning::YARD_STEPS < n {
-        return;
+    if n <= meaning::YARD_STEPS {
+        let mut square = slacks(counts.rules as usize, rules, days, levels);
+        close(n, &mut square);
+        write(n, days, &square, gaps);
     }
-    let square = afresh(n, counts.rules as usize, xs, ys, cs, days, levels);
-    let before = *gaps;
-    let after = written(n, days, square, before);
-    *gaps = after;
 }
 
-// Whether the gap table is right, beside tables that are known to be sound: it is compared with one made afresh. Where there are more steps than one yard has, any is.
-pub fn is_right(
-    counts: Counts,
-    xs: &[u16],
-    ys: &[u16],
-    cs: &[i32],
-    days: &[u32],
-    levels: &[u8],
-    gaps: &Gaps,
-) -> bool
-    requires { Border (unwatched counts xs.now ys.now cs.now days.now levels.now) }
-    ensures { Decides result (Right (unwatched counts xs.now ys.now cs.now days.now levels.now) gaps.now) }
+// Whether the gap table is right, beside tables that are known to be sound: one that is made afresh has the same cells. Where there are more steps than one yard has, any is, and no cell is read.
+pub fn is_right(counts: Counts, rules: Rules<'_>, days: &[u32], levels: &[u8], gaps: &Gaps) -> bool
+    requires { Border (unwatched counts rules.xs.now rules.ys.now rules.cs.now days.now levels.now) }
+    ensures { Decides result (Right (unwatched counts rules.entry.xs.now rules.entry.ys.now rules.entry.cs.now days.now levels.now) gaps.now) }
 {
-    let n = counts.steps as usize;
-    if meaning::YARD_STEPS < n {
+    if meaning::YARD_STEPS < counts.steps as usize {
         return true;
     }
-    let square = afresh(n, counts.rules as usize, xs, ys, cs, days, levels);
-    agrees(n, days, square, gaps)
+    let mut made = *gaps;
+    remake(counts, rules, days, levels, &mut made);
+    made == *gaps
 }
 
 // The smaller of the cell a and the way p + c + q, which is none where p or q has no limit.
@@ -308,52 +220,23 @@ fn smaller(a: i64, p: i64, c: i64, q: i64) -> i64
     requires near_2 { Near q }
     ensures { SmallerOf a p c q result }
 {
-    if p == meaning::NO_LIMIT {
+    if p == meaning::NO_LIMIT || q == meaning::NO_LIMIT {
         return a;
     }
-    if q == meaning::NO_LIMIT {
-        return a;
-    }
-    let way = p + c + q;
-    if way < a {
-        return way;
-    }
-    a
+    i64::min(a, p + c + q)
 }
 
-// The row with the ways that begin with p, go over a rule of the amount c and on by the row `via`: the first n cells. All others are as before.
-fn raise_row(n: usize, p: i64, c: i64, via: Limits, before: Limits) -> Limits
+// Puts the ways that begin with p, go over a rule of the amount c and on by the row `via` into the first n cells of a row.
+fn raise_row(n: usize, p: i64, c: i64, via: &Limits, row: &mut Limits)
     requires n_bound { n ≤ YARD_STEPS }
     requires near { Near p }
     requires in_amount { InAmount c }
-    requires by_index { (j : ℕ) → j < n → Near (get_or via j (pos 0)) }
-    ensures { Made (pos 0) (λ j z. SmallerOf (get_or before j (pos 0)) p c (get_or via j (pos 0)) z) n before result }
+    requires by_index { (j : ℕ) → j < n → Near (get_or via.now j (pos 0)) }
+    ensures { Made (pos 0) (λ j z. SmallerOf (get_or row.old j (pos 0)) p c (get_or via.now j (pos 0)) z) n row.old row.new }
 {
-    let mut new = before;
-    for j in 0..n {
-        let z = smaller(before[j], p, c, via[j]);
-        new[j] = z;
+    for (j, cell) in row[..n].iter_mut().enumerate() {
+        *cell = smaller(*cell, p, c, via[j]);
     }
-    new
-}
-
-// The gap table of n steps with the ways over the rule x, y, c. A row that has no limit to x has no such way.
-fn raised(n: usize, x: usize, y: usize, c: i64, before: Gaps) -> Gaps
-    requires n_bound { n ≤ YARD_STEPS }
-    requires x_lt_n { x < n }
-    requires y_lt_n { y < n }
-    requires in_amount { InAmount c }
-    requires by_index { (i j : ℕ) → i < n → j < n → Near (cell before i j) }
-    ensures { TableMade (λ i j z. SmallerOf (cell before i j) (cell before i x) c (cell before y j) z) n before result }
-{
-    let via = before[y];
-    let mut new = before;
-    for i in 0..n {
-        let row = new[i];
-        let next = raise_row(n, row[x], c, via, row);
-        new[i] = next;
-    }
-    new
 }
 
 // Brings the gap table of n steps up to date for the rule x, y, c that was added. Where there are more steps than one yard has, nothing is written.
@@ -367,9 +250,10 @@ pub fn raise(n: usize, x: usize, y: usize, c: i32, gaps: &mut Gaps)
     if meaning::YARD_STEPS < n {
         return;
     }
-    let before = *gaps;
-    let after = raised(n, x, y, c as i64, before);
-    *gaps = after;
+    let via = gaps[y];
+    for row in gaps[..n].iter_mut() {
+        raise_row(n, row[x], i64::from(c), &via, row);
+    }
 }
 
 // The cell of the pair x, y.

@@ -4,23 +4,10 @@ use lib.ListN.{length}
 use Rattle.meaning.specs.Bounds.{RULES}
 use Rattle.meaning.specs.Tables.{at}
 use Rattle.chains.specs.Chains.{OFF}
-use Rattle.chains.proofs.Turning.{Turned, turned_none, turned_past, turned_more, turned_all}
+use Rattle.chains.proofs.Turning.{Turned, turned_past, turned_more, turned_all}
 use native.Mathlib.Omega.{arith}
 use Rattle.chains.proofs.turn.Goals as goal
 use Rattle.chains.proofs.turn.Goals.{else-nexts-k-lt-OFF, then-nexts-k-lt-OFF}
-
-pub loop-k-init : goal.loop-k-init
-loop-k-init c = (refl, refl, omega arith, turned_none c.args.n c.args.ys.now c.args.nexts.now c.clear.new.heads c.clear.ensures)
-
-pub push-requires : goal.push-requires
-push-requires c =
-    let step_in : at c.loop-k.nexts c.loop-k.k < OFF → at c.args.ys.now c.loop-k.k < c.args.n = λ on. c.requires.steps_in c.loop-k.k (c.loop-k.invariant.3.only c.loop-k.k (c.loop-k-test.true, on)) in
-    record {
-      first_place = omega (arith, c.loop-k-test.true, c.requires.steps_room);
-      next_place = omega (arith, c.loop-k-test.true, c.loop-k.invariant.1, c.requires.nexts_room);
-      head_place = omega (arith, step_in c.if-nexts-k-lt-OFF.true, c.loop-k.invariant.0, c.clear.auto.heads, c.requires.heads_room);
-      link_fits = omega (arith, c.loop-k-test.true);
-    }
 
 pub loop-k-preserved : goal.loop-k-preserved
 loop-k-preserved c =
@@ -45,12 +32,6 @@ loop-k-preserved c =
     let inv = c.loop-k.invariant in
     let turn = turned in
     (turn.0 ∙ inv.0, turn.1 ∙ inv.1, omega (arith, looped.true), turn.2)
-
-pub shape_of-heads : goal.shape_of-heads
-shape_of-heads c = c.loop-k.invariant.0 ∙ c.clear.auto.heads
-
-pub shape_of-nexts : goal.shape_of-nexts
-shape_of-nexts c = c.loop-k.invariant.1
 
 pub returns : goal.returns
 returns c = let args = c.args in

@@ -1,45 +1,46 @@
--- `desk::back`: the first test decides the refusals that all calls share; the rest is `back` on sound tables, with the chains that the test left.
-use Prim.Native.Nat.{ℕ}
+-- `desk::back`: what a Back that is refused leaves, and that one carried out leaves sound tables, from which the gap table can be made.
 use mathlib.Core.Path.{refl}
-use lib.ListN.{length-replicate}
-use Rattle.meaning.specs.Bounds.{STEPS, RULES}
+use Rattle.std.proofs.lemmas.Result.{err_from_is_err_and}
 use Rattle.desk.proofs.Entering.{entered, right_entered, refused_alone}
 use Rattle.meaning.specs.Tables.{Tables}
 use Rattle.meaning.specs.Calls.{back_meaning}
 use Rattle.meaning.specs.Runs.{Call}
+use Rattle.meaning.proofs.Needs.{not_done}
 use Rattle.lent.specs.Lent.{tables}
 use Rattle.lent.proofs.Watching.{idle_border}
 use Rattle.gaps.proofs.Lifting.{lift_remaking}
 use Rattle.desk.proofs.Gapping.{still_border, remade_watching}
-use native.Mathlib.Omega.{arith}
 use Rattle.desk.proofs.back.Goals as goal
 
-pub verdict-number-requires : goal.verdict-number-requires
-verdict-number-requires c = record {
-  in_bounds = omega (arith, length-replicate {A = ℕ} STEPS 0);
-  in_bounds_2 = omega (arith, length-replicate {A = ℕ} RULES 0);
-}
+pub returns-in_err-left : goal.returns-in_err-left
+returns-in_err-left c =
+    let lent_at : Tables = tables c.args.counts c.args.rules.xs.now c.args.rules.ys.now c.args.rules.cs.now c.args.days.now c.args.levels.now
+    c.args.watched.xs.now c.args.watched.ys.now c.args.watched.cs.now in
+    let p = err_from_is_err_and c.from_residual-in_err-left.result c.from_residual-in_err-left.ensures.1 in
+    rw (p.1, p.2)
+    (lift_remaking (back_meaning lent_at) lent_at c.args.gaps.now (right_entered (rw (c.of-tables.ensures c.args.counts) at c.in_ok-verdict.ensures)) lent_at _ _ (λ t. t) _ c.in_err-left.ensures
+    (λ done. absurd (not_done _ done)) (λ no. refl))
 
-pub returns-then-number-gt0 : goal.returns-then-number-gt0
-returns-then-number-gt0 c = rw c.refused.ensures (refused_alone _ _ _ _ _ _ c.verdict-number.ensures _ _ (omega (arith, c.if-number-gt0.true)) refl (λ f. f))
+pub remake-requires : goal.remake-requires
+remake-requires c =
+    let lent_at : Tables = tables c.args.counts c.args.rules.xs.now c.args.rules.ys.now c.args.rules.cs.now c.args.days.now c.args.levels.now
+    c.args.watched.xs.now c.args.watched.ys.now c.args.watched.cs.now in
+    idle_border (still_border Call.goes_back lent_at _ _ c.in_ok-left.ensures (entered (rw (c.of-tables.ensures c.args.counts) at c.in_ok-verdict.ensures)))
 
-pub back-reply-requires : goal.back-reply-requires
-back-reply-requires c = let verdict = c.verdict-number in record {
-  border = entered _ _ _ _ _ _ verdict.ensures (omega (arith, c.if-number-gt0.false));
-  lent_chains = verdict.ensures.chained (omega (arith, c.if-number-gt0.false));
-}
+pub returns-in_err-verdict : goal.returns-in_err-verdict
+returns-in_err-verdict c =
+    let p = err_from_is_err_and c.from_residual.result c.from_residual.ensures.1 in
+    rw (p.1, p.2) (refused_alone _ (rw (c.of-tables.ensures c.args.counts) at c.in_err-verdict.ensures) _ _ refl (λ f. f))
 
-pub gaps_afresh-requires : goal.gaps_afresh-requires
-gaps_afresh-requires c done =
-    let lent_at : Tables = tables c.args.counts c.args.xs.now c.args.ys.now c.args.cs.now c.args.days.now c.args.levels.now
-    c.args.wxs.now c.args.wys.now c.args.wcs.now in
-    let at-verdict = c.verdict-number in
-    idle_border (still_border Call.goes_back (lent_at) _ _ c.back-reply.ensures (entered _ _ _ _ _ _ at-verdict.ensures (omega (arith, c.if-number-gt0.false))))
+pub back-requires-clause-border : goal.back-requires-clause-border
+back-requires-clause-border c = entered (rw (c.of-tables.ensures c.args.counts) at c.in_ok-verdict.ensures)
+
+pub back-requires-clause-lent_chains : goal.back-requires-clause-lent_chains
+back-requires-clause-lent_chains c = (rw (c.of-tables.ensures c.args.counts) at c.in_ok-verdict.ensures).chained refl
 
 pub returns : goal.returns
 returns c =
-    let lent_at : Tables = tables c.args.counts c.args.xs.now c.args.ys.now c.args.cs.now c.args.days.now c.args.levels.now
-    c.args.wxs.now c.args.wys.now c.args.wcs.now in
-    let gaps-afresh = c.gaps_afresh in
-    lift_remaking (back_meaning (lent_at)) (lent_at) c.args.gaps.now (right_entered _ _ _ _ _ _ c.verdict-number.ensures (omega (arith, c.if-number-gt0.false))) (lent_at) _ _ (λ t. t) _ c.back-reply.ensures
-    (λ done. remade_watching _ _ _ _ _ _ c.args.wxs.now c.args.wys.now c.args.wcs.now _ _ (gaps-afresh.ensures.when_done done)) gaps-afresh.ensures.else_stays
+    let a = c.args in
+    let lent_at : Tables = tables a.counts a.rules.xs.now a.rules.ys.now a.rules.cs.now a.days.now a.levels.now a.watched.xs.now a.watched.ys.now a.watched.cs.now in
+    lift_remaking (back_meaning lent_at) lent_at a.gaps.now (right_entered (rw (c.of-tables.ensures c.args.counts) at c.in_ok-verdict.ensures)) lent_at _ _ (λ t. t) _ c.in_ok-left.ensures
+    (λ done. remade_watching _ _ _ _ _ _ _ _ _ _ _ c.remake.ensures) (λ no. absurd (no refl))

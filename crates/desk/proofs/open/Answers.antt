@@ -30,25 +30,25 @@ opened_record n t levels days zeros past free past_levels = record {
 }
 
 pub returns-then-not-has_room : goal.returns-then-not-has_room
-returns-then-not-has_room c = rw c.refused.ensures (obeys_refused _ _ SHORT (λ e. omega arith) (λ e. omega arith) (inl (refl, (c.has_room.ensures c.args.counts).not_so c.if-not-has_room.true)))
+returns-then-not-has_room c = (obeys_refused _ _ SHORT (λ e. omega arith) (λ e. omega arith) (inl (refl, (rw (c.of-tables.ensures c.args.counts) at (c.has_room.ensures c.args.counts)).not_so c.if-not-has_room.true)))
 
 pub returns-then-steps-lt1 : goal.returns-then-steps-lt1
-returns-then-steps-lt1 c = rw c.refused-then-steps-lt1.ensures (obeys_refused _ _ STEP (λ e. omega arith) (λ e. omega arith) (inr ((c.has_room.ensures c.args.counts).so c.if-not-has_room.false, inl (refl, λ h. omega (arith, h.0)))))
+returns-then-steps-lt1 c = (obeys_refused _ _ STEP (λ e. omega arith) (λ e. omega arith) (inr ((rw (c.of-tables.ensures c.args.counts) at (c.has_room.ensures c.args.counts)).so c.if-not-has_room.false, inl (refl, λ h. omega (arith, h.0)))))
 
 pub returns-then-steps-gt-STEPS : goal.returns-then-steps-gt-STEPS
-returns-then-steps-gt-STEPS c = rw c.refused-then-steps-gt-STEPS.ensures (obeys_refused _ _ STEP (λ e. omega arith) (λ e. omega arith) (inr ((c.has_room.ensures c.args.counts).so c.if-not-has_room.false, inl (refl, λ h. omega (arith, h.1)))))
+returns-then-steps-gt-STEPS c = (obeys_refused _ _ STEP (λ e. omega arith) (λ e. omega arith) (inr ((rw (c.of-tables.ensures c.args.counts) at (c.has_room.ensures c.args.counts)).so c.if-not-has_room.false, inl (refl, λ h. omega (arith, h.1)))))
 
 pub clear_days-requires : goal.clear_days-requires
-clear_days-requires c = omega (arith, ((c.has_room.ensures c.args.counts).so c.if-not-has_room.false).days_room, c.if-steps-gt-STEPS.false)
+clear_days-requires c = omega (arith, ((rw (c.of-tables.ensures c.args.counts) at (c.has_room.ensures c.args.counts)).so c.if-not-has_room.false).days_room, c.if-steps-gt-STEPS.false)
 
 pub free_all-requires : goal.free_all-requires
-free_all-requires c = ((c.has_room.ensures c.args.counts).so c.if-not-has_room.false).levels_room
+free_all-requires c = ((rw (c.of-tables.ensures c.args.counts) at (c.has_room.ensures c.args.counts)).so c.if-not-has_room.false).levels_room
 
 pub remake-requires : goal.remake-requires
 remake-requires c =
-    let lent_at : Tables = tables c.args.counts c.args.xs.now c.args.ys.now c.args.cs.now c.args.days.now c.args.levels.now
-    c.args.wxs.now c.args.wys.now c.args.wcs.now in
-    let room = (c.has_room.ensures c.args.counts).so c.if-not-has_room.false in
+    let lent_at : Tables = tables c.args.counts c.args.rules.xs.now c.args.rules.ys.now c.args.rules.cs.now c.args.days.now c.args.levels.now
+    c.args.watched.xs.now c.args.watched.ys.now c.args.watched.cs.now in
+    let room = (rw (c.of-tables.ensures c.args.counts) at (c.has_room.ensures c.args.counts)).so c.if-not-has_room.false in
     let clear-days = c.clear_days in
     let free_all = c.free_all in
     let opened = opened_record c.args.steps (lent_at) _ _ (λ v h. clear-days.ensures.day_0 v (omega (arith, h, c.if-steps-gt-STEPS.false))) clear-days.ensures.past free_all.ensures.all_free free_all.ensures.past_levels in
@@ -57,14 +57,14 @@ remake-requires c =
 
 pub returns : goal.returns
 returns c =
-    let lent_at : Tables = tables c.args.counts c.args.xs.now c.args.ys.now c.args.cs.now c.args.days.now c.args.levels.now
-    c.args.wxs.now c.args.wys.now c.args.wcs.now in
-    let room = (c.has_room.ensures c.args.counts).so c.if-not-has_room.false in
+    let lent_at : Tables = tables c.args.counts c.args.rules.xs.now c.args.rules.ys.now c.args.rules.cs.now c.args.days.now c.args.levels.now
+    c.args.watched.xs.now c.args.watched.ys.now c.args.watched.cs.now in
+    let room = (rw (c.of-tables.ensures c.args.counts) at (c.has_room.ensures c.args.counts)).so c.if-not-has_room.false in
     let clear-days = c.clear_days in
     let free_all = c.free_all in
     let opened = opened_record c.args.steps (lent_at) _ _ (λ v h. clear-days.ensures.day_0 v (omega (arith, h, c.if-steps-gt-STEPS.false))) clear-days.ensures.past free_all.ensures.all_free free_all.ensures.past_levels in
     let steps_alone = c.steps_alone-opened in
     let remade = rw steps_alone.ensures at c.remake.ensures in
-    rw (c.done.ensures, steps_alone.ensures)
+    rw steps_alone.ensures
     (obeys_done _ _ 0 0 _ (room, ((omega (arith, c.if-steps-lt1.false), omega (arith, c.if-steps-gt-STEPS.false)), tt))
-    (opened, remade_watching _ _ _ _ _ _ c.args.wxs.now c.args.wys.now c.args.wcs.now _ _ remade))
+    (opened, remade_watching _ _ _ _ _ _ c.args.watched.xs.now c.args.watched.ys.now c.args.watched.cs.now _ _ remade))

@@ -1,16 +1,9 @@
--- `desk::verdict` meets its contract: each number has its ground in the test that gives it.
-use mathlib.Core.Path.{refl, sym, ◌∙◌}
-use mathlib.Core.Bool.{true≢false}
+-- `desk::verdict` meets its contract: each refusal has its ground in the test that gives it.
+use mathlib.Core.Path.{refl}
 use mathlib.Core.Logic.{inl, inr}
 use Rattle.lent.proofs.Watching.{idle_border}
 use native.Mathlib.Omega.{arith}
 use Rattle.desk.proofs.verdict.Goals as goal
-
-pub returns-then-not-lists : goal.returns-then-not-lists
-returns-then-not-lists c = record {
-  first_unmet = inl (refl, λ h. true≢false (sym h.0 ∙ c.if-not-lists.true));
-  chained = λ e. absurd (omega arith);
-}
 
 pub returns-then-not-has_room : goal.returns-then-not-has_room
 returns-then-not-has_room c = record {

@@ -4,4 +4,4 @@ use Rattle.export_record.proofs.Keeping.{start_kept}
 use Rattle.export_record.proofs.start.Goals as goal
 
 pub returns : goal.returns
-returns c = λ out. start_kept _ _ _ _ _ _ _ _ _ _ _ _ _ _ refl c.brought-after.ensures (c.start-reply.ensures out)
+returns c = λ out. start_kept _ _ _ _ _ _ _ _ _ _ _ _ _ _ refl c.brought-after.ensures (rw (← c.number-number.ensures) at (c.start-started.ensures out))

@@ -1,16 +1,12 @@
 -- `inner_add::fit_with`: the plan of the rule raises the days and the rule is written; or the gain has reached x, and nothing is.
 use Rattle.chains.specs.Chains.{number, linked}
 use mathlib.Core.Path.{refl}
-use mathlib.Core.Bool.{true≢false, false≢true}
 use mir.Syntax.{w32}
 use mir.ValLaws.{to_z-of_z}
 use Rattle.inner_add.specs.Planning.{RulePlanned}
-use Rattle.inner_add.proofs.Answers.{placed, raisable, taken}
+use Rattle.inner_add.proofs.Answers.{raisable, taken}
 use native.Mathlib.Omega.{arith}
 use Rattle.inner_add.proofs.fit_with.Goals as goal
-
-pub plan-requires : goal.plan-requires
-plan-requires c = rw (to_z-of_z w32 c.args.c c.ranges.c) (record { base = c.requires.holdable.base; new_in = c.requires.holdable.new_good.steps_in; free = c.requires.holdable.free; free_in = omega (arith, c.requires.holdable.not_full); no_gains = c.requires.no_gains })
 
 pub returns-then-not-plan : goal.returns-then-not-plan
 returns-then-not-plan c = let plan = c.plan in
@@ -20,10 +16,7 @@ returns-then-not-plan c = let plan = c.plan in
     = rw (to_z-of_z w32 args.c c.ranges.c) at plan.ensures in
     let not = if1.true in
     record {
-      tells = record {
-        when_fits = λ e. absurd (false≢true e);
-        when_not = λ e. record { unfit = p.unfit not; rules_stay = refl; days_stay = refl; none_moved = refl };
-      };
+      tells = record { unfit = p.unfit not; rules_stay = refl; days_stay = refl };
       reached = λ e. p.reached not;
       lacks = λ e. p.lacks not;
     }
@@ -37,9 +30,6 @@ raise_days-risen-requires c = let if1 = c.if-not-plan in
     raisable args.n (linked args.nexts.now) number args.m args.xs.now args.ys.now args.cs.now args.days.now args.heads.now args.nexts.now args.x args.y args.c c.requires.holdable
     _ (p.earliest if1.false) args.days.now (omega (arith, plan.auto.gains, c.requires.no_gains.gains_room)) c.requires.holdable.base.ground.days_room
 
-pub write_rule-requires : goal.write_rule-requires
-write_rule-requires c = placed c.args.xs.now c.args.ys.now c.args.cs.now c.args.m c.requires.holdable.base.columns_room c.requires.holdable.not_full
-
 pub returns : goal.returns
 returns c = let write-rule = c.write_rule in
     let raise-days = c.raise_days-risen in
@@ -49,12 +39,9 @@ returns c = let write-rule = c.write_rule in
     let p : RulePlanned args.n (linked args.nexts.now) args.m args.xs.now args.ys.now args.cs.now args.days.now _ _ args.x args.y args.c plan.result
     = rw (to_z-of_z w32 args.c c.ranges.c) at plan.ensures in
     record {
-      tells = record {
-        when_fits = λ e.
-            taken args.n (linked args.nexts.now) number args.m args.xs.now args.ys.now args.cs.now args.days.now args.heads.now args.nexts.now args.x args.y args.c c.requires.holdable
-            _ (p.earliest if1.false) args.last _ _ _ _ raise-days.ensures.raised raise-days.ensures.last_value (rw (to_z-of_z w32 args.c c.ranges.c) at write-rule.ensures);
-        when_not = λ e. absurd (true≢false e);
-      };
-      reached = λ e. absurd (true≢false e);
-      lacks = λ e. absurd (true≢false e);
+      tells =
+          taken args.n (linked args.nexts.now) number args.m args.xs.now args.ys.now args.cs.now args.days.now args.heads.now args.nexts.now args.x args.y args.c c.requires.holdable
+          _ (p.earliest if1.false) args.last _ _ _ _ raise-days.ensures.raised raise-days.ensures.last_value (rw (to_z-of_z w32 args.c c.ranges.c) at write-rule.ensures);
+      reached = λ e. cc;
+      lacks = λ e. cc;
     }

@@ -10,27 +10,14 @@ use Rattle.inner_add.proofs.plan.Goals as goal
 
 pub returns-then-lacks-eq0 : goal.returns-then-lacks-eq0
 returns-then-lacks-eq0 c = let l : Lack c.args.days.now c.args.x c.args.y c.args.c c.lack-lacks.result = rw (to_z-of_z w32 c.args.c c.ranges.c) at c.lack-lacks.ensures in
-    fits_at_once c.args.n (linked c.args.nexts.now) number c.args.m c.args.xs.now c.args.ys.now c.args.cs.now c.args.days.now
+    fits_at_once c.args.n (linked c.args.nexts.now) number c.args.m c.args.rules.xs.now c.args.rules.ys.now c.args.rules.cs.now c.args.days.now
     c.args.heads.now c.args.nexts.now c.args.gains.now c.args.by.now c.args.x c.args.y c.args.c
     c.requires (l.none (omega (arith, c.if-lacks-eq0.true))) c.args.by.now
-
-pub spread_one-requires : goal.spread_one-requires
-spread_one-requires c = let l : Lack c.args.days.now c.args.x c.args.y c.args.c c.lack-lacks.result = rw (to_z-of_z w32 c.args.c c.ranges.c) at c.lack-lacks.ensures in record {
-  ground = c.requires.base.ground;
-  askable_alone = record {
-    step_in = c.requires.new_in.second_in;
-    some = omega (arith, c.if-lacks-eq0.false);
-    small = l.small;
-    none_yet = c.requires.no_gains.none_yet;
-    gains_room = c.requires.no_gains.gains_room;
-    by_room = c.requires.no_gains.by_room;
-  };
-}
 
 pub returns : goal.returns
 returns c = let lack = c.lack-lacks in
     let l : Lack c.args.days.now c.args.x c.args.y c.args.c lack.result = rw (to_z-of_z w32 c.args.c c.ranges.c) at lack.ensures in
-    planned c.args.n (linked c.args.nexts.now) number c.args.m c.args.xs.now c.args.ys.now c.args.cs.now c.args.days.now
+    planned c.args.n (linked c.args.nexts.now) number c.args.m c.args.rules.xs.now c.args.rules.ys.now c.args.rules.cs.now c.args.days.now
     c.args.heads.now c.args.nexts.now c.args.gains.now c.args.by.now c.args.x c.args.y c.args.c
     c.requires lack.result (l.some (omega (arith, c.if-lacks-eq0.false))) _ _ _ (omega (arith, c.spread_one.auto.by, c.requires.no_gains.by_room)) c.spread_one.ensures
     _ (λ e. omega (arith, eqb-true, leb-true, ltb-true)) (λ e. omega (arith, eqb-false, leb-false, ltb-false))

@@ -1,4 +1,4 @@
-use Prim.Native.Nat.{◌+◌, ◌^◌, ◌<◌}
+use Prim.Native.Nat.{◌+◌, ◌<◌}
 use mathlib.Core.Path.{◌≡◌, sym, ◌∙◌}
 use mathlib.Core.Logic.{inl, inr}
 use lib.ListN.{length}
@@ -12,24 +12,6 @@ use Rattle.inner_add.proofs.raise_days.Goals.{else-gain-gt0, else-latest-day, th
 pub loop-v-init : goal.loop-v-init
 loop-v-init c = let days = c.args.days.now in
     (omega arith, omega arith, raised_none days c.args.gains.now days, sym (largest_zeros 0 (at days) (λ v below. absurd (omega arith))))
-
-pub day_at-requires : goal.day_at-requires
-day_at-requires c = omega (arith, c.loop-v.invariant.2.past.same_length, c.requires.days_room)
-
-pub overflow_add-day : goal.overflow_add-day
-overflow_add-day c =
-    let fits : c.day_at.result + at c.args.gains.now c.loop-v.v < 2 ^ 32 = let loop = c.loop-v in
-    omega (arith, c.day_at.ensures, c.requires.fits loop.v (omega arith), loop.invariant.2.past.kept loop.v (omega arith)) in
-    omega (arith, fits)
-
-pub overflow_cast-day : goal.overflow_cast-day
-overflow_cast-day c =
-    let fits : c.day_at.result + at c.args.gains.now c.loop-v.v < 2 ^ 32 = let loop = c.loop-v in
-    omega (arith, c.day_at.ensures, c.requires.fits loop.v (omega arith), loop.invariant.2.past.kept loop.v (omega arith)) in
-    omega (arith, fits)
-
-pub bounds-days-v : goal.bounds-days-v
-bounds-days-v c = omega (arith, c.loop-v.invariant.2.past.same_length, c.requires.days_room)
 
 pub loop-v-preserved : goal.loop-v-preserved
 loop-v-preserved c = let day-at = c.day_at in
@@ -47,9 +29,3 @@ loop-v-preserved c = let day-at = c.day_at in
     largest_set v list (day-at.result + at gains v) inside loop.invariant.3
     (elim c.if-latest-day.branch [ then-latest-day w ↦ inl (omega (arith, w.if-latest-day.true), w.latest-is) | else-latest-day w ↦ inr (omega (arith, w.if-latest-day.false), w.latest-is) ]) in
     elim c.if-gain-gt0.branch [ then-gain-gt0 w ↦ (omega arith, omega (arith, w.count-is), rw (day, w.count-is) (raised_more days gains days list v count place so_far (omega (arith, w.if-gain-gt0.true))), latest) | else-gain-gt0 w ↦ (omega arith, omega (arith, w.count-is), rw (day, w.count-is) (raised_same days gains days list v count place so_far (omega (arith, w.if-gain-gt0.false))), latest) ]
-
-pub returns : goal.returns
-returns c = let end : c.loop-v.v ≡ c.args.n = omega arith in record {
-  raised = rw end at c.loop-v.invariant.2;
-  last_value = rw end at c.loop-v.invariant.3;
-}

@@ -1,7 +1,5 @@
 -- `inner_add::show`: the plan of the rule is written as days; or the gain has reached x, and nothing is.
 use Prim.Native.Nat.{ℕ}
-use mathlib.Core.Path.{refl}
-use mathlib.Core.Bool.{true≢false, false≢true}
 use lib.ListN.{length-replicate}
 use mir.Syntax.{w32}
 use mir.ValLaws.{to_z-of_z}
@@ -17,34 +15,21 @@ plan-requires c = let ready = c.requires.holdable in
     rw (to_z-of_z w32 c.args.c c.ranges.c)
     (record { base = ready.base; new_in = ready.new_good.steps_in; free = ready.free; free_in = omega (arith, ready.not_full); no_gains = no_gains c.args.n _ ready.base.ground.steps_in })
 
-pub returns-then-not-plan : goal.returns-then-not-plan
-returns-then-not-plan c = let args = c.args in
-    let p : RulePlanned args.n (linked args.nexts.now) args.m args.xs.now args.ys.now args.cs.now args.days.now _ _ args.x args.y args.c c.plan.result
+pub write_days-requires : goal.write_days-requires
+write_days-requires c = let args = c.args in
+    let p : RulePlanned args.n (linked args.nexts.now) args.m args.rules.xs.now args.rules.ys.now args.rules.cs.now args.days.now _ _ args.x args.y args.c c.plan.result
     = rw (to_z-of_z w32 args.c c.ranges.c) at c.plan.ensures in
-    record {
-      planned = λ e. absurd (false≢true e);
-      count_moved = λ e. absurd (false≢true e);
-      unfit = λ e. p.unfit c.if-not-plan.true;
-      list_stays = λ e. refl;
-    }
-
-pub write_days-moved-requires : goal.write_days-moved-requires
-write_days-moved-requires c = let args = c.args in
-    let p : RulePlanned args.n (linked args.nexts.now) args.m args.xs.now args.ys.now args.cs.now args.days.now _ _ args.x args.y args.c c.plan.result
-    = rw (to_z-of_z w32 args.c c.ranges.c) at c.plan.ensures in
-    raisable args.n (linked args.nexts.now) number args.m args.xs.now args.ys.now args.cs.now args.days.now args.heads.now args.nexts.now args.x args.y args.c c.requires.holdable
+    raisable args.n (linked args.nexts.now) number args.m args.rules.xs.now args.rules.ys.now args.rules.cs.now args.days.now args.heads.now args.nexts.now args.x args.y args.c c.requires.holdable
     _ (p.earliest c.if-not-plan.false) _
     (omega (arith, c.plan.auto.gains, length-replicate {A = ℕ} STEPS 0, c.requires.holdable.base.ground.steps_in)) (omega (arith, c.requires.in_bounds, c.requires.holdable.base.ground.steps_in))
 
 pub returns : goal.returns
 returns c = let args = c.args in
-    let p : RulePlanned args.n (linked args.nexts.now) args.m args.xs.now args.ys.now args.cs.now args.days.now _ _ args.x args.y args.c c.plan.result
+    let p : RulePlanned args.n (linked args.nexts.now) args.m args.rules.xs.now args.rules.ys.now args.rules.cs.now args.days.now _ _ args.x args.y args.c c.plan.result
     = rw (to_z-of_z w32 args.c c.ranges.c) at c.plan.ensures in
     record {
-      planned = λ e.
-          planned_list args.n (linked args.nexts.now) number args.m args.xs.now args.ys.now args.cs.now args.days.now args.heads.now args.nexts.now args.x args.y args.c c.requires.holdable
-          _ (p.earliest c.if-not-plan.false) _ _ _ c.write_days-moved.ensures;
-      count_moved = λ e. c.write_days-moved.ensures.count;
-      unfit = λ e. absurd (true≢false e);
-      list_stays = λ e. absurd (true≢false e);
+      planned =
+          planned_list args.n (linked args.nexts.now) number args.m args.rules.xs.now args.rules.ys.now args.rules.cs.now args.days.now args.heads.now args.nexts.now args.x args.y args.c c.requires.holdable
+          _ (p.earliest c.if-not-plan.false) _ _ _ c.write_days.ensures;
+      count_moved = c.write_days.ensures.count;
     }

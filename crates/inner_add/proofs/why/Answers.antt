@@ -9,7 +9,7 @@ use Rattle.inner_add.proofs.why.Goals as goal
 pub reason-k-requires : goal.reason-k-requires
 reason-k-requires c = let args = c.args in
     rw (to_z-of_z w32 args.c c.ranges.c) (record {
-      refuted = refuted args.n args.m args.xs.now args.ys.now args.cs.now args.days.now args.heads.now args.nexts.now args.x args.y args.c c.requires.holdable c.requires.fact c.requires.in_bounds
+      refuted = refuted args.n args.m args.rules.xs.now args.rules.ys.now args.rules.cs.now args.days.now args.heads.now args.nexts.now args.x args.y args.c c.requires.holdable c.requires.fact c.requires.in_bounds
           args.list.now c.requires.in_bounds_2;
       chains_of = c.requires.holdable.base.ground.chained;
     })
@@ -18,9 +18,6 @@ pub overflow_cast-result : goal.overflow_cast-result
 overflow_cast-result c = let args = c.args in
     omega (
       arith,
-      ring_short args.n (linked args.nexts.now) number args.m args.xs.now args.ys.now args.cs.now args.days.now args.heads.now args.nexts.now args.x args.y args.c c.requires.holdable _ _ _
+      ring_short args.n (linked args.nexts.now) number args.m args.rules.xs.now args.rules.ys.now args.rules.cs.now args.days.now args.heads.now args.nexts.now args.x args.y args.c c.requires.holdable _ _ _
           (rw (to_z-of_z w32 args.c c.ranges.c) at c.reason-k.ensures),
     )
-
-pub returns : goal.returns
-returns c = rw (to_z-of_z w32 c.args.c c.ranges.c) at c.reason-k.ensures

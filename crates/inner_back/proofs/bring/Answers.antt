@@ -1,5 +1,5 @@
-use Prim.Native.Nat.{◌+◌, ◌^◌, ◌≤◌, ◌<◌}
-use mathlib.Core.Path.{◌≡◌, sym}
+use Prim.Native.Nat.{◌<◌}
+use mathlib.Core.Path.{sym}
 use mathlib.Core.Logic.{inl, inr}
 use lib.ListN.{length}
 use Rattle.meaning.specs.Tables.{at}
@@ -12,42 +12,6 @@ use Rattle.inner_back.proofs.bring.Goals.{else-latest-day, then-latest-day}
 pub loop-v-init : goal.loop-v-init
 loop-v-init c = (omega arith, brought_none c.args.k c.args.gains.now c.args.days.now, sym (largest_zeros 0 (at c.args.days.now) (λ v below. absurd (omega arith))))
 
-pub overflow_add-day : goal.overflow_add-day
-overflow_add-day c =
-    let day_at_hand : (c.args.k ≤ c.day_at.result + at c.args.gains.now c.loop-v.v)
-    × (c.day_at.result + at c.args.gains.now c.loop-v.v < c.args.k + 2 ^ 32)
-    × (c.args.k < 2 ^ 32) = let loop = c.loop-v in
-    let pre = c.requires in
-    let v = loop.v in
-    let v-in = c.loop-v-test.true in
-    let day_is = loop.invariant.1.past.kept v (omega arith) in
-    omega (arith, c.day_at.ensures, day_is, pre.narrow, pre.not_before v v-in, pre.fits v v-in) in
-    omega (arith, day_at_hand)
-
-pub overflow_sub-day : goal.overflow_sub-day
-overflow_sub-day c =
-    let day_at_hand : (c.args.k ≤ c.day_at.result + at c.args.gains.now c.loop-v.v)
-    × (c.day_at.result + at c.args.gains.now c.loop-v.v < c.args.k + 2 ^ 32)
-    × (c.args.k < 2 ^ 32) = let loop = c.loop-v in
-    let pre = c.requires in
-    let v = loop.v in
-    let v-in = c.loop-v-test.true in
-    let day_is = loop.invariant.1.past.kept v (omega arith) in
-    omega (arith, c.day_at.ensures, day_is, pre.narrow, pre.not_before v v-in, pre.fits v v-in) in
-    omega (arith, day_at_hand)
-
-pub overflow_cast-day : goal.overflow_cast-day
-overflow_cast-day c =
-    let day_at_hand : (c.args.k ≤ c.day_at.result + at c.args.gains.now c.loop-v.v)
-    × (c.day_at.result + at c.args.gains.now c.loop-v.v < c.args.k + 2 ^ 32)
-    × (c.args.k < 2 ^ 32) = let loop = c.loop-v in
-    let pre = c.requires in
-    let v = loop.v in
-    let v-in = c.loop-v-test.true in
-    let day_is = loop.invariant.1.past.kept v (omega arith) in
-    omega (arith, c.day_at.ensures, day_is, pre.narrow, pre.not_before v v-in, pre.fits v v-in) in
-    omega (arith, day_at_hand)
-
 pub loop-v-preserved : goal.loop-v-preserved
 loop-v-preserved c = let v-in = c.loop-v-test.true in
     let loop = c.loop-v in
@@ -58,9 +22,3 @@ loop-v-preserved c = let v-in = c.loop-v-test.true in
       largest_set loop.v loop.days _ inside loop.invariant.2
           (elim c.if-latest-day.branch [ then-latest-day w ↦ inl (omega (arith, w.if-latest-day.true), w.latest-is) | else-latest-day w ↦ inr (omega (arith, w.if-latest-day.false), w.latest-is) ]),
     )
-
-pub returns : goal.returns
-returns c = let all : c.loop-v.v ≡ c.args.n = omega (arith, c.loop-v.invariant.0, c.loop-v-test.false) in record {
-  brought = rw all at c.loop-v.invariant.1;
-  value = rw all at c.loop-v.invariant.2;
-}

@@ -1,5 +1,5 @@
 -- `inner_back::plan_with` meets its contract: what each call needs, and the return, are laws of `Replanning`.
-use Rattle.inner_back.proofs.Replanning.{ground, askable, bringable, planned}
+use Rattle.inner_back.proofs.Replanning.{bringable, planned}
 use native.Mathlib.Omega.{arith}
 use Rattle.meaning.specs.Tables.{at}
 use Rattle.meaning.proofs.LastDay.{largest_over}
@@ -11,14 +11,6 @@ ask-requires c = record {
   gains_room = c.requires.plan_room.gains_room;
   not_after = λ v v-in. omega (arith, largest_over c.args.n (at c.args.days.now) v v-in, c.requires.last_value.0);
 }
-
-pub spread-requires : goal.spread-requires
-spread-requires c = let chains = c.requires.lent_chains in
-    let room = c.requires.plan_room in
-    let ask = c.ask in record {
-      ground = ground c.requires.plannable chains.heads_room (λ i on. omega (arith, on.0, chains.nexts_room)) chains.chained;
-      askable = askable c.args.days.now c.requires.last_value.1 (omega (arith, ask.auto.gains, room.gains_room)) room.by_room ask.ensures;
-    }
 
 pub bring-requires : goal.bring-requires
 bring-requires c = bringable c.requires.plannable c.ask.ensures c.spread.ensures c.requires.last_value.1

@@ -9,18 +9,9 @@ use native.Mathlib.Omega.{arith}
 use Rattle.inner_back.proofs.sift_all.Goals as goal
 use Rattle.inner_back.proofs.sift_all.Goals.{then-levels-i-ne0, else-levels-i-ne0}
 
-pub clear-requires : goal.clear-requires
-clear-requires c = c.requires.lent_chains.heads_room
-
 pub loop-seen-init : goal.loop-seen-init
 loop-seen-init c = let args = c.args in
     (sifting_none args.n args.k args.xs.now args.levels.now args.heads.now _ args.nexts.now c.requires.lent_chains c.clear.ensures, refl, refl)
-
-pub bounds-levels-i : goal.bounds-levels-i
-bounds-levels-i c =
-    let inside : c.loop-seen.i < RULES = place_left c.loop-seen.invariant.0 (omega (arith, c.loop-seen-test.true, c.requires.freeable.counted)) in
-    let levels_length : length c.loop-seen.levels ≡ length c.args.levels.now = ap length c.loop-seen.invariant.0.levels_are ∙ freed_length c.loop-seen.i c.args.k c.args.levels.now in
-    omega (arith, inside, c.requires.freeable.levels_room, levels_length)
 
 pub sift-left-requires : goal.sift-left-requires
 sift-left-requires c =
@@ -43,16 +34,6 @@ overflow_add-left c =
     let inside : c.loop-seen.i < RULES = place_left c.loop-seen.invariant.0 (omega (arith, c.loop-seen-test.true, c.requires.freeable.counted)) in
     let s = c.loop-seen.invariant.0 in
     omega (arith, sifted_one c.sift-left.ensures, s.left_are, taken_at_most c.loop-seen.i c.loop-seen.levels, inside)
-
-pub overflow_add-i : goal.overflow_add-i
-overflow_add-i c =
-    let inside : c.loop-seen.i < RULES = place_left c.loop-seen.invariant.0 (omega (arith, c.loop-seen-test.true, c.requires.freeable.counted)) in
-    omega (arith, inside)
-
-pub loop-seen-smaller : goal.loop-seen-smaller
-loop-seen-smaller c =
-    let inside : c.loop-seen.i < RULES = place_left c.loop-seen.invariant.0 (omega (arith, c.loop-seen-test.true, c.requires.freeable.counted)) in
-    omega (arith, inside)
 
 pub loop-seen-preserved : goal.loop-seen-preserved
 loop-seen-preserved c =

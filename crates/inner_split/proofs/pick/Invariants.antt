@@ -1,7 +1,6 @@
--- `inner_split::pick` meets its contract. The loop's invariant: the numbers passed whose verdict is yes are listed.
-use Prim.Native.Nat.{◌≤◌}
+-- The numbers passed whose verdict is yes are listed.
 use Rattle.inner_split.specs.Verdicts.{Picked}
 use Rattle.inner_split.proofs.pick.Given as goal
 
 abbrev pub invariant-loop-j : goal.invariant-loop-j
-invariant-loop-j l = (l.j ≤ l.w) × Picked l.j l.verdicts l.initial.list l.list l.k
+invariant-loop-j l = Picked l.j l.verdicts l.initial.list l.list l.k

@@ -1,30 +1,17 @@
 -- `levels::days_at` meets its contract: where the days are kept the copy is the earliest plan and the row has its last day; else the rules that stay are planned.
-use Rattle.levels.proofs.Popping.{kept_places, plan_kept, last_kept}
-use native.Mathlib.Omega.{arith}
+use mathlib.Core.Path.{sym, subst}
+use Rattle.spread.specs.Ground.{rules}
+use Rattle.chains.specs.Chains.{linked}
+use Rattle.levels.specs.Levels.{RowPlan}
+use Rattle.levels.proofs.Popping.{copied_from, plan_kept, last_kept}
 use Rattle.levels.proofs.days_at.Goals as goal
 
-pub copy_days-requires : goal.copy_days-requires
-copy_days-requires c = record {
-  n_in_bounds = kept_places c.requires.plannable (c.holds.ensures.so c.if-holds.true) c.row_of-row.ensures;
-  n_in_bounds_2 = omega (arith, c.requires.plannable.days_room);
-}
+pub returns-in-Some-clause-planned : goal.returns-in-Some-clause-planned
+returns-in-Some-clause-planned c = let a = c.args in
+    let plan = subst (RowPlan (rules a.xs.now a.ys.now a.cs.now) a.n (linked a.nexts.now)) (sym c.in-Some.ensures.1) (c.requires.kept_for c.in-Some.ensures.0) in
+    rw c.copy_from_slice.ensures.after (plan_kept c.requires.plannable (copied_from c.in-Some.row.now.days c.requires.plannable c.copy_from_slice.ensures.len c.copy_from_slice.ensures.after) plan)
 
-pub bounds-kept-row : goal.bounds-kept-row
-bounds-kept-row c = omega (arith, (c.holds.ensures.so c.if-holds.true).has_row, c.row_of-row.ensures)
-
-pub returns-then-holds : goal.returns-then-holds
-returns-then-holds c = let held = c.holds.ensures.so c.if-holds.true in
-    let is_row = c.row_of-row.ensures in
-    let copied = c.copy_days.ensures in
-    let kept = c.requires.kept_for in record {
-      planned = plan_kept c.requires.plannable held is_row kept copied;
-      value = last_kept c.requires.plannable held is_row kept copied;
-    }
-
-pub replan-requires : goal.replan-requires
-replan-requires c = record {
-  plannable = c.requires.plannable;
-  earliest = c.requires.earliest;
-  lent_chains = c.requires.lent_chains;
-  last_value = c.requires.last_value;
-}
+pub returns-in-Some-clause-value : goal.returns-in-Some-clause-value
+returns-in-Some-clause-value c = let a = c.args in
+    let plan = subst (RowPlan (rules a.xs.now a.ys.now a.cs.now) a.n (linked a.nexts.now)) (sym c.in-Some.ensures.1) (c.requires.kept_for c.in-Some.ensures.0) in
+    rw c.copy_from_slice.ensures.after (last_kept c.requires.plannable (copied_from c.in-Some.row.now.days c.requires.plannable c.copy_from_slice.ensures.len c.copy_from_slice.ensures.after) plan)

@@ -34,15 +34,12 @@ days_at-last-requires c = let free = c.free-left in
       lent_chains = lent_own _ _ _ _ _ chains;
       last_value = c.requires.border.sound.last_largest;
       k_bound = omega (arith, k-in, c.requires.border.sound.counts_in.marks_in);
-      kept_for = kept_left t _ free.ensures.levels_after chains (c.requires.kept_days.kept_earliest _ k-in);
+      kept_for = kept_left t _ c.args.kept.now free.ensures.levels_after chains (c.requires.kept_days.kept_earliest _ k-in);
     }
 
 pub overflow_cast-left : goal.overflow_cast-left
 overflow_cast-left c = let free = c.free-left in
     omega (arith, free.ensures.value, taken_at_most RULES free.new.levels)
-
-pub overflow_cast-k-2 : goal.overflow_cast-k-2
-overflow_cast-k-2 c = omega (arith, c.requires.border.sound.counts_in.marks_in)
 
 pub returns : goal.returns
 returns c = let days-at = c.days_at-last in

@@ -1,7 +1,6 @@
 -- `levels::push` meets its contract. The loop's invariant: the days of the marks passed are kept.
-use Prim.Native.Nat.{◌+◌, ◌≤◌}
 use Rattle.levels.proofs.Pushing.{KeptFrom}
 use Rattle.levels.proofs.push.Given as goal
 
 abbrev pub invariant-loop-k : goal.invariant-loop-k
-invariant-loop-k l = (l.counts.marks ≤ l.k) × (l.k ≤ l.counts.marks + l.n) × KeptFrom l.counts.steps l.counts.last l.counts.marks l.k l.days l.initial.kept l.kept
+invariant-loop-k l = KeptFrom l.counts.steps l.counts.last l.counts.marks l.k l.days l.initial.kept l.kept

@@ -6,4 +6,4 @@ use Rattle.names.proofs.Indexing.{Hashes}
 use Rattle.names.proofs.index.Given as goal
 
 abbrev pub invariant-loop-k : goal.invariant-loop-k
-invariant-loop-k l = (length l.hashes ≡ length l.initial.hashes) × (l.k ≤ l.n) × Hashes l.k l.names l.lens l.hashes
+invariant-loop-k l = (length l.hashes ≡ length l.initial.hashes) × (l.k ≤ l.n) × Hashes l.k l.letters l.lens l.hashes

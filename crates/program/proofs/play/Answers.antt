@@ -8,7 +8,7 @@ use Rattle.meaning.specs.Bounds.{RULES}
 use Rattle.text.specs.Table.{TABLE}
 use Rattle.script_meaning.specs.Record.{Lent}
 use Rattle.script_run.proofs.Fresh.{zeros, long}
-use Rattle.program.specs.Handing.{Ends}
+use Rattle.program.specs.Handing.{Ends, status_told}
 use Rattle.program.proofs.Fresh.{hand_blank, hand_kept}
 use Rattle.program.proofs.play.Goals as goal
 
@@ -30,4 +30,4 @@ pub returns : goal.returns
 returns c = let answer = c.answer in
     let no_notes = c.no_notes-notes in
     let steps_alone = c.steps_alone-counts in
-    (zeros 20480, subst (λ (l : Lent). Ends c.args.s.now 0 l answer.result) (hand_blank (zeros 20480) steps_alone.result no_notes.result steps_alone.ensures no_notes.ensures) answer.ensures)
+    (zeros 20480, subst (λ (l : Lent). Ends c.args.s.now 0 l (status_told answer.result)) (hand_blank (zeros 20480) steps_alone.result no_notes.result steps_alone.ensures no_notes.ensures) answer.ensures)

@@ -24,8 +24,8 @@ index-requires c = let notes_fine = c.notes_fine in record {
   index_room = c.requires.index_room;
 }
 
-pub different-requires : goal.different-requires
-different-requires c = let names_fine = c.names_fine in
+pub invariant_of-declared : goal.invariant_of-declared
+invariant_of-declared c = let names_fine = c.names_fine in
     let notes_fine = c.notes_fine in record {
       shelved = shelved _ _ _ c.requires.names_room (notes_fine.ensures.so c.if-not-notes_fine.false).names_in (names_fine.ensures.so c.if-not-names_fine.false);
       indexed = c.index.ensures;

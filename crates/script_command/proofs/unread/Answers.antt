@@ -1,38 +1,29 @@
 -- `script_command::unread` meets its contract: by why reading stopped, the number is that of the first need not met, and `unsupported` is printed where there is none.
-use mathlib.Core.Path.{◌≡◌, refl, sym, ◌∙◌}
-use mathlib.Core.Logic.{◌⊎◌, inl, inr}
+use mathlib.Core.Path.{refl, ◌∙◌, ap}
 use Rattle.meaning.specs.Bounds.{SYNTAX, SIZE}
-use Rattle.span.specs.Span.{span}
-use Rattle.reading.specs.Reading.{reading}
-use Rattle.reading.specs.Heard.{why_of}
+use Rattle.reading.specs.Heard.{stopped}
 use Rattle.script_command.proofs.Stopping.{no_form, too_large, unsupported_else, unread_refused}
 use native.Mathlib.Omega.{arith}
 use Rattle.script_command.proofs.unread.Goals as goal
-use Rattle.script_command.proofs.unread.Goals.{then-size-eq0-via-then-size-eq0, then-size-eq0-via-else-size-eq0+then-why-eq-WRONG}
 
-pub returns-then-size-eq0 : goal.returns-then-size-eq0
-returns-then-size-eq0 c = let args = c.args in
-    let spans = c.span_of-size.ensures in λ some is.
-    let ways : (span args.s.now ≡ 0) ⊎ (why_of (reading args.s.now) ≡ 2) =
-    elim c.then-size-eq0.branch [ then-size-eq0-via-then-size-eq0 w ↦ inl (sym spans ∙ w.if-size-eq0.true) | then-size-eq0-via-else-size-eq0+then-why-eq-WRONG w ↦ inr (sym is ∙ w.if-why-eq-WRONG.true) ] in
-    unread_refused args.s.now args.to args.counts args.notes args.out.now c.refused.result SYNTAX (λ e. omega (arith, e)) (λ l. no_form args.s.now l ways) c.refused.ensures
+pub returns-in-Wrong : goal.returns-in-Wrong
+returns-in-Wrong c = let args = c.args in λ is.
+    unread_refused args.s.now args.to args.counts args.notes args.out.now c.refused-in-Wrong.result SYNTAX (λ e. omega (arith, e))
+    (λ l. no_form args.s.now l c.in-Wrong.field-0 (omega (arith, c.in-Some.ensures)) (is ∙ ap stopped c.in-Wrong.is)) c.refused-in-Wrong.ensures
 
-pub returns-then-why-eq-SIZE : goal.returns-then-why-eq-SIZE
-returns-then-why-eq-SIZE c = let args = c.args in
-    let spans = c.span_of-size.ensures in λ some is.
-    unread_refused args.s.now args.to args.counts args.notes args.out.now c.refused-then-why-eq-SIZE.result SIZE (λ e. omega (arith, e))
-    (λ l. too_large args.s.now l (λ e. c.if-size-eq0.false (spans ∙ e)) (sym is ∙ c.if-why-eq-SIZE.true)) c.refused-then-why-eq-SIZE.ensures
+pub returns-in-Size : goal.returns-in-Size
+returns-in-Size c = let args = c.args in λ is.
+    unread_refused args.s.now args.to args.counts args.notes args.out.now c.refused-in-Size.result SIZE (λ e. omega (arith, e))
+    (λ l. too_large args.s.now l c.in-Size.field-0 (omega (arith, c.in-Some.ensures)) (is ∙ ap stopped c.in-Size.is)) c.refused-in-Size.ensures
 
-pub returns : goal.returns
-returns c = let if1 = c.if-size-eq0 in
-    let args = c.args in
-    let spans = c.span_of-size.ensures in
-    let wrote = c.print_unsupported.ensures in λ some is.
-    let other = unsupported_else args.s.now (λ e. if1.false (spans ∙ e)) (λ e. some (is ∙ e)) (λ e. c.if-why-eq-WRONG.false (is ∙ e)) (λ e. c.if-why-eq-SIZE.false (is ∙ e)) in
+pub returns-in-Unsupported : goal.returns-in-Unsupported
+returns-in-Unsupported c = let args = c.args in
+    let wrote = c.print_unsupported.ensures in
+    let begins = c.in-Some.ensures in λ is.
     record {
-      first_unmet = other.0;
-      unsupported = λ done. other.1;
-      printed = λ done. (wrote.0, (wrote.1, (spans, refl)));
+      first_unmet = λ l. unsupported_else args.s.now l c.in-Unsupported.field-0 (omega (arith, begins)) (is ∙ ap stopped c.in-Unsupported.is);
+      unsupported = λ done. (c.in-Unsupported.field-0, is ∙ ap stopped c.in-Unsupported.is);
+      printed = λ done. (wrote.0, (wrote.1, (begins.0, refl)));
       nothing = λ refused. absurd (refused refl);
       stays = (refl, refl);
     }

@@ -4,6 +4,7 @@ use mathlib.Core.List.{List}
 use Prim.Native.Nat.{ℕ}
 use Rattle.script_telling.specs.Telling.{Same}
 use native.Mathlib.Omega.{arith}
+use Rattle.text.proofs.Words.{length_bytes}
 use Rattle.script_telling.proofs.declare.Goals as goal
 
 untouched : {names lens hashes heads nexts : List ℕ} → Same names lens hashes heads nexts names lens hashes heads nexts
@@ -15,14 +16,24 @@ untouched = record {
   nexts_same = refl;
 }
 
+pub slice_bounds-declare-count : goal.slice_bounds-declare-count
+slice_bounds-declare-count c = let given = c.requires.by_index _ _ c.in-Declare.is in
+    omega (arith, given.0, given.1.1.0)
+
+pub slice_bounds-declare-start : goal.slice_bounds-declare-start
+slice_bounds-declare-start c = let given = c.requires.by_index _ _ c.in-Declare.is in
+    omega (arith, given.0, given.1.1.0)
+
+pub slice_bounds-declare-end : goal.slice_bounds-declare-end
+slice_bounds-declare-end c = let given = c.requires.by_index _ _ c.in-Declare.is in
+    omega (arith, given.0, given.1.1.0)
+
 pub declare-requires : goal.declare-requires
 declare-requires c = let given = c.requires.by_index _ _ c.in-Declare.is in record {
   n_bound = omega (arith, given.1.1.1);
   shelved = c.requires.shelved;
   index_room = c.requires.index_room;
-  a_le_b = given.0;
-  a_bound = given.1.0;
-  b_in_bounds = given.1.1.0;
+  short = omega (arith, length_bytes c.args.s.now c.in-Declare.a c.in-Declare.b given.0 given.1.1.0, given.1.0);
 }
 
 pub returns-in-Declare : goal.returns-in-Declare

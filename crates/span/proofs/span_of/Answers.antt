@@ -1,67 +1,78 @@
+use mathlib.Core.Path.{◌≡◌, sym, ap}
+use mathlib.Core.Logic.{◌⊎◌, inl, inr}
+use Prim.Native.Nat.{◌≤◌}
 use native.Mathlib.Omega.{arith}
+use Rattle.text.specs.declared.Kind.{Kind}
+use Rattle.text.specs.declared.Kind.TheVariants.{Numeral, Symbol, Other}
+use Rattle.text.specs.Numbered.{code_of, numbered}
 use Rattle.text.proofs.Tokens.{Placed, token_placed}
-use Rattle.span.proofs.Steps.{span_ends, span_bad, span_closed, span_deeper, span_higher, span_other, span_end, span_begun, span_other_kind, span_late}
+use Rattle.span.proofs.Steps.{IsSpan, span_ends, span_bad, span_closed, span_deeper, span_higher, span_other, span_end}
 use Rattle.span.proofs.span_of.Goals as goal
-use Rattle.span.proofs.span_of.Goals.{then-first-ne-OPEN-via-else-first-ne-OPEN+then-first-ne0, then-first-ne-OPEN-via-then-first-ne-OPEN, then-t-eq-END-via-else-t-eq-END+then-t-eq-BAD, then-t-eq-END-via-then-t-eq-END}
 
-pub token-first-requires : goal.token-first-requires
-token-first-requires c = c.requires
+-- A numeral, a symbol or another token.
+between : (k : Kind) → (k ≡ Numeral) ⊎ (k ≡ Symbol) ⊎ (k ≡ Other) → (3 ≤ code_of k) × (code_of k ≤ 5)
+between k (inl e) = (omega (arith, ap code_of e), omega (arith, ap code_of e))
+between k (inr (inl e)) = (omega (arith, ap code_of e), omega (arith, ap code_of e))
+between k (inr (inr e)) = (omega (arith, ap code_of e), omega (arith, ap code_of e))
 
-pub returns-then-first-ne-OPEN : goal.returns-then-first-ne-OPEN
-returns-then-first-ne-OPEN c = elim c.then-first-ne-OPEN.branch [ then-first-ne-OPEN-via-then-first-ne-OPEN w ↦ span_other_kind c.args.s.now c.token-first.result c.token-first.ensures w.if-first-ne-OPEN.true | then-first-ne-OPEN-via-else-first-ne-OPEN+then-first-ne0 w ↦ span_late c.args.s.now c.token-first.result c.token-first.ensures w.if-first-ne-OPEN.false w.if-first-ne0.true ]
+pub returns-in-End : goal.returns-in-End
+returns-in-End c =
+    let t = numbered c.token-t.result in
+    let ends : IsSpan c.args.s.now c.loop-i.d c.loop-i.i 0 = elim c.in-End.is [
+      | inl e ↦ span_ends c.args.s.now c.loop-i.d c.loop-i.i t c.token-t.ensures (ap code_of e)
+      | inr e ↦ span_bad c.args.s.now c.loop-i.d c.loop-i.i t c.token-t.ensures (ap code_of e)
+    ] in
+    sym (c.loop-i.invariant.2 0 ends)
 
-pub loop-i-init : goal.loop-i-init
-loop-i-init c = let token = c.token-first in
-    (omega arith, omega arith, span_begun c.args.s.now token.result token.ensures c.if-first-ne-OPEN.false c.if-first-ne0.false)
+pub loop-i-preserved-in-Open : goal.loop-i-preserved-in-Open
+loop-i-preserved-in-Open c =
+    let t = numbered c.token-t.result in
+    let p : Placed c.args.s.now c.loop-i.i t = token_placed c.args.s.now c.loop-i.i t c.token-t.ensures in
+    let opens : t.kind ≡ 1 = ap code_of c.in-Open.is in (
+      omega (arith, c.loop-i.invariant.0, p.some (λ e. omega (arith, e, opens))),
+      p.within c.loop-i.invariant.1,
+      λ r w. c.loop-i.invariant.2 r (span_deeper c.args.s.now c.loop-i.d c.loop-i.i t c.token-t.ensures r c.loop-i.invariant.1 opens w),
+    )
 
-pub token-t-requires : goal.token-t-requires
-token-t-requires c = c.requires
+pub returns-in-Close : goal.returns-in-Close
+returns-in-Close c =
+    let t = numbered c.token-t.result in
+    let closed : t.kind ≡ 2 = ap code_of c.in-Close.is in (
+      c.loop-i.invariant.2 t.to (span_closed c.args.s.now c.loop-i.d c.loop-i.i t c.token-t.ensures c.loop-i.invariant.1 closed c.if-d-le1.true),
+      omega (arith, (token_placed c.args.s.now c.loop-i.i t c.token-t.ensures).some (λ e. omega (arith, e, closed))),
+    )
 
-pub returns-then-t-eq-END : goal.returns-then-t-eq-END
-returns-then-t-eq-END c = c.loop-i.invariant.2 0 (elim c.then-t-eq-END.branch [ then-t-eq-END-via-then-t-eq-END w ↦ span_ends c.args.s.now c.loop-i.d c.loop-i.i c.token-t.result c.token-t.ensures w.if-t-eq-END.true | then-t-eq-END-via-else-t-eq-END+then-t-eq-BAD w ↦ span_bad c.args.s.now c.loop-i.d c.loop-i.i c.token-t.result c.token-t.ensures w.if-t-eq-BAD.true ])
+pub loop-i-smaller-in-Close-2 : goal.loop-i-smaller-in-Close-2
+loop-i-smaller-in-Close-2 c =
+    let t = numbered c.token-t.result in
+    let closed : t.kind ≡ 2 = ap code_of c.in-Close-2.is in
+    omega (arith, c.loop-i-test.true, (token_placed c.args.s.now c.loop-i.i t c.token-t.ensures).some (λ e. omega (arith, e, closed)))
 
-pub overflow_add-d : goal.overflow_add-d
-overflow_add-d c = let loop = c.loop-i in
-    omega (arith, loop.invariant.0, loop.invariant.1)
-
-pub loop-i-smaller-then-t-eq-OPEN : goal.loop-i-smaller-then-t-eq-OPEN
-loop-i-smaller-then-t-eq-OPEN c = let loop-test = c.loop-i-test in
-    omega (arith, loop-test.true, (token_placed c.args.s.now c.loop-i.i c.token-t.result c.token-t.ensures).some c.if-t-eq-END.false)
-
-pub loop-i-preserved-then-t-eq-OPEN : goal.loop-i-preserved-then-t-eq-OPEN
-loop-i-preserved-then-t-eq-OPEN c = let p : Placed c.args.s.now c.loop-i.i c.token-t.result = token_placed c.args.s.now c.loop-i.i c.token-t.result c.token-t.ensures in (
-  omega (arith, c.loop-i.invariant.0, p.some c.if-t-eq-END.false),
-  p.within c.loop-i.invariant.1,
-  λ r w. c.loop-i.invariant.2 r (span_deeper c.args.s.now c.loop-i.d c.loop-i.i c.token-t.result c.token-t.ensures r c.loop-i.invariant.1 c.if-t-eq-OPEN.true w),
-)
-
-pub returns-then-d-le1 : goal.returns-then-d-le1
-returns-then-d-le1 c = c.loop-i.invariant.2 c.token-t.result.to (span_closed c.args.s.now c.loop-i.d c.loop-i.i c.token-t.result c.token-t.ensures c.loop-i.invariant.1 c.if-t-eq-CLOSE.true (omega (arith, c.if-d-le1.true)))
-
-pub overflow_sub-d : goal.overflow_sub-d
-overflow_sub-d c = omega (arith, c.if-d-le1.false)
-
-pub loop-i-smaller-then-t-eq-CLOSE : goal.loop-i-smaller-then-t-eq-CLOSE
-loop-i-smaller-then-t-eq-CLOSE c = let loop-test = c.loop-i-test in
-    omega (arith, loop-test.true, (token_placed c.args.s.now c.loop-i.i c.token-t.result c.token-t.ensures).some c.if-t-eq-END.false)
-
-pub loop-i-preserved-then-t-eq-CLOSE : goal.loop-i-preserved-then-t-eq-CLOSE
-loop-i-preserved-then-t-eq-CLOSE c = let p : Placed c.args.s.now c.loop-i.i c.token-t.result = token_placed c.args.s.now c.loop-i.i c.token-t.result c.token-t.ensures in (
-  omega (arith, c.loop-i.invariant.0, p.some c.if-t-eq-END.false),
-  p.within c.loop-i.invariant.1,
-  λ r w. c.loop-i.invariant.2 r (span_higher c.args.s.now c.loop-i.d c.loop-i.i c.token-t.result c.token-t.ensures r c.loop-i.invariant.1 c.if-t-eq-CLOSE.true (omega (arith, c.if-d-le1.false)) w),
-)
+pub loop-i-preserved-in-Close-2 : goal.loop-i-preserved-in-Close-2
+loop-i-preserved-in-Close-2 c =
+    let t = numbered c.token-t.result in
+    let p : Placed c.args.s.now c.loop-i.i t = token_placed c.args.s.now c.loop-i.i t c.token-t.ensures in
+    let closed : t.kind ≡ 2 = ap code_of c.in-Close-2.is in (
+      omega (arith, c.loop-i.invariant.0, p.some (λ e. omega (arith, e, closed))),
+      p.within c.loop-i.invariant.1,
+      λ r w. c.loop-i.invariant.2 r (span_higher c.args.s.now c.loop-i.d c.loop-i.i t c.token-t.ensures r c.loop-i.invariant.1 closed c.if-d-le1.false w),
+    )
 
 pub loop-i-smaller : goal.loop-i-smaller
-loop-i-smaller c = let loop-test = c.loop-i-test in
-    omega (arith, loop-test.true, (token_placed c.args.s.now c.loop-i.i c.token-t.result c.token-t.ensures).some c.if-t-eq-END.false)
+loop-i-smaller c =
+    let t = numbered c.token-t.result in
+    omega (arith, c.loop-i-test.true, (token_placed c.args.s.now c.loop-i.i t c.token-t.ensures).some (λ e. omega (arith, e, between c.token-t.result.kind c.in-Numeral.is)))
 
 pub loop-i-preserved : goal.loop-i-preserved
-loop-i-preserved c = let p : Placed c.args.s.now c.loop-i.i c.token-t.result = token_placed c.args.s.now c.loop-i.i c.token-t.result c.token-t.ensures in (
-  omega (arith, c.loop-i.invariant.0, p.some c.if-t-eq-END.false),
-  p.within c.loop-i.invariant.1,
-  λ r w. c.loop-i.invariant.2 r (span_other c.args.s.now c.loop-i.d c.loop-i.i c.token-t.result c.token-t.ensures r c.loop-i.invariant.1 c.if-t-eq-END.false c.if-t-eq-BAD.false c.if-t-eq-OPEN.false c.if-t-eq-CLOSE.false w),
-)
+loop-i-preserved c =
+    let t = numbered c.token-t.result in
+    let p : Placed c.args.s.now c.loop-i.i t = token_placed c.args.s.now c.loop-i.i t c.token-t.ensures in
+    let kind = between c.token-t.result.kind c.in-Numeral.is in (
+      omega (arith, c.loop-i.invariant.0, p.some (λ e. omega (arith, e, kind))),
+      p.within c.loop-i.invariant.1,
+      λ r w. c.loop-i.invariant.2 r
+          (span_other c.args.s.now c.loop-i.d c.loop-i.i t c.token-t.ensures r c.loop-i.invariant.1 (λ e. omega (arith, e, kind)) (λ e. omega (arith, e, kind)) (λ e. omega (arith, e, kind)) (λ e. omega (arith, e, kind)) w),
+    )
 
 pub returns : goal.returns
-returns c = c.loop-i.invariant.2 0 (span_end c.args.s.now c.loop-i.d c.loop-i.i c.loop-i-test.false)
+returns c = sym (c.loop-i.invariant.2 0 (span_end c.args.s.now c.loop-i.d c.loop-i.i c.loop-i-test.false))

@@ -1,129 +1,58 @@
-use Rattle.chains.specs.Chains.{number, linked}
-use Rattle.chains.proofs.Laws.{next_lower}
-use Prim.Native.Nat.{suc, ◌-◌}
-use mathlib.Core.Path.{◌≡◌, refl, ◌∙◌}
+-- `spread::relax_all` meets its contract: each rule of the chain is relaxed in its turn.
+use Rattle.std.proofs.Common.{ℕ, List, ◌≡◌, ◌∙◌, ap, arith, rules}
 use Rattle.meaning.specs.Tables.{at}
-use Rattle.chains.proofs.Walk.{link_head, link_next}
+use Rattle.chains.specs.Chains.{number, linked}
+use Rattle.chains.proofs.Walk.{link_next}
+use Rattle.chains.proofs.Falling.{head_falls}
 use Rattle.spread.specs.Clauses.{StepsRoom}
-use Rattle.spread.proofs.Walking.{relaxable, room_kept, walked_none, walked_more, walked_all}
-use native.Mathlib.Omega.{arith}
+use Rattle.spread.proofs.Walking.{relaxable, walked_more, walked_all}
 use Rattle.spread.proofs.relax_all.Goals as goal
 
-pub day_at-requires : goal.day_at-requires
-day_at-requires c = omega (arith, c.requires.ground.days_room, c.requires.x_lt_n)
-
-pub gain_at-requires : goal.gain_at-requires
-gain_at-requires c = omega (arith, c.requires.steps_room.room.gains_room, c.requires.x_lt_n)
-
-pub overflow_add-reach : goal.overflow_add-reach
-overflow_add-reach c = let shared-slice-known3 = c.shared_slice_known-3-1 in
-    omega (
-      arith,
-      c.day_at.ensures,
-      c.gain_at.ensures,
-      shared-slice-known3.given c.args.x,
-      c.requires.ready.small c.args.x c.requires.x_lt_n,
-    )
-
-pub overflow_add-reach-2 : goal.overflow_add-reach-2
-overflow_add-reach-2 c = let shared-slice-known3 = c.shared_slice_known-3-1 in
-    omega (
-      arith,
-      c.day_at.ensures,
-      c.gain_at.ensures,
-      shared-slice-known3.given c.args.x,
-      c.requires.ready.small c.args.x c.requires.x_lt_n,
-    )
-
-pub number_at-link-requires : goal.number_at-link-requires
-number_at-link-requires c = omega (arith, c.requires.ground.heads_room, c.requires.x_lt_n)
-
-pub loop-link-init : goal.loop-link-init
-loop-link-init c = let a = c.args in
+pub new-i-items-requires : goal.new-i-items-requires
+new-i-items-requires g c = let a = c.args in
     let ground = c.requires.ground in
-    let head = c.number_at-link.ensures in (
-      (refl, refl, refl, refl, refl),
-      rw head (link_head a.n (linked a.nexts.now) number a.xs.now a.heads.now a.nexts.now ground.chained a.x c.requires.x_lt_n),
-      rw head
-          (walked_none a.n (linked a.nexts.now) number a.xs.now a.ys.now a.cs.now a.days.now a.heads.now a.nexts.now a.x _ a.gains.now a.by.now a.list.now a.k ground c.requires.x_lt_n
-          (omega (arith, c.day_at.ensures, c.gain_at.ensures))
-          c.requires.ready),
-      c.requires.led,
-    )
+    rw c.number_at.ensures (head_falls a.n (linked a.held.nexts.now) a.held.rules.xs.now a.held.heads.now a.held.nexts.now ground.chained ground.next_place a.x c.requires.x_lt_n)
 
-pub relax-count-requires : goal.relax-count-requires
-relax-count-requires c =
-    let room : StepsRoom c.args.n c.loop-link.gains c.loop-link.by c.loop-link.list c.loop-link.places c.loop-link.leaders = let l = c.loop-link in
-    let a = c.args in
-    room_kept a.n a.gains.now a.by.now a.list.now a.places.now a.leaders.now l.gains l.by l.list l.places l.leaders
-    l.invariant.0.0 l.invariant.0.1 l.invariant.0.2 l.invariant.0.3 l.invariant.0.4 c.requires.steps_room in
-    let l = c.loop-link in
-    let a = c.args in record {
-      relaxable = relaxable a.n (linked a.nexts.now) number a.xs.now a.ys.now a.cs.now a.days.now a.heads.now a.nexts.now l.gains l.by l.list l.places l.leaders l.count (l.link - 1)
-          c.requires.ground
-          (l.invariant.1.held (l.link - 1) (omega (arith, c.loop-link-test.true)))
-          (room)
-          l.invariant.2.ready;
-      room = (room).room;
-      led = l.invariant.3;
-    }
-
-pub number_at-link-requires-in-loop-link : goal.number_at-link-requires-in-loop-link
-number_at-link-requires-in-loop-link c = let l = c.loop-link in
-    c.requires.ground.next_place (l.link - 1) (l.invariant.1.held (l.link - 1) (omega (arith, c.loop-link-test.true)))
-
-pub loop-link-smaller : goal.loop-link-smaller
-loop-link-smaller c = let loop = c.loop-link in
-    omega (
-      arith,
-      c.loop-link-test.true,
-      c.number_at-link-in-loop-link.ensures,
-      next_lower c.args.n (linked c.args.nexts.now) c.args.xs.now c.args.heads.now c.args.nexts.now c.requires.ground.chained (loop.link - 1)
-          (loop.invariant.1.held (loop.link - 1) (omega (arith, c.loop-link-test.true))),
-    )
-
-pub loop-link-preserved : goal.loop-link-preserved
-loop-link-preserved c = let l = c.loop-link in
-    let a = c.args in
-    let ground = c.requires.ground in
-    let i = l.link - 1 in
-    let counted : l.link ≡ suc i = omega (arith, c.loop-link-test.true) in
-    let held : linked a.nexts.now i = l.invariant.1.held i counted in
-    let own : at a.xs.now i ≡ a.x = l.invariant.1.own i counted in (
+pub relax-requires : goal.relax-requires
+relax-requires g c = let a = c.args in
+    let l = c.loop-i in
+    let inv = l.invariant in
+    let room : StepsRoom a.n g.row.N l.gains l.by = record {
+      steps_in = c.requires.underway.steps_room.steps_in;
+      gains_room = omega (arith, c.requires.underway.steps_room.gains_room, l.auto.gains);
+      by_room = omega (arith, c.requires.underway.steps_room.by_room, l.auto.by);
+    } in (
+      search rules,
       (
-        c.relax-count.auto.gains ∙ l.invariant.0.0,
-        c.relax-count.auto.by ∙ l.invariant.0.1,
-        c.relax-count.auto.list ∙ l.invariant.0.2,
-        c.relax-count.auto.places ∙ l.invariant.0.3,
-        c.relax-count.auto.leaders ∙ l.invariant.0.4,
+        relaxable a.n (linked a.held.nexts.now) number a.held.rules.xs.now a.held.rules.ys.now a.held.rules.cs.now a.held.days.now a.held.heads.now a.held.nexts.now l.gains l.by l.waiting.list l.waiting.count c.in-Some.i g.row.N
+            c.requires.ground (inv.3.held c.in-Some.i c.in-Some.ensures.steps.1.0) room inv.4.ready,
+        (room.steps_in, inv.5),
       ),
-      rw c.number_at-link-in-loop-link.ensures (link_next a.n (linked a.nexts.now) number a.xs.now a.heads.now a.nexts.now ground.chained a.x i held own),
-      rw c.number_at-link-in-loop-link.ensures
-          (walked_more a.n (linked a.nexts.now) number a.xs.now a.ys.now a.cs.now a.days.now a.heads.now a.nexts.now ground i held _
-          a.gains.now a.by.now a.list.now a.k l.gains l.by l.list l.count _ _ _ _ a.x own c.relax-count.ensures.relaxed
-          (rw counted at l.invariant.2)),
-      c.relax-count.ensures.led_2,
     )
 
-pub shape_of-gains : goal.shape_of-gains
-shape_of-gains c = c.loop-link.invariant.0.0
+pub loop-i-preserved : goal.loop-i-preserved
+loop-i-preserved g c = let l = c.loop-i in
+    let a = c.args in
+    let inv = l.invariant in
+    let ground = c.requires.ground in
+    let i = c.in-Some.i in
+    let steps = c.in-Some.ensures.steps in
+    let held : linked a.held.nexts.now i = inv.3.held i steps.1.0 in
+    let own : at a.held.rules.xs.now i ≡ a.x = inv.3.own i steps.1.0 in
+    let next : c.next.new.self.link ≡ at a.held.nexts.now i = steps.1.1 ∙ ap (λ (nexts : List ℕ). at nexts i) inv.2 in (
+      tt,
+      tt,
+      rw steps.0 inv.2,
+      rw next (link_next a.n (linked a.held.nexts.now) number a.held.rules.xs.now a.held.heads.now a.held.nexts.now ground.chained a.x i held own),
+      rw next
+          (walked_more a.n (linked a.held.nexts.now) number a.held.rules.xs.now a.held.rules.ys.now a.held.rules.cs.now a.held.days.now a.held.heads.now a.held.nexts.now ground i held _
+          a.gains.now a.by.now a.waiting.now.list a.waiting.now.count l.gains l.by l.waiting.list l.waiting.count _ _ _ _ a.x own c.relax.ensures.relaxed
+          (rw steps.1.0 at inv.4)),
+      c.relax.ensures.led_2,
+    )
 
-pub shape_of-by : goal.shape_of-by
-shape_of-by c = c.loop-link.invariant.0.1
-
-pub shape_of-list : goal.shape_of-list
-shape_of-list c = c.loop-link.invariant.0.2
-
-pub shape_of-places : goal.shape_of-places
-shape_of-places c = c.loop-link.invariant.0.3
-
-pub shape_of-leaders : goal.shape_of-leaders
-shape_of-leaders c = c.loop-link.invariant.0.4
-
-pub returns : goal.returns
-returns c = let a = c.args in
-    let done : c.loop-link.link ≡ 0 = omega (arith, c.loop-link-test.false) in
-    let l = c.loop-link in record {
-      relaxed_all = walked_all a.n (linked a.nexts.now) number a.xs.now a.ys.now a.cs.now a.days.now a.x _ a.gains.now a.by.now a.list.now a.k l.gains l.by l.list l.count (rw done at l.invariant.2);
-      led_2 = l.invariant.3;
-    }
+pub returns-clause-relaxed_all : goal.returns-clause-relaxed_all
+returns-clause-relaxed_all g c = let a = c.args in
+    let l = c.loop-i in
+    walked_all a.n (linked a.held.nexts.now) number a.held.rules.xs.now a.held.rules.ys.now a.held.rules.cs.now a.held.days.now a.x _ a.gains.now a.by.now a.waiting.now.list a.waiting.now.count
+    l.gains l.by l.waiting.list l.waiting.count (rw c.in-None.ensures.steps.1.0 at l.invariant.4)

@@ -8,7 +8,7 @@ use Rattle.spread.proofs.Ringing.{Written}
 use Rattle.spread.proofs.ring.Given as goal
 
 abbrev pub invariant-loop-v : goal.invariant-loop-v
-invariant-loop-v l = (length l.list ≡ length l.initial.list) × (l.k ≤ l.n) × Written l.n (linked l.nexts) l.m l.xs l.ys l.cs l.days l.gains l.by l.x l.y l.initial.list l.k l.v l.j l.list
+invariant-loop-v l = (length l.list ≡ length l.initial.list) × (l.k ≤ l.n) × Written l.n (linked l.held.nexts.now) l.m l.held.rules.xs.now l.held.rules.ys.now l.held.rules.cs.now l.held.days.now l.gains l.by l.x l.y l.initial.list l.k l.v l.j l.list
 
 abbrev pub decreases-loop-v : goal.decreases-loop-v
 decreases-loop-v l = l.j

@@ -6,9 +6,9 @@ use Rattle.text.specs.Lexicon.{grown}
 use Rattle.text.proofs.Reading.{grown_is, grown_small, of_letter, symbol_stays}
 use Rattle.text.proofs.grow.Goals as goal
 
-pub returns-then-p-eq10 : goal.returns-then-p-eq10
-returns-then-p-eq10 c = let is = symbol_stays c.args.k c.requires.k_bound (of_letter 5 c.args.k (omega arith) c.if-k-gt11.true) in
-    (subst (λ (p : ℕ). 10 ≡ grown p c.args.k) (sym c.if-p-eq10.true) (sym is), omega arith)
+pub returns-then-p-eq-A_SYMBOL : goal.returns-then-p-eq-A_SYMBOL
+returns-then-p-eq-A_SYMBOL c = let is = symbol_stays c.args.k c.requires.k_bound (of_letter 5 c.args.k (omega arith) c.if-k-gt-COLON.true) in
+    (subst (λ (p : ℕ). 10 ≡ grown p c.args.k) (sym c.if-p-eq-A_SYMBOL.true) (sym is), omega arith)
 
 pub returns : goal.returns
 returns c = let p = c.args.p in

@@ -1,10 +1,12 @@
-use mathlib.Core.Path.{refl}
-use lib.ListN.{get_or}
+use mathlib.Core.Path.{◌≡◌, refl, subst}
+use Prim.Native.Nat.{ℕ}
+use lib.ListN.{get_or, length}
+use Rattle.text.specs.Lexicon.{piece_at}
+use Rattle.text.specs.Numbered.{numbered}
 use Rattle.text.proofs.Classes.{class_small}
 use Rattle.text.proofs.Runs.{piece_end, piece_stop, piece_on, piece_more, piece_made}
 use native.Mathlib.Omega.{arith}
 use Rattle.text.proofs.piece.Goals as goal
-use Rattle.text.proofs.piece.Goals.{else-loop-i-test, then-loop-i-test+then-k-le4}
 
 pub grow-p-requires : goal.grow-p-requires
 grow-p-requires c = record {
@@ -37,8 +39,8 @@ loop-i-preserved c = let s = c.args.s.now in
     let p = c.loop-i.p in
     let inside = c.loop-i-test.true in (
       c.grow-p-in-loop-i.ensures.1,
-      piece_more s i p c.class_of-k.result c.grow-p-in-loop-i.result _ inside c.class_of-k.ensures c.if-k-le4.false c.grow-p-in-loop-i.ensures.0 c.loop-i.invariant.1,
-      omega (arith, c.loop-i.invariant.2, (piece_on s i p inside (omega (arith, c.class_of-k.ensures, c.if-k-le4.false))).1),
+      piece_more s i p c.class_of-k.result c.grow-p-in-loop-i.result _ inside c.class_of-k.ensures c.if-k-le-QUOTE.false c.grow-p-in-loop-i.ensures.0 c.loop-i.invariant.1,
+      omega (arith, c.loop-i.invariant.2, (piece_on s i p inside (omega (arith, c.class_of-k.ensures, c.if-k-le-QUOTE.false))).1),
     )
 
 pub kind_of-requires : goal.kind_of-requires
@@ -47,9 +49,14 @@ kind_of-requires c = record {
   p_bound = c.loop-i.invariant.0;
 }
 
+pub returns-then-k-le-QUOTE : goal.returns-then-k-le-QUOTE
+returns-then-k-le-QUOTE c =
+    piece_made c.args.s.now c.loop-i.i c.loop-i.p c.args.f _ c.kind_of.ensures c.loop-i.invariant.1 c.loop-i.invariant.2
+    (piece_stop c.args.s.now c.loop-i.i c.loop-i.p c.loop-i-test.true (omega arith))
+
 pub returns : goal.returns
-returns c = let s = c.args.s.now in
-    let i = c.loop-i.i in
-    let p = c.loop-i.p in
-    piece_made s i p c.args.f c.kind_of.result c.kind_of.ensures c.loop-i.invariant.1 c.loop-i.invariant.2
-    (elim c.loop-i-test.branch [ else-loop-i-test w ↦ piece_end s i p w.loop-i-test.false | then-loop-i-test+then-k-le4 w ↦ piece_stop s i p w.loop-i-test.true (omega arith) ])
+returns c =
+    let s = c.args.s.now in
+    let at_end : c.loop-i.i ≡ length s = omega arith in
+    subst (λ (e : ℕ). numbered (record { kind = c.kind_of-2.result; from = c.args.f; to = e }) ≡ piece_at s c.args.f) at_end
+    (piece_made s c.loop-i.i c.loop-i.p c.args.f _ c.kind_of-2.ensures c.loop-i.invariant.1 c.loop-i.invariant.2 (piece_end s c.loop-i.i c.loop-i.p c.loop-i-test.false))

@@ -1,10 +1,6 @@
--- `values::put_values` meets its contract: each turn writes one more of the names in the column, and `Going` says what is left. The measure is how many are left.
-use Prim.Native.Nat.{◌-◌}
+-- `values::put_values` meets its contract: each turn writes one more of the names in the column, and `Going` says what is left.
 use Rattle.values.proofs.Going.{Going}
 use Rattle.values.proofs.put_values.Given as goal
 
 abbrev pub invariant-loop-i : goal.invariant-loop-i
 invariant-loop-i l = Going l.names l.lens l.days l.column l.k l.initial.out l.initial.e l.out l.e l.i
-
-abbrev pub decreases-loop-i : goal.decreases-loop-i
-decreases-loop-i l = l.k - l.i

@@ -1,13 +1,8 @@
--- `waiting::largest` meets its contract. The loop's invariant: `best` is a place of largest gain among those passed, and `top` is that gain.
--- The measure is what is left of the places.
-use Prim.Native.Nat.{◌-◌, ◌≤◌}
-use mathlib.Core.Path.{◌≡◌}
+-- The loop's invariant: `best` is one of the steps passed, `top` is its gain, and none of them has a larger one.
+use Rattle.std.proofs.Common.{◌+◌, ◌≡◌}
 use Rattle.meaning.specs.Tables.{at}
-use Rattle.waiting.specs.Waiting.{LargestIn}
+use Rattle.waiting.specs.Places.{LargestOf}
 use Rattle.waiting.proofs.largest.Given as goal
 
-abbrev pub invariant-loop-j : goal.invariant-loop-j
-invariant-loop-j l = LargestIn (at l.gains) (at l.list) l.from l.j l.best × (l.top ≡ at l.gains (at l.list l.best)) × (l.j ≤ l.to)
-
-abbrev pub decreases-loop-j : goal.decreases-loop-j
-decreases-loop-j l = l.to - l.j
+abbrev pub invariant-loop-step : goal.invariant-loop-step
+invariant-loop-step l = LargestOf (at l.gains) (at l.steps) (l.step-index + 1) l.best × (l.top ≡ at l.gains l.best)

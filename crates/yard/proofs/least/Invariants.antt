@@ -9,10 +9,10 @@ use Rattle.yard.proofs.Passing.{Passing}
 use Rattle.yard.proofs.least.Given as goal
 
 abbrev pub invariant-loop-k : goal.invariant-loop-k
-invariant-loop-k l = (l.k ≤ l.end) × Passing l.k (rule_at (columns l.xs l.ys l.cs)) l.levels l.seen l.square
+invariant-loop-k l = (l.k ≤ l.end) × (l.end ≤ RULES) × Passing l.k (rule_at (columns l.rules.xs.now l.rules.ys.now l.rules.cs.now)) l.levels l.seen l.square
 
 abbrev pub invariant-loop-seen : goal.invariant-loop-seen
-invariant-loop-seen l = (b : ℕ) × (l.i ≡ b * 4) × Passing l.i (rule_at (columns l.xs l.ys l.cs)) l.levels l.seen l.square
+invariant-loop-seen l = (b : ℕ) × (l.i ≡ b * 4) × Passing l.i (rule_at (columns l.rules.xs.now l.rules.ys.now l.rules.cs.now)) l.levels l.seen l.square
 
 abbrev pub decreases-loop-seen : goal.decreases-loop-seen
 decreases-loop-seen l = RULES - l.i

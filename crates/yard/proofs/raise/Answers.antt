@@ -1,27 +1,17 @@
--- `yard::raise` meets its contract: `Results` has both of its ways, and an i32 is an i64.
-use Prim.Native.Nat.{◌≤◌}
-use Rattle.meaning.specs.Bounds.{YARD_STEPS}
-use Rattle.lent.proofs.Amounts.{wide}
-use Rattle.yard.proofs.Machine.{widened_read}
-use Rattle.yard.proofs.Results.{raised_none, raised_all}
+use mathlib.Core.Path.{◌∙◌}
+use lib.ListN.{take}
+use mir.Syntax.{w32, w64}
+use mir.ValLaws.{to_z-of_z}
+use Rattle.yard.proofs.Making.{made_more}
+use Rattle.yard.proofs.Results.{raised_row, raised_all}
 use native.Mathlib.Omega.{arith}
 use Rattle.yard.proofs.raise.Goals as goal
 
-pub returns-then-n-gt-YARD_STEPS : goal.returns-then-n-gt-YARD_STEPS
-returns-then-n-gt-YARD_STEPS c = let args = c.args in
-    raised_none args.n args.x args.y args.c args.gaps.now c.if-n-gt-YARD_STEPS.true
-
-pub overflow_cast-c : goal.overflow_cast-c
-overflow_cast-c c = wide c.args.c c.ranges.c
-
-pub raised-after-requires : goal.raised-after-requires
-raised-after-requires c = let few : c.args.n ≤ YARD_STEPS = omega (arith, c.if-n-gt-YARD_STEPS.false) in record {
-  n_bound = few;
-  x_lt_n = c.requires.x_lt_n;
-  y_lt_n = c.requires.y_lt_n;
-  in_amount = rw (widened_read c.args.c c.ranges.c) c.requires.in_amount;
-  by_index = λ i j h g. c.requires.by_index i j (record { one_yard = few; row_in = h; column_in = g });
-}
+pub loop-row-preserved : goal.loop-row-preserved
+loop-row-preserved c = let loop = c.loop-row in
+    made_more loop.invariant c.loop-row-test.true _
+    (raised_row _ _ loop.row-index _ _ (take c.args.n c.args.gaps.now) (loop.invariant.rest loop.row-index (omega arith))
+    (to_z-of_z w64 _ (record { sfits = c.raise_row-arg-1.given })) (to_z-of_z w64 c.from.result (record { sfits = c.from.type_inv }) ∙ c.from.ensures) c.raise_row.ensures)
 
 pub returns : goal.returns
-returns c = raised_all (omega (arith, c.if-n-gt-YARD_STEPS.false)) (rw (widened_read c.args.c c.ranges.c) at c.raised-after.ensures)
+returns c = raised_all c.if-n-gt-YARD_STEPS.false c.told-gaps c.loop-row-test.false (to_z-of_z w32 c.args.c c.ranges.c) c.loop-row.invariant

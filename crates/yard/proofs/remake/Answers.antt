@@ -1,29 +1,13 @@
--- `yard::remake` meets its contract: `Results` has both of its ways.
-use Rattle.meaning.specs.Tables.{rule_at, at}
+-- `yard::remake` meets its contract: the slacks are those of sound tables, and what is written from them is right.
 use Rattle.lent.specs.Idle.{unwatched}
-use Rattle.lent.specs.Lent.{columns, held_by}
-use Rattle.yard.proofs.Results.{slackable, written_none, written_all, written_remade}
-use native.Mathlib.Omega.{arith}
+use Rattle.yard.proofs.Results.{slackable, remade}
 use Rattle.yard.proofs.remake.Goals as goal
 
-pub returns-then-n-gt-YARD_STEPS : goal.returns-then-n-gt-YARD_STEPS
-returns-then-n-gt-YARD_STEPS c = let a = c.args in
-    written_remade (unwatched a.counts a.xs.now a.ys.now a.cs.now a.days.now a.levels.now) c.requires.sound _ _
-    (written_none a.counts.steps (rule_at (columns a.xs.now a.ys.now a.cs.now)) (held_by a.levels.now) (at a.days.now) a.gaps.now c.if-n-gt-YARD_STEPS.true)
+pub slacks-square-requires : goal.slacks-square-requires
+slacks-square-requires c = let a = c.args in
+    slackable a.counts a.rules.xs.now a.rules.ys.now a.rules.cs.now a.days.now a.levels.now c.requires c.if-n-le-YARD_STEPS.true
 
-pub afresh-square-requires : goal.afresh-square-requires
-afresh-square-requires c = let a = c.args in record {
-  n_bound = omega (arith, c.if-n-gt-YARD_STEPS.false);
-  slackable = slackable a.counts a.xs.now a.ys.now a.cs.now a.days.now a.levels.now c.requires (omega (arith, c.if-n-gt-YARD_STEPS.false));
-}
-
-pub written-after-requires : goal.written-after-requires
-written-after-requires c = record {
-  n_bound = omega (arith, c.if-n-gt-YARD_STEPS.false);
-  n_in_bounds = omega (arith, c.if-n-gt-YARD_STEPS.false, c.requires.room.days_room);
-}
-
-pub returns : goal.returns
-returns c = let a = c.args in
-    written_remade (unwatched a.counts a.xs.now a.ys.now a.cs.now a.days.now a.levels.now) c.requires.sound _ _
-    (written_all (omega (arith, c.if-n-gt-YARD_STEPS.false)) c.afresh-square.ensures c.written-after.ensures)
+pub returns-then-n-le-YARD_STEPS : goal.returns-then-n-le-YARD_STEPS
+returns-then-n-le-YARD_STEPS c = let a = c.args in
+    remade (unwatched a.counts a.rules.xs.now a.rules.ys.now a.rules.cs.now a.days.now a.levels.now) c.requires.sound c.slacks-square.result c.close.new.square c.if-n-le-YARD_STEPS.true
+    c.slacks-square.ensures c.close.ensures c.write.ensures

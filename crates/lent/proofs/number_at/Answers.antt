@@ -1,6 +1,0 @@
--- `lent::number_at` meets its contract: a u16 fits a usize.
-use native.Mathlib.Omega.{arith}
-use Rattle.lent.proofs.number_at.Goals as goal
-
-pub overflow_cast-result : goal.overflow_cast-result
-overflow_cast-result c = omega (arith, c.type_inv.list c.args.i)

@@ -1,9 +1,0 @@
--- `worked::run` is safe and ends: what is left of the text falls.
-use Rattle.std.proofs.Common.{◌-◌, length}
-use Rattle.worked.proofs.run.Given as goal
-
-abbrev pub invariant-loop-at : goal.invariant-loop-at
-invariant-loop-at l = Unit {0}
-
-abbrev pub decreases-loop-at : goal.decreases-loop-at
-decreases-loop-at l = length l.text - l.at
