@@ -23,9 +23,10 @@ pub record GroupsRoom (most groups : ℕ) : Type 0 where
   pub few : most ≤ STEPS
   pub leaders_room : (most ≤ GROUP * groups) × (groups ≤ most)
 
--- A turn can be made: each step has its places, the gains are small enough, and all that wait are led.
+-- A turn can be made: each step has its places, there is room for its group, the gains are small enough, and all that wait are led.
 pub record Underway {N G : ℕ} (n : ℕ) (gains by : List ℕ) (w : Waiting N G) : Type 0 where
   pub steps_room : StepsRoom n N gains by
+  pub groups_room : GroupsRoom N G
   pub ready : Ready n (at gains) (at w.list) w.count
   pub led : Led gains w
 

@@ -22,10 +22,8 @@ use waiting::Waiting;
 // Lists for at most so many steps are short ones: clearing long ones takes more time than a spread over few steps.
 pub const FEW: usize = 256;
 
-// So many leaders have FEW steps, and so many have STEPS.
+// So many leaders have FEW steps.
 const FEW_GROUPS: usize = (FEW + waiting::GROUP - 1) / waiting::GROUP;
-
-const GROUPS: usize = (meaning::STEPS + waiting::GROUP - 1) / waiting::GROUP;
 
 // The steps below n with a gain, which wait; no rule is named for any of them.
 fn collect<const N: usize, const G: usize>(n: usize, gains: &[u64], by: &mut [u16]) -> Waiting<N, G>
@@ -59,6 +57,7 @@ fn relax<const N: usize, const G: usize>(
 )
     requires relaxable { Relaxable n ys.now cs.now days.now gains.old by.old waiting.old.count i }
     requires steps_in { n ≤ N }
+    requires groups_room { GroupsRoom N G }
     requires led { Led gains.old waiting.old }
     ensures relaxed { Relaxed ys.now cs.now days.now i reach
         gains.old by.old waiting.old.list waiting.old.count
@@ -193,7 +192,7 @@ pub fn spread(n: usize, held: Held<'_>, goal: usize, gains: &mut [u64], by: &mut
         (λ v. at held.entry.days.now v + at gains.old v)
         gains.old gains.new by.new }
 {
-    let mut waiting = collect::<{ meaning::STEPS }, GROUPS>(n, gains, by);
+    let mut waiting = collect::<{ meaning::STEPS }, { waiting::GROUPS }>(n, gains, by);
     settle_all(n, held, goal, gains, by, &mut waiting);
 }
 
@@ -239,7 +238,7 @@ pub fn spread_one(
         spread_in::<FEW, FEW_GROUPS>(n, held, y, gain, goal, gains, by);
         return;
     }
-    spread_in::<{ meaning::STEPS }, GROUPS>(n, held, y, gain, goal, gains, by);
+    spread_in::<{ meaning::STEPS }, { waiting::GROUPS }>(n, held, y, gain, goal, gains, by);
 }
 
 // How many hops lead back to y from x, which the gain asked for at y alone has reached: a hop is to the first step of the rule that a step came by.

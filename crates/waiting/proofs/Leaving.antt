@@ -15,6 +15,10 @@ use Rattle.waiting.specs.declared.Waiting.{Waiting}
 use Rattle.waiting.specs.Waiting.{Led}
 use Rattle.waiting.proofs.Parts.{gain_place, largest_part, regrouped_part}
 
+-- A step of largest gain among the first k of a list is one among its first n, where k is n, however k is reckoned.
+pub first_part : {g : ℕ → ℕ} (l : List ℕ) {k n x : ℕ} → k ≡ n → LargestOf g (at (take k l)) (length (take k l)) x → LargestOf g (at (take n l)) (length (take n l)) x
+first_part {g} l {k} {n} {x} same largest = subst (λ (m : ℕ). LargestOf g (at (take m l)) (length (take m l)) x) same largest
+
 -- The steps that wait stand in the first k places of the list, with their places and their leaders, and all are led.
 pub record Standing (n : ℕ) (g list places leaders : ℕ → ℕ) (k : ℕ) : Type 0 where
   pub below : (j : ℕ) → j < k → list j < n
@@ -180,8 +184,8 @@ pub regroupable :
     {N G : ℕ} (gains : List ℕ) (w : Waiting N G) (leaders : List ℕ) (x b : ℕ) → length w.list ≡ N → length leaders ≡ G → 0 < w.count → Led gains w →
     b < (w.count - 1) / GROUP + 1 → Regroupable gains (take (w.count - 1) (filled w x)) leaders b
 regroupable gains w leaders x b list_room leaders_room some led b-in = record {
-  group_fits = omega (arith, w.within, w.steps_fit);
-  leaders_room = omega (arith, taken_length, w.within, w.groups);
+  group_fits = omega (arith, w.places_fit);
+  leaders_room = omega (arith, taken_length, w.groups);
   gains_room = λ i i-in. gain_place gains (at (take (w.count - 1) (filled w x)) i) (has i (omega (arith, taken_length)) (ℕ_discrete i (at w.places x)));
 }
   where
@@ -223,7 +227,7 @@ took {N} gains w leaders₁ leaders₂ x list_room places_room leaders_room some
     end = w.count - 1
 
     top : LargestOf (at gains) (at w.leaders) (end / GROUP + 1) x
-    top = largest_part (at gains) w.leaders (end / GROUP + 1) x (omega (arith, w.within, w.groups)) found
+    top = largest_part (at gains) w.leaders (end / GROUP + 1) x (omega (arith, w.groups)) found
 
     b : ℕ
     b = top.place
@@ -249,5 +253,5 @@ pub taken_place :
     {N G : ℕ} (gains : List ℕ) (w : Waiting N G) (x : ℕ) → length w.leaders ≡ G → 0 < w.count →
     LargestOf (at gains) (at (take ((w.count - 1) / GROUP + 1) w.leaders)) (length (take ((w.count - 1) / GROUP + 1) w.leaders)) x → at w.places x < w.count
 taken_place gains w x leaders_room some found =
-    let top = largest_part (at gains) w.leaders ((w.count - 1) / GROUP + 1) x (omega (arith, w.within, w.groups)) found in
+    let top = largest_part (at gains) w.leaders ((w.count - 1) / GROUP + 1) x (omega (arith, w.groups)) found in
     omega (arith, (w.leader top.place (omega (arith, top.place_in))).0, ap (at w.places) top.there)

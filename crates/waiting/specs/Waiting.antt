@@ -1,5 +1,5 @@
 -- The steps that wait: each has a gain, and each group's leader has the largest gain in it.
-use Rattle.std.specs.Prelude.{ℕ, suc, ◌-◌, ◌/◌, ◌≤◌, ◌<◌, ◌≡◌, List}
+use Rattle.std.specs.Prelude.{ℕ, suc, ◌*◌, ◌-◌, ◌/◌, ◌≤◌, ◌<◌, ◌≡◌, List}
 use Rattle.meaning.specs.Tables.{at}
 use Rattle.waiting.specs.Places.{GROUP, Put, LargestAt}
 use Rattle.waiting.specs.declared.Waiting.{Waiting}
@@ -14,11 +14,14 @@ pub record LedBut {N G : ℕ} (y : ℕ) (gains : List ℕ) (w : Waiting N G) : T
   pub gain : (j : ℕ) → j < w.count → 0 < at gains (at w.list j)
   pub most : (j : ℕ) → j < w.count → (at w.list j ≡ y → ⊥) → at gains (at w.list j) ≤ at gains (at w.leaders (j / GROUP))
 
--- Step y has a gain and does not wait yet, and there is room for it.
+-- Step y has a gain and does not wait yet, and there is room for it; it and its place are small enough to be kept.
 pub record New {N G : ℕ} (gains : List ℕ) (w : Waiting N G) (y : ℕ) : Type 0 where
   pub step_in : y < N
+  pub step_fits : y < 65536
   pub some : 0 < at gains y
   pub room : w.count < N
+  pub groups_room : w.count < GROUP * G
+  pub place_fits : w.count < 65536
   pub fresh : (j : ℕ) → j < w.count → at w.list j ≡ y → ⊥
 
 -- Step y stands at the end of the list.

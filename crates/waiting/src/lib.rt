@@ -10,6 +10,9 @@ ghost use Rattle.waiting.specs.Places.{GROUP, Below, Placed, HasLeaders, Largest
 // A group has so many places.
 pub const GROUP: usize = 16;
 
+// How many leaders there are for STEPS steps: one for each group of their places.
+pub const GROUPS: usize = (meaning::STEPS + GROUP - 1) / GROUP;
+
 // Of these steps, which are some, one that has the largest gain.
 fn largest(steps: &[u16], gains: &[u64]) -> u16
     requires some { 0 < length steps.now }
@@ -51,16 +54,16 @@ fn regroup(b: usize, gains: &[u64], steps: &[u16], leaders: &mut [u16])
     leaders[b] = largest(&steps[from..to], gains);
 }
 
-// The steps that wait, of N steps in G groups: `count` of them, in the first places of the list.
+// The steps that wait, of the steps below N, with leaders for G groups: `count` of them, in the first places of the list.
 #[derive(Drop)]
 pub struct Waiting<const N: usize, const G: usize> {
     pub list: [u16; N],
     places: [u16; N],
     leaders: [u16; G],
     pub count: usize,
-    ghost steps_fit: { N ≤ 65536 },
-    ghost groups: { (N ≤ GROUP * G) × (G ≤ N) },
     ghost within: { count ≤ N },
+    ghost groups: { count ≤ GROUP * G },
+    ghost places_fit: { count ≤ 65536 },
     ghost below: { Below N list count },
     ghost placed: { Placed list places count },
     ghost leader: { HasLeaders list places leaders count },
@@ -72,8 +75,6 @@ impl<const N: usize, const G: usize> Waiting<N, G> {
 
     // None waits.
     pub fn new() -> Self
-        requires steps_fit { N ≤ 65536 }
-        requires groups { (N ≤ GROUP * G) × (G ≤ N) }
         ensures { result.count ≡ 0 }
     {
         Waiting {

@@ -26,7 +26,7 @@ relax-requires g c = let a = c.args in
       (
         relaxable a.n (linked a.held.nexts.now) number a.held.rules.xs.now a.held.rules.ys.now a.held.rules.cs.now a.held.days.now a.held.heads.now a.held.nexts.now l.gains l.by l.waiting.list l.waiting.count c.in-Some.i g.row.N
             c.requires.ground (inv.3.held c.in-Some.i c.in-Some.ensures.steps.1.0) room inv.4.ready,
-        (room.steps_in, inv.5),
+        (room.steps_in, (c.requires.underway.groups_room, inv.5)),
       ),
     )
 

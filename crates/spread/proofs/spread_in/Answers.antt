@@ -38,7 +38,7 @@ settle_all-requires g c = let a = c.args in
     } in
     let ready = collected_ready a.n (at begin.new.gains) (at begin.new.by) (at begin.result.list) begin.result.count
     (small a.n a.y a.gain (at a.gains.now) (at begin.new.gains) asked.small asked.none_yet begun.asked) begun.collected in
-    (search rules, (c.requires.ground, record { steps_room = room; ready = ready; led = begin.ensures.led }))
+    (search rules, (c.requires.ground, record { steps_room = room; groups_room = c.requires.groups_room; ready = ready; led = begin.ensures.led }))
 
 pub returns : goal.returns
 returns g c = let a = c.args in

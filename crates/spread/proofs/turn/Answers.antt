@@ -14,7 +14,7 @@ relax_all-requires g c = let w = c.args.waiting.now in
       (
         c.requires.ground,
         (
-          record { steps_room = pre.steps_room; ready = rw taken.one_fewer ready; led = taken.led },
+          record { steps_room = pre.steps_room; groups_room = pre.groups_room; ready = rw taken.one_fewer ready; led = taken.led },
           omega (arith, taken.there, pre.ready.listed_in taken.place taken.largest.place_in),
         ),
       ),

@@ -1,12 +1,12 @@
 -- `Waiting::take` meets its contract: a leader of largest gain has the largest of all; the last step gets its place, and the groups of the two are led anew.
 use Rattle.std.proofs.Common.{◌-◌, ◌/◌, rules, arith, inl, inr, refl}
 use Rattle.meaning.specs.Tables.{at}
-use Rattle.waiting.proofs.Leaving.{regroupable, took, taken_place}
+use Rattle.waiting.proofs.Leaving.{regroupable, took, taken_place, first_part}
 use Rattle.waiting.proofs.Waiting.take.Goals as goal
 
 pub regroup-requires : goal.regroup-requires
 regroup-requires g c = let w = c.args.self.now in
-    let place_in = taken_place c.args.gains.now w c.largest-x.result (search rules) c.requires.some c.largest-x.ensures in
+    let place_in = taken_place c.args.gains.now w c.largest-x.result (search rules) c.requires.some (first_part w.leaders (omega arith) c.largest-x.ensures) in
     regroupable c.args.gains.now w w.leaders c.largest-x.result (at w.places c.largest-x.result / 16) (search rules) (search rules) c.requires.some c.requires.led (omega arith)
 
 pub regroup-requires-then-ended-last : goal.regroup-requires-then-ended-last
@@ -16,11 +16,11 @@ regroup-requires-then-ended-last g c = let w = c.args.self.now in
 pub invariant_of-self : goal.invariant_of-self
 invariant_of-self g c = let w = c.args.self.now in
     let after = took c.args.gains.now w c.regroup.new.leaders c.regroup-then-ended-last.new.leaders c.largest-x.result (search rules) (search rules) (search rules)
-    c.requires.some c.requires.led c.largest-x.ensures c.regroup.ensures (inl (c.if-ended-last.true, c.regroup-then-ended-last.ensures)) in
+    c.requires.some c.requires.led (first_part w.leaders (omega arith) c.largest-x.ensures) c.regroup.ensures (inl (c.if-ended-last.true, c.regroup-then-ended-last.ensures)) in
     record {
-      steps_fit = w.steps_fit;
-      groups = w.groups;
       within = omega (arith, w.within);
+      groups = omega (arith, w.groups);
+      places_fit = omega (arith, w.places_fit);
       below = after.standing.below;
       placed = after.standing.placed;
       leader = after.standing.leader;
@@ -29,11 +29,11 @@ invariant_of-self g c = let w = c.args.self.now in
 pub invariant_of-self-else-ended-last : goal.invariant_of-self-else-ended-last
 invariant_of-self-else-ended-last g c = let w = c.args.self.now in
     let after = took c.args.gains.now w c.regroup.new.leaders c.regroup.new.leaders c.largest-x.result (search rules) (search rules) (search rules)
-    c.requires.some c.requires.led c.largest-x.ensures c.regroup.ensures (inr (c.if-ended-last.false, refl)) in
+    c.requires.some c.requires.led (first_part w.leaders (omega arith) c.largest-x.ensures) c.regroup.ensures (inr (c.if-ended-last.false, refl)) in
     record {
-      steps_fit = w.steps_fit;
-      groups = w.groups;
       within = omega (arith, w.within);
+      groups = omega (arith, w.groups);
+      places_fit = omega (arith, w.places_fit);
       below = after.standing.below;
       placed = after.standing.placed;
       leader = after.standing.leader;
@@ -42,7 +42,7 @@ invariant_of-self-else-ended-last g c = let w = c.args.self.now in
 pub returns-then-ended-last : goal.returns-then-ended-last
 returns-then-ended-last g c = let w = c.args.self.now in
     let after = took c.args.gains.now w c.regroup.new.leaders c.regroup-then-ended-last.new.leaders c.largest-x.result (search rules) (search rules) (search rules)
-    c.requires.some c.requires.led c.largest-x.ensures c.regroup.ensures (inl (c.if-ended-last.true, c.regroup-then-ended-last.ensures)) in
+    c.requires.some c.requires.led (first_part w.leaders (omega arith) c.largest-x.ensures) c.regroup.ensures (inl (c.if-ended-last.true, c.regroup-then-ended-last.ensures)) in
     record {
       one_fewer = refl;
       place = after.place;
@@ -55,7 +55,7 @@ returns-then-ended-last g c = let w = c.args.self.now in
 pub returns-else-ended-last : goal.returns-else-ended-last
 returns-else-ended-last g c = let w = c.args.self.now in
     let after = took c.args.gains.now w c.regroup.new.leaders c.regroup.new.leaders c.largest-x.result (search rules) (search rules) (search rules)
-    c.requires.some c.requires.led c.largest-x.ensures c.regroup.ensures (inr (c.if-ended-last.false, refl)) in
+    c.requires.some c.requires.led (first_part w.leaders (omega arith) c.largest-x.ensures) c.regroup.ensures (inr (c.if-ended-last.false, refl)) in
     record {
       one_fewer = refl;
       place = after.place;
