@@ -208,7 +208,7 @@ pub fn add(
     Ok(added)
 }
 
-// Trial: answers as Add would and writes to no table. List one gets the days where the rule fits, list two the ring on CONFLICT.
+// Trial: answers as Add would, with the counts as they are, and writes to no table. List one gets the days where the rule fits, list two the ring on CONFLICT.
 pub fn trial(
     counts: Counts,
     tables: Tables<'_>,
@@ -218,8 +218,9 @@ pub fn trial(
     x: u32,
     y: u32,
     c: i32,
-) -> Result<u32, Refusal>
-    ensures { of_lists (Tries counts) tables.entry gaps.now one.old two.old x y c (given_value result) counts one.new two.new }
+) -> Result<Added, Refusal>
+    ensures tries { of_lists (Tries counts) tables.entry gaps.now one.old two.old x y c (given_added result) counts one.new two.new }
+    ensures counts { counts_added counts result ≡ counts }
 {
     let mut heads = [0u16; meaning::STEPS];
     let mut nexts = [0u16; meaning::RULES];
@@ -231,7 +232,7 @@ pub fn trial(
         &mut heads,
         &mut nexts,
     )?;
-    inner_add::trial(
+    let moved = inner_add::trial(
         counts,
         tables.rules,
         tables.days,
@@ -243,7 +244,8 @@ pub fn trial(
         x,
         y,
         c,
-    )
+    )?;
+    Ok(Added { counts, moved })
 }
 
 // Consequences: SHORT, DAMAGED; else list one gets the watched rules that hold in every arrangement, list two those that hold in none.
@@ -373,18 +375,13 @@ fn first_places<'a>(list: &'a [u32], k: u32) -> &'a [u32]
     &list[0..e]
 }
 
-// The filled part of one of the lists after Trial over so many steps gave this answer: the days of all steps, of list one, where the rule fits; else the ring, of list
-// two; on any other refusal an empty part of list two.
-pub fn trial_part<'a>(
-    one: &'a [u32],
-    two: &'a [u32],
-    steps: u32,
-    answer: Result<u32, Refusal>,
-) -> &'a [u32]
-    ensures { TrialPart one.entry.ref_ptr two.entry.ref_ptr one.now two.now steps answer result.ref_ptr result.now }
+// The filled part of one of the lists after Trial gave this answer: the days of all steps, of list one, where the rule fits; else the ring, of list two; on any other
+// refusal an empty part of list two.
+pub fn trial_part<'a>(one: &'a [u32], two: &'a [u32], answer: Result<Added, Refusal>) -> &'a [u32]
+    ensures { TrialPart one.entry.ref_ptr two.entry.ref_ptr one.now two.now answer result.ref_ptr result.now }
 {
     match answer {
-        Ok(_) => first_places(one, steps),
+        Ok(tried) => first_places(one, tried.counts.steps),
         Err(refusal) => first_places(two, refusal.ring()),
     }
 }

@@ -258,8 +258,17 @@ pub fn dates_trial<'a>(
         levels,
         watched,
     };
-    let tried = desk::trial(*counts, tables, gaps, one, two, x, y, c);
-    told(tried, value)
+    let answer = desk::trial(*counts, tables, gaps, one, two, x, y, c);
+    match answer {
+        Ok(tried) => {
+            *value = tried.moved;
+            meaning::DONE
+        }
+        Err(refusal) => {
+            *value = refusal.ring();
+            refusal.number()
+        }
+    }
 }
 
 // Consequences: its number; `held` is how many watched rules hold in every arrangement, `excluded` how many in none, both 0 on a refusal.

@@ -4,7 +4,7 @@ use crate::line::{Ask, Rule};
 use crate::office::Office;
 use crate::words::{Call, List, Table};
 use lent::Tables;
-use meaning::{Lengths, Refusal};
+use meaning::{Added, Lengths, Refusal};
 
 // The list that Ring check is to look at: list two where the line names it, else the numbers after the rule.
 fn ring_of<'a>(ask: Ask<'a>, two: &'a [u32]) -> &'a [u32] {
@@ -24,7 +24,7 @@ impl Office {
             Call::Back => self.back(ask).map(Given::from),
             Call::Withdraw => self.withdraw(ask).map(Given::from),
             Call::Add => self.add(ask).map(Given::from),
-            Call::Trial => self.trial(ask).map(Given::from),
+            Call::Trial => self.trial(ask).map(|tried| Given::from(tried.moved)),
             Call::Consequences => self.consequences(ask).map(Given::from),
             Call::RingCheck => self.ring_check(ask).map(Given::from),
             Call::LastDay => self.last_day(ask).map(Given::from),
@@ -133,7 +133,7 @@ impl Office {
     }
 
     // Trial, with list one for the days and list two for the ring.
-    pub fn trial(&mut self, ask: Ask<'_>) -> Result<u32, Refusal> {
+    pub fn trial(&mut self, ask: Ask<'_>) -> Result<Added, Refusal> {
         let held = self.rules.lent(Table::Held, ask);
         let watched = self.watched.lent(Table::Watched, ask);
         let tables = Tables {

@@ -90,10 +90,10 @@ fn part<W: Write>(out: &mut W, ask: Ask<'_>, office: &mut Office) -> Result<()> 
     let lent = office.lent(ask);
     if ask.is_loud() {
         let same = Same::of(Start::default(), lent, &before);
-        show::told(out, Call::Trial, answer.map(Given::from), same, lent)?;
+        let told = answer.map(|tried| Given::from(tried.moved));
+        show::told(out, Call::Trial, told, same, lent)?;
     }
-    let steps = lent.counts.steps;
-    show::part(out, desk::trial_part(lent.one, lent.two, steps, answer))
+    show::part(out, desk::trial_part(lent.one, lent.two, answer))
 }
 
 // Where a line `past` begins to look: past the counts, past the line's first number of list one and past its second of list two; of the rules past its third number where that is more, and
