@@ -97,7 +97,10 @@ fn answer(
             s, tab, at, row_xs, row_ys, row_cs, held, noted, xs, ys, cs, days, levels, heads,
             nexts, kept, names, lens, hashes, name_heads, name_nexts, out,
         );
-        streams::put(output, error, &out[..part.written])?;
+        // No `?`: what is answered here is a line that must-fail/cut_told_as_whole.edit changes.
+        if let Err(stopped) = streams::put(output, error, &out[..part.written]) {
+            return Err(stopped);
+        }
         if !part.paused {
             return Ok(ending_of(part.number));
         }

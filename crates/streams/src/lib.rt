@@ -102,9 +102,11 @@ fn write_once(output: Stdout, rest: &[u8]) -> io::Result<usize>
     Err(Error::from_raw_os_error(INTERRUPTED))
 }
 
-// Writes the bytes, each write from the first byte on that the one before it did not take, until all are taken. Where a write fails it says how many were taken, fewer than all.
-pub fn put(output: Stdout, error: Stderr, bytes: &[u8]) -> Result<(), Stopped>
-    ensures { IfErr result (λ stopped. stopped.at < length bytes.now) }
+// Writes the bytes, each write from the first byte on that the one before it did not take, until all are taken: how many that is. Where a write fails it says how many were
+// taken, fewer than all.
+pub fn put(output: Stdout, error: Stderr, bytes: &[u8]) -> Result<usize, Stopped>
+    ensures ok { IfOk result (λ took. took ≡ length bytes.now) }
+    ensures err { IfErr result (λ stopped. stopped.at < length bytes.now) }
 {
     let mut at = 0;
     while at < bytes.len() {
@@ -116,5 +118,5 @@ pub fn put(output: Stdout, error: Stderr, bytes: &[u8]) -> Result<(), Stopped>
             }
         }
     }
-    Ok(())
+    Ok(at)
 }

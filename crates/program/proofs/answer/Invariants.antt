@@ -6,8 +6,8 @@ use Rattle.script_command.specs.Carrying.{in_hand, Maintained}
 use Rattle.program.specs.Handing.{Ends}
 use Rattle.program.proofs.answer.Given as goal
 
-abbrev pub invariant-loop-at : goal.invariant-loop-at
-invariant-loop-at l = ((length l.row_xs ≡ length l.initial.row_xs)
+abbrev pub invariant-loop-stopped : goal.invariant-loop-stopped
+invariant-loop-stopped l = ((length l.row_xs ≡ length l.initial.row_xs)
     × ((length l.row_ys ≡ length l.initial.row_ys)
     × ((length l.row_cs ≡ length l.initial.row_cs)
     × ((length l.xs ≡ length l.initial.xs)
@@ -27,5 +27,5 @@ invariant-loop-at l = ((length l.row_xs ≡ length l.initial.row_xs)
     × (Maintained l.noted.names (in_hand l.held l.xs l.ys l.cs l.days l.levels l.noted l.names l.lens l.out) l.heads l.nexts l.kept l.hashes l.name_heads l.name_nexts
     × ((r : ℕ) → Ends l.s l.at (in_hand l.held l.xs l.ys l.cs l.days l.levels l.noted l.names l.lens l.out) r → Ends l.s l.initial.at (in_hand l.initial.held l.initial.xs l.initial.ys l.initial.cs l.initial.days l.initial.levels l.initial.noted l.initial.names l.initial.lens l.initial.out) r))
 
-abbrev pub decreases-loop-at : goal.decreases-loop-at
-decreases-loop-at l = length l.s - l.at
+abbrev pub decreases-loop-stopped : goal.decreases-loop-stopped
+decreases-loop-stopped l = length l.s - l.at
