@@ -1,2 +1,3 @@
--- What the contracts of the words cite.
+-- What the contracts and the proofs of the words cite.
+pub mod ByLength
 pub mod Words

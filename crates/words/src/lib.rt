@@ -4,55 +4,53 @@
 ghost use Rattle.std.specs.Prelude.{◌≡◌, map};
 ghost use Rattle.words.specs.Words.{among, reserved, compares, operates};
 
-// The general reserved words of SMT-LIB 2.6.
-static GENERAL_WORDS: [&[u8]; 13] = [
-    b"!",
-    b"_",
-    b"as",
-    b"BINARY",
+// The reserved words of SMT-LIB 2.6, general ones and command names, by their length: a word is compared with those of its own length alone, or nearly so.
+// Those of up to 3 bytes.
+static WORDS_TO_3: [&[u8]; 6] = [b"!", b"_", b"as", b"let", b"par", b"pop"];
+
+// Those of 4 or 5 bytes.
+static WORDS_TO_5: [&[u8]; 5] = [b"echo", b"exit", b"push", b"match", b"reset"];
+
+// Those of 6 bytes.
+static WORDS_OF_6: [&[u8]; 5] = [b"assert", b"exists", b"forall", b"BINARY", b"STRING"];
+
+// Those of 7 to 9 bytes.
+static WORDS_TO_9: [&[u8]; 9] = [
     b"DECIMAL",
-    b"exists",
-    b"HEXADECIMAL",
-    b"forall",
-    b"let",
-    b"match",
     b"NUMERAL",
-    b"par",
-    b"STRING",
+    b"get-info",
+    b"set-info",
+    b"check-sat",
+    b"get-model",
+    b"get-proof",
+    b"get-value",
+    b"set-logic",
 ];
 
-// The command names of SMT-LIB 2.6.
-static COMMAND_WORDS: [&[u8]; 30] = [
-    b"assert",
-    b"check-sat",
-    b"check-sat-assuming",
-    b"declare-const",
-    b"declare-datatype",
-    b"declare-datatypes",
-    b"declare-fun",
-    b"declare-sort",
+// Those of 10 to 13 bytes.
+static WORDS_TO_13: [&[u8]; 8] = [
     b"define-fun",
-    b"define-fun-rec",
-    b"define-funs-rec",
-    b"define-sort",
-    b"echo",
-    b"exit",
-    b"get-assertions",
-    b"get-assignment",
-    b"get-info",
-    b"get-model",
     b"get-option",
-    b"get-proof",
-    b"get-unsat-assumptions",
-    b"get-unsat-core",
-    b"get-value",
-    b"pop",
-    b"push",
-    b"reset",
-    b"reset-assertions",
-    b"set-info",
-    b"set-logic",
     b"set-option",
+    b"HEXADECIMAL",
+    b"declare-fun",
+    b"define-sort",
+    b"declare-sort",
+    b"declare-const",
+];
+
+// Those of 14 bytes or more.
+static WORDS_FROM_14: [&[u8]; 10] = [
+    b"define-fun-rec",
+    b"get-unsat-core",
+    b"get-assignment",
+    b"get-assertions",
+    b"define-funs-rec",
+    b"declare-datatype",
+    b"reset-assertions",
+    b"declare-datatypes",
+    b"check-sat-assuming",
+    b"get-unsat-assumptions",
 ];
 
 // The operators of atoms.
@@ -72,7 +70,14 @@ fn is_one_of(word: &[u8], words: &[&[u8]]) -> bool
 pub fn is_reserved(word: &[u8]) -> bool
     ensures { result ≡ reserved word.now }
 {
-    is_one_of(word, &GENERAL_WORDS) || is_one_of(word, &COMMAND_WORDS)
+    match word.len() {
+        0..=3 => is_one_of(word, &WORDS_TO_3),
+        4..=5 => is_one_of(word, &WORDS_TO_5),
+        6 => is_one_of(word, &WORDS_OF_6),
+        7..=9 => is_one_of(word, &WORDS_TO_9),
+        10..=13 => is_one_of(word, &WORDS_TO_13),
+        _ => is_one_of(word, &WORDS_FROM_14),
+    }
 }
 
 // Whether the word is the operator of an atom.
