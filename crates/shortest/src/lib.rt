@@ -129,10 +129,13 @@ impl Search<'_, '_> {
         if limit < lent::number_at(self.depths, first) {
             return;
         }
-        let spare = self.held.rules.slack(self.held.days, i);
-        let cell = layer[first];
-        if rest < cell && spare < (cell - rest) as u64 {
-            layer[first] = spare as u32 + rest;
+        let sum = self
+            .held
+            .rules
+            .slack(self.held.days, i)
+            .saturating_add(rest as u64);
+        if sum < layer[first] as u64 {
+            layer[first] = sum as u32;
         }
     }
 
