@@ -2,7 +2,6 @@
 ghost use Rattle.std.specs.Prelude.{◌≤◌};
 
 use crate::words::{Asked, List, Word};
-use arrayvec::ArrayVec;
 use meaning::Counts;
 use std::str;
 
@@ -16,7 +15,7 @@ const NUMBERS: usize = 16;
 const LIMIT: u32 = lent::BIAS as u32;
 
 // What is read of a line so far.
-#[derive(Drop)]
+#[derive(Clone, Copy)]
 pub struct Line {
     asked: Asked,
     // The list named last.
@@ -29,8 +28,9 @@ pub struct Line {
     // Whether the amount is below 0, and whether it is counted down from no limit.
     minus: bool,
     unlimited: bool,
-    // The numbers that are kept, and the one read last.
-    numbers: ArrayVec<u32, NUMBERS>,
+    // The numbers that are kept, how many they are, and the one read last. An array, since a line is Copy.
+    kept: [u32; NUMBERS],
+    count: usize,
     last: u32,
 }
 
@@ -73,7 +73,8 @@ impl Line {
             onward: false,
             minus: false,
             unlimited: false,
-            numbers: ArrayVec::new(),
+            kept: [0; NUMBERS],
+            count: 0,
             last: 0,
         }
     }
@@ -108,13 +109,13 @@ impl Line {
             Some(Word::List(list)) => self.list = Some(list),
             Some(Word::Times) => {
                 self.times = self.last;
-                self.numbers.clear();
+                self.count = 0;
             }
             Some(Word::Onward) => self.onward = true,
             Some(Word::Places) => {
                 let places = self.last;
                 self.cut = self.list.map(|list| (list, places));
-                let _ = self.numbers.pop();
+                self.count = self.count.saturating_sub(1);
             }
             Some(Word::Unlimited) => self.unlimited = true,
         }
@@ -123,7 +124,10 @@ impl Line {
     // What the line asks with this number more: it is kept where there is a place left.
     fn hear_number(&mut self, number: u32) {
         self.last = number;
-        let _ = self.numbers.try_push(number);
+        if let Some(place) = self.kept.get_mut(self.count) {
+            *place = number;
+            self.count += 1;
+        }
     }
 
     // How often the line is carried out: once at least, and MOST times at most.
@@ -172,7 +176,7 @@ impl<'a> Ask<'a> {
 
     // The line's numbers.
     pub fn numbers(self) -> &'a [u32] {
-        self.line.numbers.as_slice()
+        &self.line.kept[..self.line.count.min(NUMBERS)]
     }
 
     // The number at place i, and 0 where the line has none.
