@@ -20,7 +20,7 @@ loop-k-preserved c =
       | then-nexts-k-lt-OFF w ↦ rw (w.heads-is, w.nexts-is) (
         w.push.auto.heads,
         w.push.auto.nexts,
-        turned_more args.n l.k args.ys.now args.nexts.now l.heads l.nexts l.invariant.3 (c.loop-k-test.true, w.if-nexts-k-lt-OFF.true) (step_in w.if-nexts-k-lt-OFF.true) _ _ w.push.ensures,
+        turned_more args.n l.k args.ys.now args.nexts.now l.heads l.nexts l.invariant.3 (c.loop-k-test.true, omega (arith, w.if-nexts-k-lt-OFF.true)) (step_in (omega (arith, w.if-nexts-k-lt-OFF.true))) _ _ w.push.ensures,
       )
       | else-nexts-k-lt-OFF w ↦ rw (w.heads-is, w.nexts-is) (
         refl,

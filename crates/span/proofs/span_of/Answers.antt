@@ -38,7 +38,7 @@ pub returns-in-Close : goal.returns-in-Close
 returns-in-Close c =
     let t = numbered c.token-t.result in
     let closed : t.kind ≡ 2 = ap code_of c.in-Close.is in (
-      c.loop-i.invariant.2 t.to (span_closed c.args.s.now c.loop-i.d c.loop-i.i t c.token-t.ensures c.loop-i.invariant.1 closed c.if-d-le1.true),
+      c.loop-i.invariant.2 t.to (span_closed c.args.s.now c.loop-i.d c.loop-i.i t c.token-t.ensures c.loop-i.invariant.1 closed (omega (arith, c.if-d-le1.true))),
       omega (arith, (token_placed c.args.s.now c.loop-i.i t c.token-t.ensures).some (λ e. omega (arith, e, closed))),
     )
 
@@ -55,7 +55,7 @@ loop-i-preserved-in-Close-2 c =
     let closed : t.kind ≡ 2 = ap code_of c.in-Close-2.is in (
       omega (arith, c.loop-i.invariant.0, p.some (λ e. omega (arith, e, closed))),
       p.within c.loop-i.invariant.1,
-      λ r w. c.loop-i.invariant.2 r (span_higher c.args.s.now c.loop-i.d c.loop-i.i t c.token-t.ensures r c.loop-i.invariant.1 closed c.if-d-le1.false w),
+      λ r w. c.loop-i.invariant.2 r (span_higher c.args.s.now c.loop-i.d c.loop-i.i t c.token-t.ensures r c.loop-i.invariant.1 closed (omega (arith, c.if-d-le1.false)) w),
     )
 
 pub loop-i-smaller : goal.loop-i-smaller

@@ -5,6 +5,7 @@ use Rattle.meaning.specs.Rules.{Rule}
 use Rattle.meaning.specs.Tables.{at}
 use Rattle.lent.specs.Decides.{Decides, decides_same}
 use Rattle.spread.specs.Ground.{rules as held_rules}
+use Rattle.inner_split.specs.Carries.{GAIN}
 use Rattle.inner_split.specs.Clauses.{Within, Broken}
 use Rattle.inner_split.proofs.Telling.{always_told, never_told}
 use Rattle.inner_split.proofs.Testing.{carries_within, carries_broken}
@@ -26,7 +27,7 @@ returns c = let a = c.args in
     let days = s.held.days.now in
     let watched : ℕ → Rule = held_rules s.watched.xs.now s.watched.ys.now s.watched.cs.now in
     let held : ℕ → Rule = held_rules s.held.rules.xs.now s.held.rules.ys.now s.held.rules.cs.now in
-    let far = c.day_at.result + 2147483648 in
+    let far = c.day_at.result + GAIN in
     record {
       in_all = judged_same _ _ s.count s.watched.xs.now a.a a.always.now c.judge_chain.new.verdicts
           (λ j says j-in of_a post.
